@@ -38,48 +38,48 @@ fn check_cases(alloc: Global, cases: &str) -> Result<(), Fail> {
 }
 
 /// An empty text is a word too, as is the name of a subcommand.
-const READ: &str = r#"check t d | Check { table: "t", properties: "d" }
-keys t d | Keys { weighting: None, depth: Weights, lines: false, table: "t", properties: "d" }
-keys --weighting shifted t d | Keys { weighting: Some(Shifted), depth: Weights, lines: false, table: "t", properties: "d" }
-keys t --weighting shifted d | Keys { weighting: Some(Shifted), depth: Weights, lines: false, table: "t", properties: "d" }
-keys --weighting=shifted d t | Keys { weighting: Some(Shifted), depth: Weights, lines: false, table: "d", properties: "t" }
-keys -- --weighting d | Keys { weighting: None, depth: Weights, lines: false, table: "--weighting", properties: "d" }
-keys --identical t d | Keys { weighting: None, depth: Identical, lines: false, table: "t", properties: "d" }
-keys t d --identical | Keys { weighting: None, depth: Identical, lines: false, table: "t", properties: "d" }
-keys t -- --identical | Keys { weighting: None, depth: Weights, lines: false, table: "t", properties: "--identical" }
-keys --lines t d | Keys { weighting: None, depth: Weights, lines: true, table: "t", properties: "d" }
-keys t --lines d | Keys { weighting: None, depth: Weights, lines: true, table: "t", properties: "d" }
-keys t d --lines --identical --weighting shifted | Keys { weighting: Some(Shifted), depth: Identical, lines: true, table: "t", properties: "d" }
-keys t -- --lines | Keys { weighting: None, depth: Weights, lines: false, table: "t", properties: "--lines" }
-keys help d | Keys { weighting: None, depth: Weights, lines: false, table: "help", properties: "d" }
-sort t d | Sort { weighting: None, depth: Weights, table: "t", properties: "d" }
-sort t d --weighting shifted | Sort { weighting: Some(Shifted), depth: Weights, table: "t", properties: "d" }
-sort --weighting=non-ignorable t d | Sort { weighting: Some(NonIgnorable), depth: Weights, table: "t", properties: "d" }
-sort --identical --weighting shifted t d | Sort { weighting: Some(Shifted), depth: Identical, table: "t", properties: "d" }
-compare t d a b | Compare { weighting: None, depth: Weights, table: "t", properties: "d", left: "a", right: "b" }
-compare --weighting shifted t d b a | Compare { weighting: Some(Shifted), depth: Weights, table: "t", properties: "d", left: "b", right: "a" }
-compare t d a b --weighting=non-ignorable | Compare { weighting: Some(NonIgnorable), depth: Weights, table: "t", properties: "d", left: "a", right: "b" }
-compare t d a --identical b | Compare { weighting: None, depth: Identical, table: "t", properties: "d", left: "a", right: "b" }
-compare t d  a | Compare { weighting: None, depth: Weights, table: "t", properties: "d", left: "", right: "a" }
-compare t d help help | Compare { weighting: None, depth: Weights, table: "t", properties: "d", left: "help", right: "help" }
-compare t d sort keys | Compare { weighting: None, depth: Weights, table: "t", properties: "d", left: "sort", right: "keys" }
-tailor t d r c | Tailor { table: "t", properties: "d", rules: "r", certificate: "c" }
-tailor d c t r | Tailor { table: "d", properties: "c", rules: "t", certificate: "r" }
-tailor t d -- r --identical | Tailor { table: "t", properties: "d", rules: "r", certificate: "--identical" }
-audit b d r t c | Audit { base: "b", properties: "d", rules: "r", tailored: "t", certificate: "c" }
-affected d r | Affected { changes: false, properties: "d", rules: "r" }
-affected r d | Affected { changes: false, properties: "r", rules: "d" }
-affected help affected | Affected { changes: false, properties: "help", rules: "affected" }
-affected -- --lines --version | Affected { changes: false, properties: "--lines", rules: "--version" }
-affected --changes d h | Affected { changes: true, properties: "d", rules: "h" }
-affected d h --changes | Affected { changes: true, properties: "d", rules: "h" }
-affected d -- --changes | Affected { changes: false, properties: "d", rules: "--changes" }
-changes o d n e c | Changes { old: "o", old_data: "d", new: "n", new_data: "e", certificate: "c" }
-changes c e -- n d --changes | Changes { old: "c", old_data: "e", new: "n", new_data: "d", certificate: "--changes" }
-audit-changes o d n e h c | AuditChanges { old: "o", old_data: "d", new: "n", new_data: "e", changes: "h", certificate: "c" }
-rekey c | Rekey { weighting: None, depth: Weights, certificate: "c" }
-rekey --identical c --weighting shifted | Rekey { weighting: Some(Shifted), depth: Identical, certificate: "c" }
-rekey --weighting=non-ignorable -- --identical | Rekey { weighting: Some(NonIgnorable), depth: Weights, certificate: "--identical" }"#;
+const READ: &str = r#"check t d | Check(CheckWords { table: "t", properties: "d" })
+keys t d | Keys(KeysWords { weighting: None, depth: Weights, lines: false, table: "t", properties: "d" })
+keys --weighting shifted t d | Keys(KeysWords { weighting: Some(Shifted), depth: Weights, lines: false, table: "t", properties: "d" })
+keys t --weighting shifted d | Keys(KeysWords { weighting: Some(Shifted), depth: Weights, lines: false, table: "t", properties: "d" })
+keys --weighting=shifted d t | Keys(KeysWords { weighting: Some(Shifted), depth: Weights, lines: false, table: "d", properties: "t" })
+keys -- --weighting d | Keys(KeysWords { weighting: None, depth: Weights, lines: false, table: "--weighting", properties: "d" })
+keys --identical t d | Keys(KeysWords { weighting: None, depth: Identical, lines: false, table: "t", properties: "d" })
+keys t d --identical | Keys(KeysWords { weighting: None, depth: Identical, lines: false, table: "t", properties: "d" })
+keys t -- --identical | Keys(KeysWords { weighting: None, depth: Weights, lines: false, table: "t", properties: "--identical" })
+keys --lines t d | Keys(KeysWords { weighting: None, depth: Weights, lines: true, table: "t", properties: "d" })
+keys t --lines d | Keys(KeysWords { weighting: None, depth: Weights, lines: true, table: "t", properties: "d" })
+keys t d --lines --identical --weighting shifted | Keys(KeysWords { weighting: Some(Shifted), depth: Identical, lines: true, table: "t", properties: "d" })
+keys t -- --lines | Keys(KeysWords { weighting: None, depth: Weights, lines: false, table: "t", properties: "--lines" })
+keys help d | Keys(KeysWords { weighting: None, depth: Weights, lines: false, table: "help", properties: "d" })
+sort t d | Sort(SortWords { weighting: None, depth: Weights, table: "t", properties: "d" })
+sort t d --weighting shifted | Sort(SortWords { weighting: Some(Shifted), depth: Weights, table: "t", properties: "d" })
+sort --weighting=non-ignorable t d | Sort(SortWords { weighting: Some(NonIgnorable), depth: Weights, table: "t", properties: "d" })
+sort --identical --weighting shifted t d | Sort(SortWords { weighting: Some(Shifted), depth: Identical, table: "t", properties: "d" })
+compare t d a b | Compare(CompareWords { weighting: None, depth: Weights, table: "t", properties: "d", left: "a", right: "b" })
+compare --weighting shifted t d b a | Compare(CompareWords { weighting: Some(Shifted), depth: Weights, table: "t", properties: "d", left: "b", right: "a" })
+compare t d a b --weighting=non-ignorable | Compare(CompareWords { weighting: Some(NonIgnorable), depth: Weights, table: "t", properties: "d", left: "a", right: "b" })
+compare t d a --identical b | Compare(CompareWords { weighting: None, depth: Identical, table: "t", properties: "d", left: "a", right: "b" })
+compare t d  a | Compare(CompareWords { weighting: None, depth: Weights, table: "t", properties: "d", left: "", right: "a" })
+compare t d help help | Compare(CompareWords { weighting: None, depth: Weights, table: "t", properties: "d", left: "help", right: "help" })
+compare t d sort keys | Compare(CompareWords { weighting: None, depth: Weights, table: "t", properties: "d", left: "sort", right: "keys" })
+tailor t d r c | Tailor(TailorWords { table: "t", properties: "d", rules: "r", certificate: "c" })
+tailor d c t r | Tailor(TailorWords { table: "d", properties: "c", rules: "t", certificate: "r" })
+tailor t d -- r --identical | Tailor(TailorWords { table: "t", properties: "d", rules: "r", certificate: "--identical" })
+audit b d r t c | Audit(AuditWords { base: "b", properties: "d", rules: "r", tailored: "t", certificate: "c" })
+affected d r | Affected(AffectedWords { changes: false, properties: "d", rules: "r" })
+affected r d | Affected(AffectedWords { changes: false, properties: "r", rules: "d" })
+affected help affected | Affected(AffectedWords { changes: false, properties: "help", rules: "affected" })
+affected -- --lines --version | Affected(AffectedWords { changes: false, properties: "--lines", rules: "--version" })
+affected --changes d h | Affected(AffectedWords { changes: true, properties: "d", rules: "h" })
+affected d h --changes | Affected(AffectedWords { changes: true, properties: "d", rules: "h" })
+affected d -- --changes | Affected(AffectedWords { changes: false, properties: "d", rules: "--changes" })
+changes o d n e c | Changes(ChangesWords { old: "o", old_data: "d", new: "n", new_data: "e", certificate: "c" })
+changes c e -- n d --changes | Changes(ChangesWords { old: "c", old_data: "e", new: "n", new_data: "d", certificate: "--changes" })
+audit-changes o d n e h c | AuditChanges(AuditChangesWords { old: "o", old_data: "d", new: "n", new_data: "e", changes: "h", certificate: "c" })
+rekey c | Rekey(RekeyWords { weighting: None, depth: Weights, certificate: "c" })
+rekey --identical c --weighting shifted | Rekey(RekeyWords { weighting: Some(Shifted), depth: Identical, certificate: "c" })
+rekey --weighting=non-ignorable -- --identical | Rekey(RekeyWords { weighting: Some(NonIgnorable), depth: Weights, certificate: "--identical" })"#;
 
 #[test]
 fn words_that_are_read(rt: HostRuntime) -> Result<(), Fail> {
@@ -94,7 +94,7 @@ rekey --weighting x c | Weighting
 keys --weighting= t d | Weighting
 sort --weighting x no-such-table no-such-data | Weighting
 keys --weighting x t | MissingRequiredArgument
-keys --weighting shifted t d | Keys { weighting: Some(Shifted), depth: Weights, lines: false, table: "t", properties: "d" }"#;
+keys --weighting shifted t d | Keys(KeysWords { weighting: Some(Shifted), depth: Weights, lines: false, table: "t", properties: "d" })"#;
 
 #[test]
 fn weightings_that_are_none(rt: HostRuntime) -> Result<(), Fail> {

@@ -15,6 +15,16 @@ use Rattle.uca_change_files.specs.ChangeTexts.{changes_text}
 use Rattle.uca_editions.specs.declared.found.FoundChanges.{FoundChanges}
 use Rattle.uca_words.specs.declared.Words.{Words as WordsType}
 use Rattle.uca_words.specs.declared.Words.TheVariants.{Check, Keys, Sort, Compare, Tailor, Audit, Affected, Changes, AuditChanges, Rekey}
+use Rattle.uca_words.specs.declared.CheckWords.{CheckWords}
+use Rattle.uca_words.specs.declared.KeysWords.{KeysWords}
+use Rattle.uca_words.specs.declared.SortWords.{SortWords}
+use Rattle.uca_words.specs.declared.CompareWords.{CompareWords}
+use Rattle.uca_words.specs.declared.TailorWords.{TailorWords}
+use Rattle.uca_words.specs.declared.AuditWords.{AuditWords}
+use Rattle.uca_words.specs.declared.AffectedWords.{AffectedWords}
+use Rattle.uca_words.specs.declared.ChangesWords.{ChangesWords}
+use Rattle.uca_words.specs.declared.AuditChangesWords.{AuditChangesWords}
+use Rattle.uca_words.specs.declared.RekeyWords.{RekeyWords}
 use Rattle.uca_words.specs.Words.{AreRead, IsFaultOf}
 use Rattle.uca_words.specs.declared.WordFault.{WordFault}
 use Rattle.uca_run_parts.specs.declared.faults.Role.{Role}
@@ -22,7 +32,7 @@ use Rattle.uca_run_parts.specs.declared.faults.Role.TheVariants as roles
 use Rattle.uca_run_parts.specs.declared.faults.RunFault.{RunFault}
 use Rattle.uca_run_parts.specs.declared.faults.RunFault.TheVariants.{CertificateWrite, Memory, Open, SameAs, Words, Write}
 use Rattle.uca_run_parts.specs.CheckRun.{Checks}
-use Rattle.uca_runs.specs.CompareRun.{Compares, Comparing, comparing}
+use Rattle.uca_runs.specs.CompareRun.{Compares, comparing}
 use Rattle.uca_runs.specs.KeysRun.{PrintsKeys, PrintsKeyedLines}
 use Rattle.uca_run_parts.specs.AffectedRun.{PrintsAffected}
 use Rattle.uca_sort_runs.specs.SortRun.{SortsLines}
@@ -83,10 +93,10 @@ pub record Ran {A : Type 0} (result_of : Result A RunFault → Result ℕ RunFau
   pub status : result ≡ result_of run
 
 -- what `check` does with the names of its files
-abbrev pub DoesCheck : {O F M : Type 0} → FileSystem O F M → O → O → List ℕ → List ℕ → SinkState → SinkState
+abbrev pub DoesCheck : {O F M : Type 0} → FileSystem O F M → O → O → CheckWords → SinkState → SinkState
     → Result ℕ RunFault → Type 0
-DoesCheck files old new table properties out out_new result =
-    OpensAndRuns files old new (table_and_data table properties) (out_new ≡ out)
+DoesCheck files old new words out out_new result =
+    OpensAndRuns files old new (table_and_data words.table.now words.properties.now) (out_new ≡ out)
     (λ olds news. Ran check_result (Checks olds news out out_new) result) result
 
 -- what `keys` prints: with `--lines` the key of each line and the line, else the key alone
@@ -98,27 +108,28 @@ Prints false weighting depth olds news input input_new out out_new run =
     PrintsKeys weighting depth olds news input input_new out out_new run
 
 -- what `keys` does
-abbrev pub DoesKeys : {O F M : Type 0} → FileSystem O F M → O → O → Option Weighting → Depth → Bool → List ℕ → List ℕ
-    → Streams → Streams → Result ℕ RunFault → Type 0
-DoesKeys files old new weighting depth lines table properties start end result =
-    OpensAndRuns files old new (table_and_data table properties) (end ≡ start)
+abbrev pub DoesKeys : {O F M : Type 0} → FileSystem O F M → O → O → KeysWords → Streams → Streams
+    → Result ℕ RunFault → Type 0
+DoesKeys files old new words start end result =
+    OpensAndRuns files old new (table_and_data words.table.now words.properties.now) (end ≡ start)
     (λ olds news. Ran (done_result {A = Unit {0}})
-    (Prints lines weighting depth olds news start.input end.input start.out end.out) result) result
+    (Prints words.lines words.weighting words.depth olds news start.input end.input start.out end.out) result) result
 
 -- what `sort` does
-abbrev pub DoesSort : {O F M : Type 0} → FileSystem O F M → O → O → Option Weighting → Depth → List ℕ → List ℕ
-    → Streams → Streams → Result ℕ RunFault → Type 0
-DoesSort files old new weighting depth table properties start end result =
-    OpensAndRuns files old new (table_and_data table properties) (end ≡ start)
+abbrev pub DoesSort : {O F M : Type 0} → FileSystem O F M → O → O → SortWords → Streams → Streams
+    → Result ℕ RunFault → Type 0
+DoesSort files old new words start end result =
+    OpensAndRuns files old new (table_and_data words.table.now words.properties.now) (end ≡ start)
     (λ olds news. Ran (done_result {A = Unit {0}})
-    (SortsLines weighting depth olds news start.input end.input start.out end.out) result) result
+    (SortsLines words.weighting words.depth olds news start.input end.input start.out end.out) result) result
 
 -- what `compare` does
-abbrev pub DoesCompare : {O F M : Type 0} → FileSystem O F M → O → O → Comparing → List ℕ → List ℕ
-    → SinkState → SinkState → Result ℕ RunFault → Type 0
-DoesCompare files old new asked table properties out out_new result =
-    OpensAndRuns files old new (table_and_data table properties) (out_new ≡ out)
-    (λ olds news. Ran (done_result {A = Unit {0}}) (Compares asked olds news out out_new) result) result
+abbrev pub DoesCompare : {O F M : Type 0} → FileSystem O F M → O → O → CompareWords → SinkState → SinkState
+    → Result ℕ RunFault → Type 0
+DoesCompare files old new words out out_new result =
+    OpensAndRuns files old new (table_and_data words.table.now words.properties.now) (out_new ≡ out)
+    (λ olds news. Ran (done_result {A = Unit {0}})
+    (Compares (comparing words.weighting words.depth words.left.now words.right.now) olds news out out_new) result) result
 
 -- ---- Tailor and changes
 
@@ -200,35 +211,44 @@ MakesNamed {O = O} files old new named certificate Runs made_of out out_new resu
     ⊎ ((looked : O) × AreOthers files old looked named certificate
     × MakesOpened files looked new named certificate Runs made_of out out_new result)
 
+-- the files that `tailor` reads
+abbrev pub files_of_tailor : TailorWords → List NamedFile
+files_of_tailor words = tailor_files words.table.now words.properties.now words.rules.now
+
 -- what `tailor` does
-abbrev pub DoesTailor : {O F M : Type 0} → FileSystem O F M → O → O → List ℕ → List ℕ → List ℕ → List ℕ
-    → SinkState → SinkState → Result ℕ RunFault → Type 0
-DoesTailor files old new table properties rules certificate out out_new result =
-    MakesNamed files old new (tailor_files table properties rules) certificate TailorsFiles made_table out out_new result
+abbrev pub DoesTailor : {O F M : Type 0} → FileSystem O F M → O → O → TailorWords → SinkState → SinkState
+    → Result ℕ RunFault → Type 0
+DoesTailor files old new words out out_new result =
+    MakesNamed files old new (files_of_tailor words) words.certificate.now TailorsFiles made_table out out_new result
 
 -- a run of changes, with what it finds in the memory of the command
 abbrev pub Finds : List SourceState → List SourceState → Result (FoundChanges Global) RunFault → Type 0
 Finds olds news run = FindsChanges olds news run
 
--- what `changes` does with the four files that it reads
-abbrev pub DoesChanges : {O F M : Type 0} → FileSystem O F M → O → O → List NamedFile → List ℕ
-    → SinkState → SinkState → Result ℕ RunFault → Type 0
-DoesChanges files old new named certificate out out_new result =
-    MakesNamed files old new named certificate Finds made_changes out out_new result
+-- what `changes` does
+abbrev pub DoesChanges : {O F M : Type 0} → FileSystem O F M → O → O → ChangesWords → SinkState → SinkState
+    → Result ℕ RunFault → Type 0
+DoesChanges files old new words out out_new result =
+    MakesNamed files old new (edition_files words.old.now words.old_data.now words.new.now words.new_data.now)
+    words.certificate.now Finds made_changes out out_new result
 
 -- ---- Audits
 
 -- what `audit` does
-abbrev pub DoesAudit : {O F M : Type 0} → FileSystem O F M → O → O → List ℕ → List ℕ → List ℕ → List ℕ → List ℕ
-    → SinkState → SinkState → Result ℕ RunFault → Type 0
-DoesAudit files old new base properties rules tailored certificate out out_new result =
-    OpensAndRuns files old new (audit_files base properties rules tailored certificate) (out_new ≡ out)
+abbrev pub DoesAudit : {O F M : Type 0} → FileSystem O F M → O → O → AuditWords → SinkState → SinkState
+    → Result ℕ RunFault → Type 0
+DoesAudit files old new words out out_new result =
+    OpensAndRuns files old new
+    (audit_files words.base.now words.properties.now words.rules.now words.tailored.now words.certificate.now) (out_new ≡ out)
     (λ olds news. Ran check_result (Audits olds news out out_new) result) result
 
--- what `audit-changes` does with its six files
-abbrev pub DoesAuditChanges : {O F M : Type 0} → FileSystem O F M → O → O → List NamedFile
-    → SinkState → SinkState → Result ℕ RunFault → Type 0
-DoesAuditChanges files old new named out out_new result = OpensAndRuns files old new named (out_new ≡ out)
+-- what `audit-changes` does
+abbrev pub DoesAuditChanges : {O F M : Type 0} → FileSystem O F M → O → O → AuditChangesWords → SinkState → SinkState
+    → Result ℕ RunFault → Type 0
+DoesAuditChanges files old new words out out_new result =
+    OpensAndRuns files old new
+    (change_files words.old.now words.old_data.now words.new.now words.new_data.now words.changes.now words.certificate.now)
+    (out_new ≡ out)
     (λ olds news. Ran check_result (AuditsChanges olds news out out_new) result) result
 
 -- ---- Affected
@@ -241,57 +261,44 @@ PrintsLines true olds news input input_new out out_new run =
 PrintsLines false olds news input input_new out out_new run = PrintsAffected olds news input input_new out out_new run
 
 -- what `affected` does
-abbrev pub DoesAffected : {O F M : Type 0} → FileSystem O F M → O → O → Bool → List ℕ → List ℕ → Streams → Streams
+abbrev pub DoesAffected : {O F M : Type 0} → FileSystem O F M → O → O → AffectedWords → Streams → Streams
     → Result ℕ RunFault → Type 0
-DoesAffected files old new changes properties rules start end result =
-    OpensAndRuns files old new (affected_files changes properties rules) (end ≡ start)
+DoesAffected files old new words start end result =
+    OpensAndRuns files old new (affected_files words.changes words.properties.now words.rules.now) (end ≡ start)
     (λ olds news. Ran (done_result {A = Unit {0}})
-    (PrintsLines changes olds news start.input end.input start.out end.out) result) result
+    (PrintsLines words.changes olds news start.input end.input start.out end.out) result) result
 
 -- ---- Rekey
 
 -- what `rekey` does: the weighting is the one that is asked for, or else shifted
-abbrev pub DoesRekey : {O F M : Type 0} → FileSystem O F M → O → O → Option Weighting → Depth → List ℕ
-    → Streams → Streams → Result ℕ RunFault → Type 0
-DoesRekey files old new weighting depth certificate start end result =
-    OpensAndRuns files old new (file_for roles.Certificate certificate ∷ []) (end ≡ start)
+abbrev pub DoesRekey : {O F M : Type 0} → FileSystem O F M → O → O → RekeyWords → Streams → Streams
+    → Result ℕ RunFault → Type 0
+DoesRekey files old new words start end result =
+    OpensAndRuns files old new (file_for roles.Certificate words.certificate.now ∷ []) (end ≡ start)
     (λ olds news. Ran (done_result {A = Unit {0}})
-    (RekeysLines (unwrap_or weighting Shifted) depth olds news start.input end.input start.out end.out) result) result
+    (RekeysLines (unwrap_or words.weighting Shifted) words.depth olds news start.input end.input start.out end.out) result) result
 
 -- ---- The command
 
 -- what a subcommand does with its arguments, given what it reads and writes before and after
 abbrev pub DoesWords : {O F M : Type 0} → FileSystem O F M → O → O → WordsType → Streams → Streams
     → Result ℕ RunFault → Type 0
-DoesWords files old new (Check table properties) start end result =
-    (end.input ≡ start.input) × DoesCheck files old new table.now properties.now start.out end.out result
-DoesWords files old new (Keys weighting depth lines table properties) start end result =
-    DoesKeys files old new weighting depth lines table.now properties.now start end result
-DoesWords files old new (Sort weighting depth table properties) start end result =
-    DoesSort files old new weighting depth table.now properties.now start end result
-DoesWords files old new (Compare weighting depth table properties left right) start end result =
-    (end.input ≡ start.input)
-    × DoesCompare files old new (comparing weighting depth left.now right.now) table.now properties.now
-    start.out end.out result
-DoesWords files old new (Tailor table properties rules certificate) start end result =
-    (end.input ≡ start.input)
-    × DoesTailor files old new table.now properties.now rules.now certificate.now start.out end.out result
-DoesWords files old new (Audit base properties rules tailored certificate) start end result =
-    (end.input ≡ start.input)
-    × DoesAudit files old new base.now properties.now rules.now tailored.now certificate.now start.out end.out result
-DoesWords files old new (Affected changes properties rules) start end result =
-    DoesAffected files old new changes properties.now rules.now start end result
-DoesWords files old new (Changes before before_data after after_data certificate) start end result =
-    (end.input ≡ start.input)
-    × DoesChanges files old new (edition_files before.now before_data.now after.now after_data.now) certificate.now
-    start.out end.out result
-DoesWords files old new (AuditChanges before before_data after after_data changes certificate) start end result =
-    (end.input ≡ start.input)
-    × DoesAuditChanges files old new
-    (change_files before.now before_data.now after.now after_data.now changes.now certificate.now)
-    start.out end.out result
-DoesWords files old new (Rekey weighting depth certificate) start end result =
-    DoesRekey files old new weighting depth certificate.now start end result
+DoesWords files old new (Check words) start end result =
+    (end.input ≡ start.input) × DoesCheck files old new words start.out end.out result
+DoesWords files old new (Keys words) start end result = DoesKeys files old new words start end result
+DoesWords files old new (Sort words) start end result = DoesSort files old new words start end result
+DoesWords files old new (Compare words) start end result =
+    (end.input ≡ start.input) × DoesCompare files old new words start.out end.out result
+DoesWords files old new (Tailor words) start end result =
+    (end.input ≡ start.input) × DoesTailor files old new words start.out end.out result
+DoesWords files old new (Audit words) start end result =
+    (end.input ≡ start.input) × DoesAudit files old new words start.out end.out result
+DoesWords files old new (Affected words) start end result = DoesAffected files old new words start end result
+DoesWords files old new (Changes words) start end result =
+    (end.input ≡ start.input) × DoesChanges files old new words start.out end.out result
+DoesWords files old new (AuditChanges words) start end result =
+    (end.input ≡ start.input) × DoesAuditChanges files old new words start.out end.out result
+DoesWords files old new (Rekey words) start end result = DoesRekey files old new words start end result
 
 -- how the command ends after a run: with its status, or with what its error reports
 abbrev pub EndsWith : Result ℕ RunFault → ℕ → SinkState → SinkState → SinkState → SinkState → Type 0

@@ -2,7 +2,7 @@
 
 ghost use Rattle.uca_cli.specs.Command.{DoesAuditChanges, DoesChanges, DoesRekey, Finds, KeepsAndPrints, KeepsMade, MakesOpened, made_changes, streams};
 ghost use Rattle.uca_named_files.specs.NamedFiles.{file_system};
-ghost use Rattle.uca_named_files.specs.EditionNames.{change_files_of, edition_files_of};
+ghost use Rattle.uca_named_files.specs.EditionNames.{edition_files_of};
 
 use crate::printing::print_changes;
 use crate::statuses::{checked, done};
@@ -15,23 +15,29 @@ use uca_named_files::keeping::{find_certificate_of_editions, keep_certificate};
 use uca_named_files::opening::{EditionNames, open_change_files, open_editions, open_one};
 use uca_rekey::run_rekey;
 use uca_run_parts::faults::{Role, RunFault};
-use uca_weights::{Depth, Sink, Source, Weighting};
+use uca_weights::{Sink, Source, Weighting};
+use uca_words::{AuditChangesWords, ChangesWords, RekeyWords};
 
 /// `changes`.
 pub(crate) fn changes<O: Opens, W: Write>(
     alloc: Global,
     opener: &mut O,
-    names: &EditionNames,
-    certificate: &str,
+    words: &ChangesWords,
     out: &mut Sink<W>,
 ) -> Result<u8, RunFault>
     ensures { DoesChanges (file_system O.open_gives O.same_gives O.create_gives O.keep_gives O.remove_gives O.File.remaining O.Made.contents)
-        opener.old opener.new (edition_files_of names.now) certificate.now out.old out.new result }
+        opener.old opener.new words.now out.old out.new result }
 {
-    if let Err(role) = find_certificate_of_editions(opener, names, certificate) {
-        return Err(RunFault::SameAs(role));
+    let names = EditionNames {
+        old: words.old,
+        old_data: words.old_data,
+        new: words.new,
+        new_data: words.new_data,
+    };
+    match find_certificate_of_editions(opener, &names, words.certificate) {
+        Ok(()) => change_files(alloc, opener, &names, words.certificate, out),
+        Err(role) => Err(RunFault::SameAs(role)),
     }
-    change_files(alloc, opener, names, certificate, out)
 }
 
 // The same, where the certificate is none of the files that are read.
@@ -45,20 +51,21 @@ fn change_files<O: Opens, W: Write>(
     ensures { MakesOpened (file_system O.open_gives O.same_gives O.create_gives O.keep_gives O.remove_gives O.File.remaining O.Made.contents)
         opener.old opener.new (edition_files_of names.now) certificate.now Finds made_changes out.old out.new result }
 {
-    let mut files = match open_editions(opener, names) {
-        Ok(files) => files,
-        Err(role) => return Err(RunFault::Open(role)),
-    };
-    let run = run_changes(
-        alloc,
-        &mut files.old,
-        &mut files.old_data,
-        &mut files.new,
-        &mut files.new_data,
-    );
-    let kept = keep_run(opener, run, certificate, out);
-    drop(files);
-    kept
+    match open_editions(opener, names) {
+        Ok(mut files) => {
+            let run = run_changes(
+                alloc,
+                &mut files.old,
+                &mut files.old_data,
+                &mut files.new,
+                &mut files.new_data,
+            );
+            let kept = keep_run(opener, run, certificate, out);
+            drop(files);
+            kept
+        }
+        Err(role) => Err(RunFault::Open(role)),
+    }
 }
 
 // Keeps what a run of changes returned. An error of the run is returned, and then nothing is made.
@@ -99,50 +106,54 @@ fn keep_found<O: Opens, W: Write>(
 pub(crate) fn audit_changes<O: Opens, W: Write>(
     alloc: Global,
     opener: &mut O,
-    names: &EditionNames,
-    changes: &str,
-    certificate: &str,
+    words: &AuditChangesWords,
     out: &mut Sink<W>,
 ) -> Result<u8, RunFault>
     ensures { DoesAuditChanges (file_system O.open_gives O.same_gives O.create_gives O.keep_gives O.remove_gives O.File.remaining O.Made.contents)
-        opener.old opener.new (change_files_of names.now changes.now certificate.now) out.old out.new result }
+        opener.old opener.new words.now out.old out.new result }
 {
-    let mut files = match open_change_files(opener, names, changes, certificate) {
-        Ok(files) => files,
-        Err(role) => return Err(RunFault::Open(role)),
+    let names = EditionNames {
+        old: words.old,
+        old_data: words.old_data,
+        new: words.new,
+        new_data: words.new_data,
     };
-    let run = run_audit_changes(
-        alloc,
-        &mut files.editions.old,
-        &mut files.editions.old_data,
-        &mut files.editions.new,
-        &mut files.editions.new_data,
-        &mut files.changes,
-        &mut files.certificate,
-        out,
-    );
-    drop(files);
-    checked(run)
+    match open_change_files(opener, &names, words.changes, words.certificate) {
+        Ok(mut files) => {
+            let run = run_audit_changes(
+                alloc,
+                &mut files.editions.old,
+                &mut files.editions.old_data,
+                &mut files.editions.new,
+                &mut files.editions.new_data,
+                &mut files.changes,
+                &mut files.certificate,
+                out,
+            );
+            drop(files);
+            checked(run)
+        }
+        Err(role) => Err(RunFault::Open(role)),
+    }
 }
 
 /// `rekey`.
 pub(crate) fn rekey<O: Opens, I: Read, W: Write>(
     alloc: Global,
     opener: &mut O,
-    weighting: Option<Weighting>,
-    depth: Depth,
-    certificate: &str,
+    words: &RekeyWords,
     input: &mut Source<I>,
     out: &mut Sink<W>,
 ) -> Result<u8, RunFault>
     ensures { DoesRekey (file_system O.open_gives O.same_gives O.create_gives O.keep_gives O.remove_gives O.File.remaining O.Made.contents)
-        opener.old opener.new weighting depth certificate.now
+        opener.old opener.new words.now
         (streams input.old out.old) (streams input.new out.new) result }
 {
-    let mut certificate = match open_one(opener, Role::Certificate, certificate) {
-        Ok(file) => file,
-        Err(role) => return Err(RunFault::Open(role)),
-    };
-    let weighting = weighting.unwrap_or(Weighting::Shifted);
-    done(run_rekey(alloc, &mut certificate, input, out, weighting, depth))
+    match open_one(opener, Role::Certificate, words.certificate) {
+        Ok(mut certificate) => {
+            let weighting = words.weighting.unwrap_or(Weighting::Shifted);
+            done(run_rekey(alloc, &mut certificate, input, out, weighting, words.depth))
+        }
+        Err(role) => Err(RunFault::Open(role)),
+    }
 }

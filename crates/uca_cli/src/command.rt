@@ -2,10 +2,9 @@
 
 ghost use Rattle.std.specs.Prelude.{◌∷◌, [], ⊤, ℕ, Bool, List, Result, ◌≡◌};
 ghost use Rattle.clap.specs.Walk.{texts};
-ghost use Rattle.uca_cli.specs.Command.{DoesAffected, DoesAudit, DoesCheck, DoesCommand, DoesCompare, DoesKeys, DoesSort, DoesTailor, DoesWords, KeepsAndPrints, KeepsMade, MakesOpened, Prints, PrintsLines, made_table, streams};
-ghost use Rattle.uca_named_files.specs.NamedFiles.{affected_role, file_system, tailor_files};
+ghost use Rattle.uca_cli.specs.Command.{DoesAffected, DoesAudit, DoesCheck, DoesCommand, DoesCompare, DoesKeys, DoesSort, DoesTailor, DoesWords, EndsWith, KeepsAndPrints, KeepsMade, MakesOpened, Prints, PrintsLines, files_of_tailor, made_table, streams};
+ghost use Rattle.uca_named_files.specs.NamedFiles.{affected_role, file_system};
 ghost use Rattle.uca_tailor_runs.specs.TailorRun.{TailorsFiles};
-ghost use Rattle.uca_runs.specs.CompareRun.{comparing};
 
 use crate::change_commands::{audit_changes, changes, rekey};
 use crate::printing::print_table;
@@ -16,7 +15,7 @@ use uca_certificates::Certificate;
 use uca_change_runs::run_affected_by_changes;
 use uca_named_files::Opens;
 use uca_named_files::keeping::{find_certificate, keep_certificate};
-use uca_named_files::opening::{EditionNames, open_audit_files, open_files, open_three, open_two};
+use uca_named_files::opening::{open_audit_files, open_files, open_three, open_two};
 use uca_reports::report;
 use uca_run_parts::faults::{Role, RunFault};
 use uca_run_parts::{run_affected, run_check};
@@ -24,77 +23,82 @@ use uca_runs::{run_compare, run_keyed_lines, run_keys};
 use uca_sort_runs::run_sort;
 use uca_tailor_runs::{run_audit, run_tailor};
 use uca_values::Table;
-use uca_weights::{Depth, Sink, Source, Weighting};
-use uca_words::{Words, read_words};
+use uca_weights::{Sink, Source};
+use uca_words::{
+    AffectedWords, AuditWords, CheckWords, CompareWords, KeysWords, SortWords, TailorWords, Words,
+    read_words,
+};
 
 // `check`.
 fn check<O: Opens, W: Write>(
     alloc: Global,
     opener: &mut O,
-    table: &str,
-    properties: &str,
+    words: &CheckWords,
     out: &mut Sink<W>,
 ) -> Result<u8, RunFault>
     ensures { DoesCheck (file_system O.open_gives O.same_gives O.create_gives O.keep_gives O.remove_gives O.File.remaining O.Made.contents)
-        opener.old opener.new table.now properties.now out.old out.new result }
+        opener.old opener.new words.now out.old out.new result }
 {
-    let (mut table, mut properties) = match open_files(opener, table, properties) {
-        Ok(files) => files,
-        Err(role) => return Err(RunFault::Open(role)),
-    };
-    checked(run_check(alloc, &mut table, &mut properties, out))
+    match open_files(opener, words.table, words.properties) {
+        Ok((mut table, mut properties)) => {
+            checked(run_check(alloc, &mut table, &mut properties, out))
+        }
+        Err(role) => Err(RunFault::Open(role)),
+    }
 }
 
 // `keys`.
 fn keys<O: Opens, I: Read, W: Write>(
     alloc: Global,
     opener: &mut O,
-    weighting: Option<Weighting>,
-    depth: Depth,
-    lines: bool,
-    table: &str,
-    properties: &str,
+    words: &KeysWords,
     input: &mut Source<I>,
     out: &mut Sink<W>,
 ) -> Result<u8, RunFault>
     ensures { DoesKeys (file_system O.open_gives O.same_gives O.create_gives O.keep_gives O.remove_gives O.File.remaining O.Made.contents)
-        opener.old opener.new weighting depth lines table.now properties.now
+        opener.old opener.new words.now
         (streams input.old out.old) (streams input.new out.new) result }
 {
-    let (mut table, mut properties) = match open_files(opener, table, properties) {
-        Ok(files) => files,
-        Err(role) => return Err(RunFault::Open(role)),
-    };
-    done(print(
-        alloc,
-        &mut table,
-        &mut properties,
-        input,
-        out,
-        weighting,
-        depth,
-        lines,
-    ))
+    match open_files(opener, words.table, words.properties) {
+        Ok((mut table, mut properties)) => {
+            done(print(alloc, words, &mut table, &mut properties, input, out))
+        }
+        Err(role) => Err(RunFault::Open(role)),
+    }
 }
 
 // The run of `keys`: with or without the lines.
 fn print<T: Read, D: Read, I: Read, W: Write>(
     alloc: Global,
+    words: &KeysWords,
     table: &mut Source<T>,
     properties: &mut Source<D>,
     input: &mut Source<I>,
     out: &mut Sink<W>,
-    weighting: Option<Weighting>,
-    depth: Depth,
-    lines: bool,
 ) -> Result<(), RunFault>
-    ensures { Prints lines weighting depth (table.old ∷ properties.old ∷ []) (table.new ∷ properties.new ∷ [])
+    ensures { Prints words.now.lines words.now.weighting words.now.depth (table.old ∷ properties.old ∷ []) (table.new ∷ properties.new ∷ [])
         input.old input.new out.old out.new result }
 {
-    if lines {
-        run_keyed_lines(alloc, table, properties, input, out, weighting, depth)
+    if words.lines {
+        run_keyed_lines(
+            alloc,
+            table,
+            properties,
+            input,
+            out,
+            words.weighting,
+            words.depth,
+        )
     } else {
-        run_keys(alloc, table, properties, input, out, weighting, depth)
+        run_keys(
+            alloc,
+            table,
+            properties,
+            input,
+            out,
+            words.weighting,
+            words.depth,
+        )
     }
 }
 
@@ -102,112 +106,101 @@ fn print<T: Read, D: Read, I: Read, W: Write>(
 fn sort<O: Opens, I: Read, W: Write>(
     alloc: Global,
     opener: &mut O,
-    weighting: Option<Weighting>,
-    depth: Depth,
-    table: &str,
-    properties: &str,
+    words: &SortWords,
     input: &mut Source<I>,
     out: &mut Sink<W>,
 ) -> Result<u8, RunFault>
     ensures { DoesSort (file_system O.open_gives O.same_gives O.create_gives O.keep_gives O.remove_gives O.File.remaining O.Made.contents)
-        opener.old opener.new weighting depth table.now properties.now
+        opener.old opener.new words.now
         (streams input.old out.old) (streams input.new out.new) result }
 {
-    let (mut table, mut properties) = match open_files(opener, table, properties) {
-        Ok(files) => files,
-        Err(role) => return Err(RunFault::Open(role)),
-    };
-    done(run_sort(
-        alloc,
-        &mut table,
-        &mut properties,
-        input,
-        out,
-        weighting,
-        depth,
-    ))
+    match open_files(opener, words.table, words.properties) {
+        Ok((mut table, mut properties)) => done(run_sort(
+            alloc,
+            &mut table,
+            &mut properties,
+            input,
+            out,
+            words.weighting,
+            words.depth,
+        )),
+        Err(role) => Err(RunFault::Open(role)),
+    }
 }
 
 // `compare`.
 fn compare<O: Opens, W: Write>(
     alloc: Global,
     opener: &mut O,
-    weighting: Option<Weighting>,
-    depth: Depth,
-    table: &str,
-    properties: &str,
-    left: &str,
-    right: &str,
+    words: &CompareWords,
     out: &mut Sink<W>,
 ) -> Result<u8, RunFault>
     ensures { DoesCompare (file_system O.open_gives O.same_gives O.create_gives O.keep_gives O.remove_gives O.File.remaining O.Made.contents)
-        opener.old opener.new (comparing weighting depth left.now right.now)
-        table.now properties.now out.old out.new result }
+        opener.old opener.new words.now out.old out.new result }
 {
-    let (mut table, mut properties) = match open_files(opener, table, properties) {
-        Ok(files) => files,
-        Err(role) => return Err(RunFault::Open(role)),
-    };
-    done(run_compare(
-        alloc,
-        &mut table,
-        &mut properties,
-        left,
-        right,
-        out,
-        weighting,
-        depth,
-    ))
+    match open_files(opener, words.table, words.properties) {
+        Ok((mut table, mut properties)) => done(run_compare(
+            alloc,
+            &mut table,
+            &mut properties,
+            words.left,
+            words.right,
+            out,
+            words.weighting,
+            words.depth,
+        )),
+        Err(role) => Err(RunFault::Open(role)),
+    }
 }
 
 // `tailor`.
 fn tailor<O: Opens, W: Write>(
     alloc: Global,
     opener: &mut O,
-    table: &str,
-    properties: &str,
-    rules: &str,
-    certificate: &str,
+    words: &TailorWords,
     out: &mut Sink<W>,
 ) -> Result<u8, RunFault>
     ensures { DoesTailor (file_system O.open_gives O.same_gives O.create_gives O.keep_gives O.remove_gives O.File.remaining O.Made.contents)
-        opener.old opener.new table.now properties.now rules.now certificate.now
-        out.old out.new result }
+        opener.old opener.new words.now out.old out.new result }
 {
-    if let Err(role) = find_certificate(opener, table, properties, rules, certificate) {
-        return Err(RunFault::SameAs(role));
+    match find_certificate(
+        opener,
+        words.table,
+        words.properties,
+        words.rules,
+        words.certificate,
+    ) {
+        Ok(()) => tailor_files(alloc, opener, words, out),
+        Err(role) => Err(RunFault::SameAs(role)),
     }
-    tailor_files(alloc, opener, table, properties, rules, certificate, out)
 }
 
 // The same, where the certificate is none of the files that are read.
 fn tailor_files<O: Opens, W: Write>(
     alloc: Global,
     opener: &mut O,
-    table: &str,
-    properties: &str,
-    rules: &str,
-    certificate: &str,
+    words: &TailorWords,
     out: &mut Sink<W>,
 ) -> Result<u8, RunFault>
     ensures { MakesOpened (file_system O.open_gives O.same_gives O.create_gives O.keep_gives O.remove_gives O.File.remaining O.Made.contents)
-        opener.old opener.new (tailor_files table.now properties.now rules.now) certificate.now
+        opener.old opener.new (files_of_tailor words.now) words.now.certificate.now
         TailorsFiles made_table out.old out.new result }
 {
-    let (mut table, mut properties, mut rules) = match open_three(
+    match open_three(
         opener,
         Role::Table,
-        table,
+        words.table,
         Role::Data,
-        properties,
+        words.properties,
         Role::Rules,
-        rules,
+        words.rules,
     ) {
-        Ok(files) => files,
-        Err(role) => return Err(RunFault::Open(role)),
-    };
-    let run = run_tailor(alloc, &mut table, &mut properties, &mut rules);
-    keep_run(opener, run, certificate, out)
+        Ok((mut table, mut properties, mut rules)) => {
+            let run = run_tailor(alloc, &mut table, &mut properties, &mut rules);
+            keep_run(opener, run, words.certificate, out)
+        }
+        Err(role) => Err(RunFault::Open(role)),
+    }
 }
 
 // Keeps what a run of tailor returned. An error of the run is returned, and then nothing is made.
@@ -221,9 +214,10 @@ fn keep_run<O: Opens, W: Write>(
         opener.old opener.new name.now out.old out.new made_table run result }
 {
     match run {
-        Ok(answer) => {
-            let kept = keep_tailored(opener, &answer.0, &answer.1, name, out);
-            drop(answer);
+        Ok((table, certificate)) => {
+            let kept = keep_tailored(opener, &table, &certificate, name, out);
+            drop(table);
+            drop(certificate);
             kept
         }
         Err(fault) => Err(fault),
@@ -249,59 +243,66 @@ fn keep_tailored<O: Opens, W: Write>(
 fn audit<O: Opens, W: Write>(
     alloc: Global,
     opener: &mut O,
-    base: &str,
-    properties: &str,
-    rules: &str,
-    tailored: &str,
-    certificate: &str,
+    words: &AuditWords,
     out: &mut Sink<W>,
 ) -> Result<u8, RunFault>
     ensures { DoesAudit (file_system O.open_gives O.same_gives O.create_gives O.keep_gives O.remove_gives O.File.remaining O.Made.contents)
-        opener.old opener.new base.now properties.now rules.now tailored.now certificate.now
-        out.old out.new result }
+        opener.old opener.new words.now out.old out.new result }
 {
-    let mut files = match open_audit_files(opener, base, properties, rules, tailored, certificate) {
-        Ok(files) => files,
-        Err(role) => return Err(RunFault::Open(role)),
-    };
-    let run = run_audit(
-        alloc,
-        &mut files.base,
-        &mut files.properties,
-        &mut files.rules,
-        &mut files.tailored,
-        &mut files.certificate,
-        out,
-    );
-    drop(files);
-    checked(run)
+    match open_audit_files(
+        opener,
+        words.base,
+        words.properties,
+        words.rules,
+        words.tailored,
+        words.certificate,
+    ) {
+        Ok(mut files) => {
+            let run = run_audit(
+                alloc,
+                &mut files.base,
+                &mut files.properties,
+                &mut files.rules,
+                &mut files.tailored,
+                &mut files.certificate,
+                out,
+            );
+            drop(files);
+            checked(run)
+        }
+        Err(role) => Err(RunFault::Open(role)),
+    }
 }
 
 // `affected`.
 fn affected<O: Opens, I: Read, W: Write>(
     alloc: Global,
     opener: &mut O,
-    changes: bool,
-    properties: &str,
-    rules: &str,
+    words: &AffectedWords,
     input: &mut Source<I>,
     out: &mut Sink<W>,
 ) -> Result<u8, RunFault>
     ensures { DoesAffected (file_system O.open_gives O.same_gives O.create_gives O.keep_gives O.remove_gives O.File.remaining O.Made.contents)
-        opener.old opener.new changes properties.now rules.now
+        opener.old opener.new words.now
         (streams input.old out.old) (streams input.new out.new) result }
 {
-    let (mut properties, mut rules) = match open_two(
+    match open_two(
         opener,
         Role::Data,
-        properties,
-        affected_role(changes),
-        rules,
+        words.properties,
+        affected_role(words.changes),
+        words.rules,
     ) {
-        Ok(files) => files,
-        Err(role) => return Err(RunFault::Open(role)),
-    };
-    done(print_lines(alloc, changes, &mut properties, &mut rules, input, out))
+        Ok((mut properties, mut rules)) => done(print_lines(
+            alloc,
+            words.changes,
+            &mut properties,
+            &mut rules,
+            input,
+            out,
+        )),
+        Err(role) => Err(RunFault::Open(role)),
+    }
 }
 
 // What the second file of `affected` is.
@@ -342,105 +343,36 @@ fn run_words<O: Opens, I: Read, W: Write>(
         opener.old opener.new asked.now
         (streams input.old out.old) (streams input.new out.new) result }
 {
-    match *asked {
-        Words::Check { table, properties } => check(alloc, opener, table, properties, out),
-        Words::Keys {
-            weighting,
-            depth,
-            lines,
-            table,
-            properties,
-        } => keys(
-            alloc, opener, weighting, depth, lines, table, properties, input, out,
-        ),
-        Words::Sort {
-            weighting,
-            depth,
-            table,
-            properties,
-        } => sort(
-            alloc, opener, weighting, depth, table, properties, input, out,
-        ),
-        Words::Compare {
-            weighting,
-            depth,
-            table,
-            properties,
-            left,
-            right,
-        } => compare(
-            alloc, opener, weighting, depth, table, properties, left, right, out,
-        ),
-        Words::Tailor {
-            table,
-            properties,
-            rules,
-            certificate,
-        } => tailor(alloc, opener, table, properties, rules, certificate, out),
-        Words::Audit {
-            base,
-            properties,
-            rules,
-            tailored,
-            certificate,
-        } => audit(
-            alloc,
-            opener,
-            base,
-            properties,
-            rules,
-            tailored,
-            certificate,
-            out,
-        ),
-        Words::Affected {
-            changes,
-            properties,
-            rules,
-        } => affected(alloc, opener, changes, properties, rules, input, out),
-        Words::Changes {
-            old,
-            old_data,
-            new,
-            new_data,
-            certificate,
-        } => changes(
-            alloc,
-            opener,
-            &EditionNames {
-                old,
-                old_data,
-                new,
-                new_data,
-            },
-            certificate,
-            out,
-        ),
-        Words::AuditChanges {
-            old,
-            old_data,
-            new,
-            new_data,
-            changes,
-            certificate,
-        } => audit_changes(
-            alloc,
-            opener,
-            &EditionNames {
-                old,
-                old_data,
-                new,
-                new_data,
-            },
-            changes,
-            certificate,
-            out,
-        ),
-        Words::Rekey {
-            weighting,
-            depth,
-            certificate,
-        } => rekey(alloc, opener, weighting, depth, certificate, input, out),
+    match asked {
+        Words::Check(words) => check(alloc, opener, words, out),
+        Words::Keys(words) => keys(alloc, opener, words, input, out),
+        Words::Sort(words) => sort(alloc, opener, words, input, out),
+        Words::Compare(words) => compare(alloc, opener, words, out),
+        Words::Tailor(words) => tailor(alloc, opener, words, out),
+        Words::Audit(words) => audit(alloc, opener, words, out),
+        Words::Affected(words) => affected(alloc, opener, words, input, out),
+        Words::Changes(words) => changes(alloc, opener, words, out),
+        Words::AuditChanges(words) => audit_changes(alloc, opener, words, out),
+        Words::Rekey(words) => rekey(alloc, opener, words, input, out),
+    }
+}
+
+// The status that the command ends with after a run. It reports an error.
+fn status_of<W: Write, E: Write>(
+    alloc: Global,
+    run: Result<u8, RunFault>,
+    out: &mut Sink<W>,
+    err: &mut Sink<E>,
+) -> u8
+    ensures { EndsWith run result out.old out.new err.old err.new }
+{
+    match run {
+        Ok(status) => status,
+        Err(fault) => {
+            let status = report(alloc, &fault, out, err);
+            drop(fault);
+            status
+        }
     }
 }
 
@@ -460,12 +392,11 @@ pub fn run_command<'a, O: Opens, I: Read, W: Write, E: Write>(
         opener.old opener.new (texts words.entry.now)
         (streams input.old out.old) (streams input.new out.new) err.old err.new result }
 {
-    let asked = match read_words(alloc, words) {
-        Ok(asked) => asked,
-        Err(fault) => return report(alloc, &RunFault::Words(fault), out, err),
-    };
-    match run_words(alloc, opener, &asked, input, out) {
-        Ok(status) => status,
-        Err(fault) => report(alloc, &fault, out, err),
+    match read_words(alloc, words) {
+        Ok(asked) => {
+            let run = run_words(alloc, opener, &asked, input, out);
+            status_of(alloc, run, out, err)
+        }
+        Err(fault) => status_of(alloc, Err(RunFault::Words(fault)), out, err),
     }
 }

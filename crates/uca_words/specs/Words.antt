@@ -39,28 +39,31 @@ HasEditions rows old old_data new new_data =
 
 -- the subcommand of this name, with these rows of its arguments, says these `Words`
 abbrev pub Says : Text → List Row → Words → Type 0
-Says name rows (Check table properties) = (name ≡ codes "check") × HasFiles rows table properties
-Says name rows (Keys weighting depth lines table properties) =
-    (name ≡ codes "keys") × HasWeighting rows weighting × HasDepth rows depth × (is_given (codes "lines") rows ≡ lines) × HasFiles rows table properties
-Says name rows (Sort weighting depth table properties) =
-    (name ≡ codes "sort") × HasWeighting rows weighting × HasDepth rows depth × HasFiles rows table properties
-Says name rows (Compare weighting depth table properties left right) =
-    (name ≡ codes "compare") × HasWeighting rows weighting × HasDepth rows depth × HasFiles rows table properties
-    × HasWord rows (codes "left") left × HasWord rows (codes "right") right
-Says name rows (Tailor table properties rules certificate) =
-    (name ≡ codes "tailor") × HasFiles rows table properties × HasWord rows (codes "rules") rules × HasWord rows (codes "certificate") certificate
-Says name rows (Audit base properties rules tailored certificate) =
-    (name ≡ codes "audit") × HasWord rows (codes "base") base × HasWord rows (codes "data") properties × HasWord rows (codes "rules") rules
-    × HasWord rows (codes "tailored") tailored × HasWord rows (codes "certificate") certificate
-Says name rows (Affected changes properties rules) =
-    (name ≡ codes "affected") × (is_given (codes "changes") rows ≡ changes) × HasWord rows (codes "data") properties × HasWord rows (codes "rules") rules
-Says name rows (Changes old old_data new new_data certificate) =
-    (name ≡ codes "changes") × HasEditions rows old old_data new new_data × HasWord rows (codes "certificate") certificate
-Says name rows (AuditChanges old old_data new new_data changes certificate) =
-    (name ≡ codes "audit-changes") × HasEditions rows old old_data new new_data
-    × HasWord rows (codes "changes") changes × HasWord rows (codes "certificate") certificate
-Says name rows (Rekey weighting depth certificate) =
-    (name ≡ codes "rekey") × HasWeighting rows weighting × HasDepth rows depth × HasWord rows (codes "certificate") certificate
+Says name rows (Check words) = (name ≡ codes "check") × HasFiles rows words.table words.properties
+Says name rows (Keys words) =
+    (name ≡ codes "keys") × HasWeighting rows words.weighting × HasDepth rows words.depth × (is_given (codes "lines") rows ≡ words.lines)
+    × HasFiles rows words.table words.properties
+Says name rows (Sort words) =
+    (name ≡ codes "sort") × HasWeighting rows words.weighting × HasDepth rows words.depth × HasFiles rows words.table words.properties
+Says name rows (Compare words) =
+    (name ≡ codes "compare") × HasWeighting rows words.weighting × HasDepth rows words.depth × HasFiles rows words.table words.properties
+    × HasWord rows (codes "left") words.left × HasWord rows (codes "right") words.right
+Says name rows (Tailor words) =
+    (name ≡ codes "tailor") × HasFiles rows words.table words.properties × HasWord rows (codes "rules") words.rules
+    × HasWord rows (codes "certificate") words.certificate
+Says name rows (Audit words) =
+    (name ≡ codes "audit") × HasWord rows (codes "base") words.base × HasWord rows (codes "data") words.properties × HasWord rows (codes "rules") words.rules
+    × HasWord rows (codes "tailored") words.tailored × HasWord rows (codes "certificate") words.certificate
+Says name rows (Affected words) =
+    (name ≡ codes "affected") × (is_given (codes "changes") rows ≡ words.changes) × HasWord rows (codes "data") words.properties
+    × HasWord rows (codes "rules") words.rules
+Says name rows (Changes words) =
+    (name ≡ codes "changes") × HasEditions rows words.old words.old_data words.new words.new_data × HasWord rows (codes "certificate") words.certificate
+Says name rows (AuditChanges words) =
+    (name ≡ codes "audit-changes") × HasEditions rows words.old words.old_data words.new words.new_data
+    × HasWord rows (codes "changes") words.changes × HasWord rows (codes "certificate") words.certificate
+Says name rows (Rekey words) =
+    (name ≡ codes "rekey") × HasWeighting rows words.weighting × HasDepth rows words.depth × HasWord rows (codes "certificate") words.certificate
 
 -- the subcommand that was met, with the rows of its arguments, says these `Words`
 abbrev pub SayWords : Option (Text × List Row) → Words → Type 0

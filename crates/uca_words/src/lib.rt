@@ -34,123 +34,163 @@ use uca_weights::{Depth, Weighting};
 #[derive(Clone, Copy, Debug)]
 pub enum Words<'a> {
     /// `check TABLE DATA`: say whether a weight table is well-formed.
-    Check {
-        /// The name of the table file.
-        table: &'a str,
-        /// The name of the data file.
-        properties: &'a str,
-    },
+    Check(CheckWords<'a>),
     /// `keys [--weighting W] [--identical] [--lines] TABLE DATA`: print the sort key of each line of standard input.
-    Keys {
-        /// The weighting, if one is given.
-        weighting: Option<Weighting>,
-        /// How far texts are compared: `Identical` if `--identical` is given.
-        depth: Depth,
-        /// Whether the line is printed after its key: `--lines` is given.
-        lines: bool,
-        /// The name of the table file.
-        table: &'a str,
-        /// The name of the data file.
-        properties: &'a str,
-    },
+    Keys(KeysWords<'a>),
     /// `sort [--weighting W] [--identical] TABLE DATA`: sort the lines of standard input.
-    Sort {
-        /// The weighting, if one is given.
-        weighting: Option<Weighting>,
-        /// How far texts are compared: `Identical` if `--identical` is given.
-        depth: Depth,
-        /// The name of the table file.
-        table: &'a str,
-        /// The name of the data file.
-        properties: &'a str,
-    },
+    Sort(SortWords<'a>),
     /// `compare [--weighting W] [--identical] TABLE DATA LEFT RIGHT`: say which of two texts comes first.
-    Compare {
-        /// The weighting, if one is given.
-        weighting: Option<Weighting>,
-        /// How far texts are compared: `Identical` if `--identical` is given.
-        depth: Depth,
-        /// The name of the table file.
-        table: &'a str,
-        /// The name of the data file.
-        properties: &'a str,
-        /// The text on the left.
-        left: &'a str,
-        /// The text on the right.
-        right: &'a str,
-    },
+    Compare(CompareWords<'a>),
     /// `tailor TABLE DATA RULES CERTIFICATE`: tailor a table by rules.
-    Tailor {
-        /// The name of the file of the table before the tailoring.
-        table: &'a str,
-        /// The name of the data file.
-        properties: &'a str,
-        /// The name of the file of rules.
-        rules: &'a str,
-        /// The name of the file that the certificate is written to.
-        certificate: &'a str,
-    },
+    Tailor(TailorWords<'a>),
     /// `audit BASE DATA RULES TAILORED CERTIFICATE`: say whether a tailored table is what its rules say.
-    Audit {
-        /// The name of the file of the table before the tailoring.
-        base: &'a str,
-        /// The name of the data file.
-        properties: &'a str,
-        /// The name of the file of rules.
-        rules: &'a str,
-        /// The name of the file of the table after the tailoring.
-        tailored: &'a str,
-        /// The name of the file of the certificate.
-        certificate: &'a str,
-    },
+    Audit(AuditWords<'a>),
     /// `affected [--changes] DATA RULES`: print the lines of standard input in which a target of the rules occurs, or what
     /// is listed in a file of changes.
-    Affected {
-        /// Whether `rules` names a file of changes: `--changes` is given.
-        changes: bool,
-        /// The name of the data file, with `--changes` of the new one.
-        properties: &'a str,
-        /// The name of the file of rules, with `--changes` of the file of changes.
-        rules: &'a str,
-    },
+    Affected(AffectedWords<'a>),
     /// `changes OLD OLD-DATA NEW NEW-DATA CERTIFICATE`: find what changes from an old table to a new one.
-    Changes {
-        /// The name of the file of the old table.
-        old: &'a str,
-        /// The name of the old table's data file.
-        old_data: &'a str,
-        /// The name of the file of the new table.
-        new: &'a str,
-        /// The name of the new table's data file.
-        new_data: &'a str,
-        /// The name of the file that the certificate is written to.
-        certificate: &'a str,
-    },
+    Changes(ChangesWords<'a>),
     /// `audit-changes OLD OLD-DATA NEW NEW-DATA CHANGES CERTIFICATE`: say whether changes and their certificate are right.
-    AuditChanges {
-        /// The name of the file of the old table.
-        old: &'a str,
-        /// The name of the old table's data file.
-        old_data: &'a str,
-        /// The name of the file of the new table.
-        new: &'a str,
-        /// The name of the new table's data file.
-        new_data: &'a str,
-        /// The name of the file of changes.
-        changes: &'a str,
-        /// The name of the file of the certificate.
-        certificate: &'a str,
-    },
+    AuditChanges(AuditChangesWords<'a>),
     /// `rekey [--weighting W] [--identical] CERTIFICATE`: put the key of each line of standard input through the maps of a
     /// certificate.
-    Rekey {
-        /// The weighting that made the keys, if one is given.
-        weighting: Option<Weighting>,
-        /// The depth that made the keys: `Identical` if `--identical` is given.
-        depth: Depth,
-        /// The name of the file of the certificate.
-        certificate: &'a str,
-    },
+    Rekey(RekeyWords<'a>),
+}
+
+/// The arguments of `check`.
+#[derive(Clone, Copy, Debug)]
+pub struct CheckWords<'a> {
+    /// The name of the table file.
+    pub table: &'a str,
+    /// The name of the data file.
+    pub properties: &'a str,
+}
+
+/// The arguments of `keys`.
+#[derive(Clone, Copy, Debug)]
+pub struct KeysWords<'a> {
+    /// The weighting, if one is given.
+    pub weighting: Option<Weighting>,
+    /// How far texts are compared: `Identical` if `--identical` is given.
+    pub depth: Depth,
+    /// Whether the line is printed after its key: `--lines` is given.
+    pub lines: bool,
+    /// The name of the table file.
+    pub table: &'a str,
+    /// The name of the data file.
+    pub properties: &'a str,
+}
+
+/// The arguments of `sort`.
+#[derive(Clone, Copy, Debug)]
+pub struct SortWords<'a> {
+    /// The weighting, if one is given.
+    pub weighting: Option<Weighting>,
+    /// How far texts are compared: `Identical` if `--identical` is given.
+    pub depth: Depth,
+    /// The name of the table file.
+    pub table: &'a str,
+    /// The name of the data file.
+    pub properties: &'a str,
+}
+
+/// The arguments of `compare`.
+#[derive(Clone, Copy, Debug)]
+pub struct CompareWords<'a> {
+    /// The weighting, if one is given.
+    pub weighting: Option<Weighting>,
+    /// How far texts are compared: `Identical` if `--identical` is given.
+    pub depth: Depth,
+    /// The name of the table file.
+    pub table: &'a str,
+    /// The name of the data file.
+    pub properties: &'a str,
+    /// The text on the left.
+    pub left: &'a str,
+    /// The text on the right.
+    pub right: &'a str,
+}
+
+/// The arguments of `tailor`.
+#[derive(Clone, Copy, Debug)]
+pub struct TailorWords<'a> {
+    /// The name of the file of the table before the tailoring.
+    pub table: &'a str,
+    /// The name of the data file.
+    pub properties: &'a str,
+    /// The name of the file of rules.
+    pub rules: &'a str,
+    /// The name of the file that the certificate is written to.
+    pub certificate: &'a str,
+}
+
+/// The arguments of `audit`.
+#[derive(Clone, Copy, Debug)]
+pub struct AuditWords<'a> {
+    /// The name of the file of the table before the tailoring.
+    pub base: &'a str,
+    /// The name of the data file.
+    pub properties: &'a str,
+    /// The name of the file of rules.
+    pub rules: &'a str,
+    /// The name of the file of the table after the tailoring.
+    pub tailored: &'a str,
+    /// The name of the file of the certificate.
+    pub certificate: &'a str,
+}
+
+/// The arguments of `affected`.
+#[derive(Clone, Copy, Debug)]
+pub struct AffectedWords<'a> {
+    /// Whether `rules` names a file of changes: `--changes` is given.
+    pub changes: bool,
+    /// The name of the data file, with `--changes` of the new one.
+    pub properties: &'a str,
+    /// The name of the file of rules, with `--changes` of the file of changes.
+    pub rules: &'a str,
+}
+
+/// The arguments of `changes`.
+#[derive(Clone, Copy, Debug)]
+pub struct ChangesWords<'a> {
+    /// The name of the file of the old table.
+    pub old: &'a str,
+    /// The name of the old table's data file.
+    pub old_data: &'a str,
+    /// The name of the file of the new table.
+    pub new: &'a str,
+    /// The name of the new table's data file.
+    pub new_data: &'a str,
+    /// The name of the file that the certificate is written to.
+    pub certificate: &'a str,
+}
+
+/// The arguments of `audit-changes`.
+#[derive(Clone, Copy, Debug)]
+pub struct AuditChangesWords<'a> {
+    /// The name of the file of the old table.
+    pub old: &'a str,
+    /// The name of the old table's data file.
+    pub old_data: &'a str,
+    /// The name of the file of the new table.
+    pub new: &'a str,
+    /// The name of the new table's data file.
+    pub new_data: &'a str,
+    /// The name of the file of changes.
+    pub changes: &'a str,
+    /// The name of the file of the certificate.
+    pub certificate: &'a str,
+}
+
+/// The arguments of `rekey`.
+#[derive(Clone, Copy, Debug)]
+pub struct RekeyWords<'a> {
+    /// The weighting that made the keys, if one is given.
+    pub weighting: Option<Weighting>,
+    /// The depth that made the keys: `Identical` if `--identical` is given.
+    pub depth: Depth,
+    /// The name of the file of the certificate.
+    pub certificate: &'a str,
 }
 
 /// Why a command line is rejected.
@@ -256,7 +296,7 @@ fn check_words<'a>(found: &ArgMatches<'a>) -> Words<'a>
     ensures { Says (codes "check") (rows_of (found_of found.now)) result }
 {
     let (table, properties) = files_of(found);
-    Words::Check { table, properties }
+    Words::Check(CheckWords { table, properties })
 }
 
 fn keys_words<'a>(found: &ArgMatches<'a>, weighting: Option<Weighting>) -> Words<'a>
@@ -264,13 +304,13 @@ fn keys_words<'a>(found: &ArgMatches<'a>, weighting: Option<Weighting>) -> Words
     ensures { HasWeighting (rows_of (found_of found.now)) weighting → Says (codes "keys") (rows_of (found_of found.now)) result }
 {
     let (table, properties) = files_of(found);
-    Words::Keys {
+    Words::Keys(KeysWords {
         weighting,
         depth: given_depth(found),
         lines: is_in_words(found, "lines"),
         table,
         properties,
-    }
+    })
 }
 
 fn sort_words<'a>(found: &ArgMatches<'a>, weighting: Option<Weighting>) -> Words<'a>
@@ -278,12 +318,12 @@ fn sort_words<'a>(found: &ArgMatches<'a>, weighting: Option<Weighting>) -> Words
     ensures { HasWeighting (rows_of (found_of found.now)) weighting → Says (codes "sort") (rows_of (found_of found.now)) result }
 {
     let (table, properties) = files_of(found);
-    Words::Sort {
+    Words::Sort(SortWords {
         weighting,
         depth: given_depth(found),
         table,
         properties,
-    }
+    })
 }
 
 fn compare_words<'a>(found: &ArgMatches<'a>, weighting: Option<Weighting>) -> Words<'a>
@@ -291,14 +331,14 @@ fn compare_words<'a>(found: &ArgMatches<'a>, weighting: Option<Weighting>) -> Wo
     ensures { HasWeighting (rows_of (found_of found.now)) weighting → Says (codes "compare") (rows_of (found_of found.now)) result }
 {
     let (table, properties) = files_of(found);
-    Words::Compare {
+    Words::Compare(CompareWords {
         weighting,
         depth: given_depth(found),
         table,
         properties,
         left: word_of(found, "left"),
         right: word_of(found, "right"),
-    }
+    })
 }
 
 fn tailor_words<'a>(found: &ArgMatches<'a>) -> Words<'a>
@@ -306,74 +346,74 @@ fn tailor_words<'a>(found: &ArgMatches<'a>) -> Words<'a>
     ensures { Says (codes "tailor") (rows_of (found_of found.now)) result }
 {
     let (table, properties) = files_of(found);
-    Words::Tailor {
+    Words::Tailor(TailorWords {
         table,
         properties,
         rules: word_of(found, "rules"),
         certificate: word_of(found, "certificate"),
-    }
+    })
 }
 
 fn audit_words<'a>(found: &ArgMatches<'a>) -> Words<'a>
     requires { has_words audit_app (rows_of (found_of found.now)) ≡ true }
     ensures { Says (codes "audit") (rows_of (found_of found.now)) result }
 {
-    Words::Audit {
+    Words::Audit(AuditWords {
         base: word_of(found, "base"),
         properties: word_of(found, "data"),
         rules: word_of(found, "rules"),
         tailored: word_of(found, "tailored"),
         certificate: word_of(found, "certificate"),
-    }
+    })
 }
 
 fn affected_words<'a>(found: &ArgMatches<'a>) -> Words<'a>
     requires { has_words affected_app (rows_of (found_of found.now)) ≡ true }
     ensures { Says (codes "affected") (rows_of (found_of found.now)) result }
 {
-    Words::Affected {
+    Words::Affected(AffectedWords {
         changes: is_in_words(found, "changes"),
         properties: word_of(found, "data"),
         rules: word_of(found, "rules"),
-    }
+    })
 }
 
 fn changes_words<'a>(found: &ArgMatches<'a>) -> Words<'a>
     requires { has_words changes_app (rows_of (found_of found.now)) ≡ true }
     ensures { Says (codes "changes") (rows_of (found_of found.now)) result }
 {
-    Words::Changes {
+    Words::Changes(ChangesWords {
         old: word_of(found, "old"),
         old_data: word_of(found, "old-data"),
         new: word_of(found, "new"),
         new_data: word_of(found, "new-data"),
         certificate: word_of(found, "certificate"),
-    }
+    })
 }
 
 fn audit_changes_words<'a>(found: &ArgMatches<'a>) -> Words<'a>
     requires { has_words audit_changes_app (rows_of (found_of found.now)) ≡ true }
     ensures { Says (codes "audit-changes") (rows_of (found_of found.now)) result }
 {
-    Words::AuditChanges {
+    Words::AuditChanges(AuditChangesWords {
         old: word_of(found, "old"),
         old_data: word_of(found, "old-data"),
         new: word_of(found, "new"),
         new_data: word_of(found, "new-data"),
         changes: word_of(found, "changes"),
         certificate: word_of(found, "certificate"),
-    }
+    })
 }
 
 fn rekey_words<'a>(found: &ArgMatches<'a>, weighting: Option<Weighting>) -> Words<'a>
     requires { has_words rekey_app (rows_of (found_of found.now)) ≡ true }
     ensures { HasWeighting (rows_of (found_of found.now)) weighting → Says (codes "rekey") (rows_of (found_of found.now)) result }
 {
-    Words::Rekey {
+    Words::Rekey(RekeyWords {
         weighting,
         depth: given_depth(found),
         certificate: word_of(found, "certificate"),
-    }
+    })
 }
 
 // The arguments of the subcommand of this name, with the weighting that is given.

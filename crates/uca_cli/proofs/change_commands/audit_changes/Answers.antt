@@ -2,8 +2,8 @@
 use Rattle.std.proofs.Common.{[], ◌∷◌, inr}
 use Rattle.uca_cli.proofs.change_commands.audit_changes.Goals as goal
 
-pub returns : goal.returns
-returns g c =
+pub returns-in-Ok : goal.returns-in-Ok
+returns-in-Ok g c =
     let files = c.in-Ok.files in
     let editions = files.editions in
     let new = c.run_audit_changes-run.new in

@@ -5,8 +5,8 @@ use Rattle.uca_cli.proofs.change_commands.change_files.Goals as goal
 pub returns-in-Err : goal.returns-in-Err
 returns-in-Err g c = (c.open_editions.new.opener, inl (c.in-Err.role, refl, c.in-Err.ensures, (refl, refl)))
 
-pub returns : goal.returns
-returns g c =
+pub returns-in-Ok : goal.returns-in-Ok
+returns-in-Ok g c =
     let files = c.in-Ok.files in
     let new = c.run_changes-run.new in (
       c.open_editions.new.opener,

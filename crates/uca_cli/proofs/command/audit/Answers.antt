@@ -2,8 +2,8 @@
 use Rattle.std.proofs.Common.{[], ◌∷◌, inr}
 use Rattle.uca_cli.proofs.command.audit.Goals as goal
 
-pub returns : goal.returns
-returns g c =
+pub returns-in-Ok : goal.returns-in-Ok
+returns-in-Ok g c =
     let files = c.in-Ok.files in
     let new = c.run_audit-run.new in
     inr (record {

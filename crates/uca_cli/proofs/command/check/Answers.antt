@@ -2,9 +2,9 @@
 use Rattle.std.proofs.Common.{[], ◌∷◌, inr}
 use Rattle.uca_cli.proofs.command.check.Goals as goal
 
-pub returns : goal.returns
-returns g c = inr (record {
-  before = c.in-Ok.files.0 ∷ c.in-Ok.files.1 ∷ [];
+pub returns-in-Ok : goal.returns-in-Ok
+returns-in-Ok g c = inr (record {
+  before = c.in-Ok.table ∷ c.in-Ok.properties ∷ [];
   after = c.run_check.new.table ∷ c.run_check.new.properties ∷ [];
   opened = c.in-Ok.ensures;
   runs = record { run = c.run_check.result; runs = c.run_check.ensures; status = c.checked.ensures };

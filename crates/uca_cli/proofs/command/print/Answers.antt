@@ -1,8 +1,8 @@
 -- The flag says which run it is.
 use Rattle.uca_cli.proofs.command.print.Goals as goal
 
-pub returns-then-lines : goal.returns-then-lines
-returns-then-lines g c = rw c.if-lines.true c.run_keyed_lines.ensures
+pub returns-then-words : goal.returns-then-words
+returns-then-words g c = rw c.if-words.true c.run_keyed_lines.ensures
 
-pub returns-else-lines : goal.returns-else-lines
-returns-else-lines g c = rw c.if-lines.false c.run_keys.ensures
+pub returns-else-words : goal.returns-else-words
+returns-else-words g c = rw c.if-words.false c.run_keys.ensures

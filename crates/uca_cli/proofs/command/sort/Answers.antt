@@ -2,9 +2,9 @@
 use Rattle.std.proofs.Common.{[], ◌∷◌, inr}
 use Rattle.uca_cli.proofs.command.sort.Goals as goal
 
-pub returns : goal.returns
-returns g c = inr (record {
-  before = c.in-Ok.files.0 ∷ c.in-Ok.files.1 ∷ [];
+pub returns-in-Ok : goal.returns-in-Ok
+returns-in-Ok g c = inr (record {
+  before = c.in-Ok.table ∷ c.in-Ok.properties ∷ [];
   after = c.run_sort.new.table ∷ c.run_sort.new.properties ∷ [];
   opened = c.in-Ok.ensures;
   runs = record { run = c.run_sort.result; runs = c.run_sort.ensures; status = c.done.ensures };
