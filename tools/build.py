@@ -74,12 +74,18 @@ class Builder:
         return path, f"{os.path.dirname(path)}/{crate.name}.statements"
 
     def processes(self, crate, given):
-        """How many processes check this crate, as the ones of the keys in `given` are done."""
+        """How many processes check this crate, as the ones of the keys in `given` are done. Of those that can be checked now, the one that most others
+        wait for gets the idle processors."""
         can_begin = [it for it in self.crates if (it.name, TASK) not in given and all((low.name, TASK) in given for low in it.below())]
         idle = self.rt.processors() - sum(it.name != crate.name for it in can_begin)
         room = 1 + int((self.rt.free() / self.rt.need(crate) - 1) / MORE_MEMORY)
         found = min(idle, room, MOST_PROCESSES)
-        return found if found >= FEWEST_PROCESSES else 1
+        is_first = all(self.waiting(crate) >= self.waiting(it) for it in can_begin)
+        return found if is_first and found >= FEWEST_PROCESSES else 1
+
+    def waiting(self, crate):
+        """How many crates have this one below them."""
+        return sum(any(low.name == crate.name for low in it.below()) for it in self.crates)
 
     def prove(self, crate, jobs):
         """Proves a crate from nothing, with these flags, and returns whether it is proved."""
