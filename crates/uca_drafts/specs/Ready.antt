@@ -42,8 +42,8 @@ abbrev pub IsRejected : Basis → Drafting → ℕ → Relation → TailorFault 
 IsRejected basis so_far n r fault =
     ((with_relation basis so_far n r ≡ Err fault.kind) × (fault.relation ≡ n + 1)) ⊎ (fault ≡ out_of_memory)
 
--- The row of a relation's target with these elements takes this position, or it is rejected: so it is with one more relation after n
--- others, if it gives its target these elements.
+-- The row of a relation's target with these elements takes this position, or it is rejected. So it is with one more relation after n
+-- others that gives its target these elements.
 abbrev pub TakesPlace : Basis → List DraftRow → Relation → List DraftElement → Result ℕ TailorKind → Type 0
 TakesPlace basis rows r elements result =
     (so_far : List Insertion) (n : ℕ) (new : List Insertion)

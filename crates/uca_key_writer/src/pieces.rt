@@ -151,8 +151,8 @@ impl Piece {
     }
 
     /// Goes on by a plain code point and by those that come next in the text and were met. Their weights are added to the
-    /// levels, but not those of the last, which is the piece then, unless they end the text: all weights are added then, and the
-    /// piece is unspecified.
+    /// levels, but not those of the last, which is the piece then. Where they end the text, all weights are added, and the piece is
+    /// unspecified.
     #[inline(always)]
     pub(crate) fn run_on<'t, A: Allocator>(
         &mut self,
