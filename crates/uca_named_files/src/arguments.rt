@@ -1,5 +1,7 @@
 //! The arguments of the program.
 
+ghost use Rattle.std.specs.Prelude.{◌≡◌, IfOk, map, string_bytes};
+
 use std::alloc::{AllocError, Global};
 use std::env;
 
@@ -20,7 +22,9 @@ pub fn given_words(rt: &HostRuntime) -> Result<Vec<String>, AllocError> {
 /// # Errors
 ///
 /// An allocation failed.
-pub fn words_of(alloc: Global, given: &[String]) -> Result<Vec<&str>, AllocError> {
+pub fn words_of(alloc: Global, given: &[String]) -> Result<Vec<&str>, AllocError>
+    ensures { IfOk result (λ words. map (λ word. word.now) words.items ≡ map (λ text. string_bytes text) given.now) }
+{
     let mut words = Vec::with_capacity(alloc, given.len())?;
     for word in given {
         words.push(word.as_str())?;
