@@ -53,10 +53,6 @@ PrintsAs form asked depth olds news input input_new out out_new result =
 
 -- ---- A writer of the keys of a form
 
--- texts are read by rows that are short
-pub record ReadsByShortRows (c : Collation) : Type 0 where
-  pub rows : HasShortRows c.rows
-
 -- what the keys of a writer go by
 abbrev pub settings_of : {L : Type 0} → (L → Rows) → WriterState L → KeySettings
 settings_of content writer = settings_at content writer writer.depth

@@ -17,7 +17,7 @@ ghost use Rattle.uca_runs.specs.KeysRun.{PrintsKeys, WritesKeys};
 ghost use Rattle.uca_run_parts.specs.Input.{cause_of};
 ghost use Rattle.uca_run_parts.specs.Texts.{HasRead, HasTextCause, ReadsCleanLine, is_read};
 ghost use Rattle.uca_runs.specs.KeyForms;
-ghost use Rattle.uca_runs.specs.KeyForms.{MakesKeys, PrintsAs, ReadsByShortRows, depth_as, line_as, printed_as, settings_of};
+ghost use Rattle.uca_runs.specs.KeyForms.{MakesKeys, PrintsAs, depth_as, line_as, printed_as, settings_of};
 
 use std::alloc::{Allocator, Global};
 use std::io::{Read, Write};
@@ -258,7 +258,7 @@ pub(crate) fn print_lines<L: Lookup, T: Allocator, A: Allocator + Copy, I: Read,
     input: &mut Source<I>,
     out: &mut Sink<W>,
 ) -> Result<(), RunFault>
-    requires { ReadsByShortRows (collation_of L.content collator.now) }
+    requires { HasShortRows (collation_of L.content collator.now).rows }
     ensures writes { IfSome input.old.remaining (λ bytes.
         let c = key_settings_of L.content collator.now weighting depth in
         WritesEach c.collation.properties (line_as form c) bytes input.new.remaining out.old.contents out.new.contents result) }

@@ -3,7 +3,8 @@ use Rattle.std.proofs.Common.{◌≡◌, ◌||◌, [], ap, ap₂, subst, sym, �
 use Rattle.uca_elements.specs.Collations.{Collation}
 use Rattle.uca_values.specs.Content.{properties_of}
 use Rattle.uca_key_lines.specs.Keys.{key_settings_of, settings_at}
-use Rattle.uca_runs.specs.KeyForms.{ReadsByShortRows, line_as}
+use Rattle.uca_order.specs.Lengths.{HasShortRows}
+use Rattle.uca_runs.specs.KeyForms.{line_as}
 use Rattle.uca_run_parts.specs.EachLineSoFar.{WritesRest}
 use Rattle.uca_run_parts.proofs.Finishing.{started, of_lines}
 use Rattle.uca_key_lines.proofs.KeySettings.{key_settings_by}
@@ -13,7 +14,7 @@ pub print_rest-end-requires-clause-makes : goal.print_rest-end-requires-clause-m
 print_rest-end-requires-clause-makes g c = record {
   key_depth = c.new-2.ensures.depth ∙ c.depth_of.ensures;
   same = ap (λ (collation : Collation). collation.properties) (sym c.new-2.ensures.collation);
-  short_rows = (subst ReadsByShortRows (sym c.new-2.ensures.collation) c.requires).rows;
+  short_rows = subst (λ (collation : Collation). HasShortRows collation.rows) (sym c.new-2.ensures.collation) c.requires;
 }
 
 pub returns-clause-writes : goal.returns-clause-writes

@@ -3,7 +3,7 @@ use Rattle.std.specs.Prelude.{⊤}
 use Rattle.std.proofs.Common.{◌≡◌, [], ◌∷◌, Err, subst, sym}
 use Rattle.uca_values.specs.Content.{properties_of}
 use Rattle.uca_match.specs.NumberedKeys.{rows_at}
-use Rattle.uca_elements.specs.Collations.{collation_of}
+use Rattle.uca_elements.specs.Collations.{Collation, collation_of}
 use Rattle.uca_order.specs.Lengths.{HasShortRows}
 use Rattle.uca_run_parts.specs.declared.faults.RunFault.TheVariants.{Memory}
 use Rattle.uca_run_parts.specs.EachLine.{RunsEach}
@@ -27,7 +27,7 @@ returns-in-Err g c =
     c.in-Err.ensures.read c.in-Err.ensures.before_input c.in-Err.ensures.failed
 
 pub print_lines-end-requires : goal.print_lines-end-requires
-print_lines-end-requires g c = record { rows = subst (λ made. HasShortRows made.rows) (sym c.collator-collator.ensures) c.in-Ok.ensures.short }
+print_lines-end-requires g c = subst (λ (collation : Collation). HasShortRows collation.rows) (sym c.collator-collator.ensures) c.in-Ok.ensures.short
 
 pub returns-in-Ok : goal.returns-in-Ok
 returns-in-Ok g c =
