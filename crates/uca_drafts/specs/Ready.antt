@@ -1,5 +1,5 @@
 -- When one more relation can be read and its row put in its position. Only clauses inside this crate cite this file.
-use Rattle.std.specs.Prelude.{◌≡◌, ◌⊎◌, ℕ, ◌+◌, ◌<◌, ◌≤◌, List, [], ◌∷◌, ◌++◌, length, slice_set, false, Some, Result, Ok, Err, MatchResult}
+use Rattle.std.specs.Prelude.{◌≡◌, ◌⊎◌, ℕ, ◌+◌, ◌<◌, ◌≤◌, List, [], ◌∷◌, ◌++◌, length, slice_set, false, Result, Ok, Err, MatchResult}
 use Rattle.uca_values.specs.Content.{properties_of}
 use Rattle.uca_text.specs.Texts.{NfdText}
 use Rattle.uca_rules.specs.declared.relations.Relation.{Relation}
@@ -14,6 +14,8 @@ use Rattle.uca_plans.specs.Plans.{Basis, Drafting, drafted, with_relation}
 use Rattle.uca_plans.specs.declared.faults.TailorFault.{TailorFault}
 use Rattle.uca_plans.specs.Tailors.{basis_of, out_of_memory}
 use Rattle.uca_drafts.specs.declared.readings.Reader.{Reader}
+use Rattle.uca_drafts.specs.declared.targets.TargetDraft.{TargetDraft}
+use Rattle.uca_drafts.specs.Targets.{drafted_with, insertions_of}
 
 -- what a reader reads by
 abbrev pub basis_in : {A T : Type 0} → Reader A T → Basis
@@ -42,14 +44,14 @@ abbrev pub IsRejected : Basis → Drafting → ℕ → Relation → TailorFault 
 IsRejected basis so_far n r fault =
     ((with_relation basis so_far n r ≡ Err fault.kind) × (fault.relation ≡ n + 1)) ⊎ (fault ≡ out_of_memory)
 
--- The row of a relation's target with these elements takes this position, or it is rejected. So it is with one more relation after n
--- others that gives its target these elements.
-abbrev pub TakesPlace : Basis → List DraftRow → Relation → List DraftElement → Result ℕ TailorKind → Type 0
-TakesPlace basis rows r elements result =
-    (so_far : List Insertion) (n : ℕ) (new : List Insertion)
-    → drafted basis (record { rows = rows; insertions = so_far }) (New n) r ≡ Some (record { elements = elements; insertions = new })
+-- The row of a relation's target takes this position, or the relation is rejected. So it is with one more relation after n others that
+-- gives its target these elements, if the draft is not that of a rejected anchor.
+abbrev pub TakesPlace : Basis → List DraftRow → Relation → TargetDraft → List DraftElement → Result ℕ TailorKind → Type 0
+TakesPlace basis rows r draft elements result =
+    (so_far : List Insertion) (n : ℕ)
+    → drafted basis (record { rows = rows; insertions = so_far }) (New n) r ≡ drafted_with elements draft
     → MatchResult result
     (λ place. (next : Drafting) → (place < length rows → next.rows ≡ slice_set rows place (record { key = r.target.points; elements = elements }))
-    → (length rows ≤ place → next.rows ≡ rows ++ record { key = r.target.points; elements = elements } ∷ []) → next.insertions ≡ so_far ++ new
-    → with_relation basis (record { rows = rows; insertions = so_far }) n r ≡ Ok next)
+    → (length rows ≤ place → next.rows ≡ rows ++ record { key = r.target.points; elements = elements } ∷ [])
+    → next.insertions ≡ so_far ++ insertions_of draft → with_relation basis (record { rows = rows; insertions = so_far }) n r ≡ Ok next)
     (λ kind. with_relation basis (record { rows = rows; insertions = so_far }) n r ≡ Err kind)

@@ -2,7 +2,6 @@
 
 ghost use Rattle.std.specs.Prelude.{◌≡◌, ◌⊎◌, ◌+◌, ◌<◌, ◌≤◌, ◌++◌, ◌∷◌, [], length, map, slice_set, IfOk, IfErr, OnOk, Ok, Err, List, ℕ};
 ghost use Rattle.std.specs.List.{AllByRecursion};
-ghost use Rattle.std.specs.Option.{option_to_list};
 ghost use Rattle.uca_values.specs.Content.{keys_of, properties_of};
 ghost use Rattle.uca_match.specs.Tries.{positions};
 ghost use Rattle.uca_plans.specs.Drafts as drafts;
@@ -13,12 +12,13 @@ ghost use Rattle.uca_plans.specs.Tailors.{basis_of, out_of_memory};
 ghost use Rattle.uca_check.specs.WellFormed.{elements_of};
 ghost use Rattle.uca_drafts.specs.Places.{ArePlaces};
 ghost use Rattle.uca_drafts.specs.Ready.{basis_in, ArePlacesWith, IsReady, IsRejected, TakesPlace};
+ghost use Rattle.uca_drafts.specs.Targets.{insertions_of};
 ghost use Rattle.uca_drafts.specs.Variables.{AreBounds};
 
 use crate::places::{place_of, places_of};
 use crate::readings::Reader;
 use crate::row_drafts::RowDraft;
-use crate::targets::draft_target;
+use crate::targets::{TargetDraft, draft_target};
 use crate::variables::{holds_implicit_variable, variable_span};
 use std::alloc::{AllocError, Allocator};
 use std::marker::Model;
@@ -97,39 +97,34 @@ impl<'a, A: Allocator> Drafting<'a, A> {
         ensures rejected { IfErr result (IsRejected (basis_in reader.now) self.old index relation.now) }
     {
         let mut elements = Vec::new(alloc);
-        match draft_target(reader, &self.rows, relation, index, &mut elements) {
-            Ok(Some(insertion)) => match place_for(reader, &self.rows, relation, &elements) {
-                Ok(place) => {
-                    let row = RowDraft::of_target(&relation.target, elements);
-                    match self.put(place, row, insertion) {
-                        Ok(()) => Ok(()),
-                        Err(error) => Err(TailorFault::from(error)),
-                    }
-                }
-                Err(kind) => Err(rejected(kind, index)),
-            },
-            Ok(None) => Err(rejected(TailorKind::Anchor, index)),
-            Err(error) => Err(TailorFault::from(error)),
+        let draft = draft_target(reader, &self.rows, relation, index, &mut elements)?;
+        match place_for(reader, &self.rows, relation, draft, &elements) {
+            Ok(place) => {
+                let row = RowDraft::of_target(&relation.target, elements);
+                self.put(place, row, draft)?;
+                Ok(())
+            }
+            Err(kind) => Err(rejected(kind, index)),
         }
     }
 
-    /// Puts a row at a position, or after the others, and an insertion, if there is one.
+    /// Puts a row at a position, or after the others, and the insertion of its new weight, if it has one.
     fn put(
         &mut self,
         place: usize,
         row: RowDraft<'a, A>,
-        insertion: Option<Insertion>,
+        draft: TargetDraft,
     ) -> Result<(), AllocError>
         ensures replaced { place < length self.old.rows → OnOk result (self.new.rows ≡ slice_set self.old.rows place row.entry) }
         ensures behind { length self.old.rows ≤ place → OnOk result (self.new.rows ≡ self.old.rows ++ row.entry ∷ []) }
-        ensures insertions { OnOk result (self.new.insertions ≡ self.old.insertions ++ option_to_list insertion) }
+        ensures insertions { OnOk result (self.new.insertions ≡ self.old.insertions ++ insertions_of draft) }
     {
         if place < self.rows.len() {
             self.rows[place] = row;
         } else {
             self.rows.push(row)?;
         }
-        if let Some(insertion) = insertion {
+        if let TargetDraft::NewWeight(insertion) = draft {
             self.insertions.push(insertion)?;
         }
         Ok(())
@@ -149,21 +144,26 @@ fn push_base<'a, A: Allocator, T: Allocator>(
     Ok(())
 }
 
-/// The position of the row of a relation's target with these elements: that of the row with its key, or one after all rows.
+/// The position of the row of a relation's target with this draft and these elements: that of the row with its key, or one
+/// after all rows.
 ///
 /// # Errors
 ///
-/// Why the row is rejected.
+/// Why the relation is rejected.
 fn place_for<A: Allocator, T: Allocator>(
     reader: &Reader<A, T>,
     rows: &[RowDraft<A>],
     relation: &Relation,
+    draft: TargetDraft,
     elements: &[DraftElement],
 ) -> Result<usize, TailorKind>
     requires bounds { AreBounds reader.now.variables (elements_of reader.now.base.now.rows) }
     requires ready { IsReady (basis_in reader.now) (positions reader.now.places.now) rows.now relation.now }
-    ensures { TakesPlace (basis_in reader.now) rows.now relation.now elements.now result }
+    ensures { TakesPlace (basis_in reader.now) rows.now relation.now draft elements.now result }
 {
+    if let TargetDraft::AnchorRejected = draft {
+        return Err(TailorKind::Anchor);
+    }
     if needs_prefix(reader, rows, &relation.target) {
         return Err(TailorKind::NeedsPrefix);
     }

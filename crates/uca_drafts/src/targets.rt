@@ -1,13 +1,13 @@
 //! What relations give their targets.
 
 ghost use Rattle.std.specs.Prelude.{◌≡◌, ◌++◌, ◌∷◌, [], ℕ, List, IfOk, OnOk, option_map};
-ghost use Rattle.std.specs.Option.{option_to_list};
 ghost use Rattle.uca_match.specs.Tries.{positions};
 ghost use Rattle.uca_plans.specs.declared.drafts.DraftElement.{DraftElement};
 ghost use Rattle.uca_plans.specs.Drafts.{anchor_part, accepted_part};
 ghost use Rattle.uca_plans.specs.Plans as plans;
 ghost use Rattle.uca_plans.specs.Plans.{placed_if_accepted, draft_expansion};
 ghost use Rattle.uca_drafts.specs.Ready.{basis_in, ArePlacesWith, ReadsAlike};
+ghost use Rattle.uca_drafts.specs.Targets.{drafted_with};
 
 use crate::elements::{draft_weight, level_of, reweighted, take_last, takes_no_weight};
 use crate::readings::Reader;
@@ -17,8 +17,19 @@ use uca_plans::{DraftElement, DraftWeight, Insertion};
 use uca_rules::Relation;
 use uca_weights::Level;
 
-/// Puts the elements that a relation gives its target into an empty list. They are read over the rows so far. Returns where the
-/// new weight goes, if there is one; `None` if the anchor is rejected. New weights are named by the index of their relation.
+/// What a relation gives its target, apart from the elements.
+#[derive(Clone, Copy)]
+pub(crate) enum TargetDraft {
+    /// Nothing: the anchor has no element that can have the new weight.
+    AnchorRejected,
+    /// No new weight: the strength is `Identical`. The target has the weights of the anchor and of the expansion.
+    Identical,
+    /// A new weight in one of the elements. It goes where the insertion says.
+    NewWeight(Insertion),
+}
+
+/// Puts the elements that a relation gives its target into an empty list. They are read over the rows so far. New weights are
+/// named by the index of their relation. Returns whether the anchor is rejected, and the new weight, if there is one.
 ///
 /// # Errors
 ///
@@ -29,24 +40,24 @@ pub(crate) fn draft_target<A: Allocator, T: Allocator>(
     relation: &Relation,
     index: u32,
     elements: &mut Vec<DraftElement, A>,
-) -> Result<Option<Option<Insertion>>, AllocError>
+) -> Result<TargetDraft, AllocError>
     requires empty { elements.old.items ≡ [] }
     requires places { (more : List (List ℕ)) × ArePlacesWith (positions reader.now.places.now) rows.now more }
     requires alike { ReadsAlike (basis_in reader.now) (positions reader.now.places.now) rows.now relation.now }
-    ensures { IfOk result (λ found. option_map (λ i. record { elements = elements.new.items; insertions = option_to_list i }) found
+    ensures { IfOk result (λ draft. drafted_with elements.new.items draft
         ≡ plans.drafted (basis_in reader.now) (record { rows = rows.now; insertions = [] }) (DraftWeight.New index) relation.now) }
 {
     reader.read(rows, &relation.anchor, elements)?;
     let Some(level) = level_of(relation.strength) else {
         read_expansion(reader, rows, relation, elements)?;
-        return Ok(Some(None));
+        return Ok(TargetDraft::Identical);
     };
     let new = DraftWeight::New(index);
     let Some(insertion) = put_weight(level, relation.before, new, elements)? else {
-        return Ok(None);
+        return Ok(TargetDraft::AnchorRejected);
     };
     match read_expansion(reader, rows, relation, elements) {
-        Ok(()) => Ok(Some(Some(insertion))),
+        Ok(()) => Ok(TargetDraft::NewWeight(insertion)),
         Err(error) => Err(error),
     }
 }
