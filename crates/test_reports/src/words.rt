@@ -74,9 +74,9 @@ affected -- --lines --version | Affected(AffectedWords { changes: false, propert
 affected --changes d h | Affected(AffectedWords { changes: true, properties: "d", rules: "h" })
 affected d h --changes | Affected(AffectedWords { changes: true, properties: "d", rules: "h" })
 affected d -- --changes | Affected(AffectedWords { changes: false, properties: "d", rules: "--changes" })
-changes o d n e c | Changes(ChangesWords { old: "o", old_data: "d", new: "n", new_data: "e", certificate: "c" })
-changes c e -- n d --changes | Changes(ChangesWords { old: "c", old_data: "e", new: "n", new_data: "d", certificate: "--changes" })
-audit-changes o d n e h c | AuditChanges(AuditChangesWords { old: "o", old_data: "d", new: "n", new_data: "e", changes: "h", certificate: "c" })
+changes o d n e c | Changes(ChangesWords { editions: EditionNames { old: "o", old_data: "d", new: "n", new_data: "e" }, certificate: "c" })
+changes c e -- n d --changes | Changes(ChangesWords { editions: EditionNames { old: "c", old_data: "e", new: "n", new_data: "d" }, certificate: "--changes" })
+audit-changes o d n e h c | AuditChanges(AuditChangesWords { editions: EditionNames { old: "o", old_data: "d", new: "n", new_data: "e" }, changes: "h", certificate: "c" })
 rekey c | Rekey(RekeyWords { weighting: None, depth: Weights, certificate: "c" })
 rekey --identical c --weighting shifted | Rekey(RekeyWords { weighting: Some(Shifted), depth: Identical, certificate: "c" })
 rekey --weighting=non-ignorable -- --identical | Rekey(RekeyWords { weighting: Some(NonIgnorable), depth: Weights, certificate: "--identical" })"#;

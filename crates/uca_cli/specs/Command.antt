@@ -229,8 +229,7 @@ Finds olds news run = FindsChanges olds news run
 abbrev pub DoesChanges : {O F M : Type 0} → FileSystem O F M → O → O → ChangesWords → SinkState → SinkState
     → Result ℕ RunFault → Type 0
 DoesChanges files old new words out out_new result =
-    MakesNamed files old new (edition_files words.old.now words.old_data.now words.new.now words.new_data.now)
-    words.certificate.now Finds made_changes out out_new result
+    MakesNamed files old new (edition_files words.editions) words.certificate.now Finds made_changes out out_new result
 
 -- ---- Audits
 
@@ -246,9 +245,7 @@ DoesAudit files old new words out out_new result =
 abbrev pub DoesAuditChanges : {O F M : Type 0} → FileSystem O F M → O → O → AuditChangesWords → SinkState → SinkState
     → Result ℕ RunFault → Type 0
 DoesAuditChanges files old new words out out_new result =
-    OpensAndRuns files old new
-    (change_files words.old.now words.old_data.now words.new.now words.new_data.now words.changes.now words.certificate.now)
-    (out_new ≡ out)
+    OpensAndRuns files old new (change_files words.editions words.changes.now words.certificate.now) (out_new ≡ out)
     (λ olds news. Ran check_result (AuditsChanges olds news out out_new) result) result
 
 -- ---- Affected

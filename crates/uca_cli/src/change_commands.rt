@@ -1,8 +1,7 @@
 //! The subcommands that work with changes from a table and its data file to others: `changes`, `audit-changes` and `rekey`.
 
 ghost use Rattle.uca_cli.specs.Command.{DoesAuditChanges, DoesChanges, DoesRekey, Finds, KeepsAndPrints, KeepsMade, MakesOpened, made_changes, streams};
-ghost use Rattle.uca_named_files.specs.NamedFiles.{file_system};
-ghost use Rattle.uca_named_files.specs.EditionNames.{edition_files_of};
+ghost use Rattle.uca_named_files.specs.NamedFiles.{edition_files, file_system};
 
 use crate::printing::print_changes;
 use crate::statuses::{checked, done};
@@ -12,11 +11,11 @@ use uca_change_runs::{run_audit_changes, run_changes};
 use uca_editions::FoundChanges;
 use uca_named_files::Opens;
 use uca_named_files::keeping::{find_certificate_of_editions, keep_certificate};
-use uca_named_files::opening::{EditionNames, open_change_files, open_editions, open_one};
+use uca_named_files::opening::{open_change_files, open_editions, open_one};
 use uca_rekey::run_rekey;
 use uca_run_parts::faults::{Role, RunFault};
 use uca_weights::{Sink, Source, Weighting};
-use uca_words::{AuditChangesWords, ChangesWords, RekeyWords};
+use uca_words::{AuditChangesWords, ChangesWords, EditionNames, RekeyWords};
 
 /// `changes`.
 pub(crate) fn changes<O: Opens, W: Write>(
@@ -28,14 +27,8 @@ pub(crate) fn changes<O: Opens, W: Write>(
     ensures { DoesChanges (file_system O.open_gives O.same_gives O.create_gives O.keep_gives O.remove_gives O.File.remaining O.Made.contents)
         opener.old opener.new words.now out.old out.new result }
 {
-    let names = EditionNames {
-        old: words.old,
-        old_data: words.old_data,
-        new: words.new,
-        new_data: words.new_data,
-    };
-    match find_certificate_of_editions(opener, &names, words.certificate) {
-        Ok(()) => change_files(alloc, opener, &names, words.certificate, out),
+    match find_certificate_of_editions(opener, &words.editions, words.certificate) {
+        Ok(()) => change_files(alloc, opener, &words.editions, words.certificate, out),
         Err(role) => Err(RunFault::SameAs(role)),
     }
 }
@@ -49,7 +42,7 @@ fn change_files<O: Opens, W: Write>(
     out: &mut Sink<W>,
 ) -> Result<u8, RunFault>
     ensures { MakesOpened (file_system O.open_gives O.same_gives O.create_gives O.keep_gives O.remove_gives O.File.remaining O.Made.contents)
-        opener.old opener.new (edition_files_of names.now) certificate.now Finds made_changes out.old out.new result }
+        opener.old opener.new (edition_files names.now) certificate.now Finds made_changes out.old out.new result }
 {
     match open_editions(opener, names) {
         Ok(mut files) => {
@@ -112,13 +105,7 @@ pub(crate) fn audit_changes<O: Opens, W: Write>(
     ensures { DoesAuditChanges (file_system O.open_gives O.same_gives O.create_gives O.keep_gives O.remove_gives O.File.remaining O.Made.contents)
         opener.old opener.new words.now out.old out.new result }
 {
-    let names = EditionNames {
-        old: words.old,
-        old_data: words.old_data,
-        new: words.new,
-        new_data: words.new_data,
-    };
-    match open_change_files(opener, &names, words.changes, words.certificate) {
+    match open_change_files(opener, &words.editions, words.changes, words.certificate) {
         Ok(mut files) => {
             let run = run_audit_changes(
                 alloc,

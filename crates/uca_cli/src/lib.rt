@@ -29,5 +29,5 @@ pub use uca_sort_runs::{run_sort, run_sort_in, sort_lines};
 pub use uca_tailor_runs::{run_audit, run_audit_in, run_tailor, run_tailor_in, write_tailored};
 pub use uca_words::{
     AffectedWords, AuditChangesWords, AuditWords, ChangesWords, CheckWords, CompareWords,
-    KeysWords, RekeyWords, SortWords, TailorWords, WordFault, Words, read_words,
+    EditionNames, KeysWords, RekeyWords, SortWords, TailorWords, WordFault, Words, read_words,
 };

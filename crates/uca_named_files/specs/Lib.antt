@@ -1,2 +1,1 @@
 pub mod NamedFiles
-pub mod EditionNames

@@ -5,6 +5,7 @@ use Rattle.uca_weights.specs.Streams.{SourceState, SinkState}
 use Rattle.uca_weights.specs.Writes.{Writes}
 use Rattle.uca_certificates.specs.Certificates.{CertificateContent}
 use Rattle.uca_certificates.specs.Texts.{certificate_text}
+use Rattle.uca_words.specs.declared.EditionNames.{EditionNames}
 use Rattle.uca_run_parts.specs.declared.faults.Role.{Role}
 use Rattle.uca_run_parts.specs.declared.faults.Role.TheVariants as roles
 use Rattle.uca_run_parts.specs.declared.faults.RunFault.{RunFault}
@@ -79,16 +80,16 @@ audit_files base properties rules tailored certificate =
     ∷ file_for roles.Tailored tailored ∷ file_for roles.Certificate certificate ∷ []
 
 -- the four files that `changes` reads
-abbrev pub edition_files : List ℕ → List ℕ → List ℕ → List ℕ → List NamedFile
-edition_files before before_data after after_data =
-    file_for roles.Old before ∷ file_for roles.OldData before_data
-    ∷ file_for roles.New after ∷ file_for roles.NewData after_data ∷ []
+abbrev pub edition_files : EditionNames → List NamedFile
+edition_files names =
+    file_for roles.Old names.old.now ∷ file_for roles.OldData names.old_data.now
+    ∷ file_for roles.New names.new.now ∷ file_for roles.NewData names.new_data.now ∷ []
 
 -- the six files of `audit-changes`
-abbrev pub change_files : List ℕ → List ℕ → List ℕ → List ℕ → List ℕ → List ℕ → List NamedFile
-change_files before before_data after after_data changes certificate =
-    file_for roles.Old before ∷ file_for roles.OldData before_data
-    ∷ file_for roles.New after ∷ file_for roles.NewData after_data
+abbrev pub change_files : EditionNames → List ℕ → List ℕ → List NamedFile
+change_files names changes certificate =
+    file_for roles.Old names.old.now ∷ file_for roles.OldData names.old_data.now
+    ∷ file_for roles.New names.new.now ∷ file_for roles.NewData names.new_data.now
     ∷ file_for roles.Changes changes ∷ file_for roles.Certificate certificate ∷ []
 
 -- ---- Opened files

@@ -1,15 +1,14 @@
 //! The file of a certificate: it is none of the files that are read, and it is kept only as a whole.
 
 ghost use Rattle.std.specs.Prelude.{MatchResult, Result, ◌≡◌};
-ghost use Rattle.uca_named_files.specs.NamedFiles.{AreOthers, EndsFile, IsCertificate, IsFirstSame, KeepsCertificate, file_system, make_fault_of, tailor_files};
-ghost use Rattle.uca_named_files.specs.EditionNames.{edition_files_of};
+ghost use Rattle.uca_named_files.specs.NamedFiles.{AreOthers, EndsFile, IsCertificate, IsFirstSame, KeepsCertificate, edition_files, file_system, make_fault_of, tailor_files};
 
-use crate::opening::EditionNames;
 use crate::opens::{MakeFault, Opens};
 use std::io::Write;
 use uca_certificates::{Certificate, write_certificate};
 use uca_run_parts::faults::{Role, RunFault};
 use uca_weights::{Sink, WriteFault};
+use uca_words::EditionNames;
 
 // Whether this name is that of the certificate: the names are equal, or they are of one file.
 fn is_certificate<O: Opens>(opener: &mut O, name: &str, certificate: &str) -> bool
@@ -53,9 +52,9 @@ pub fn find_certificate_of_editions<O: Opens>(
 ) -> Result<(), Role>
     ensures { MatchResult result
         (λ done. AreOthers (file_system O.open_gives O.same_gives O.create_gives O.keep_gives O.remove_gives O.File.remaining O.Made.contents)
-        opener.old opener.new (edition_files_of names.now) certificate.now)
+        opener.old opener.new (edition_files names.now) certificate.now)
         (IsFirstSame (file_system O.open_gives O.same_gives O.create_gives O.keep_gives O.remove_gives O.File.remaining O.Made.contents)
-        opener.old opener.new (edition_files_of names.now) certificate.now) }
+        opener.old opener.new (edition_files names.now) certificate.now) }
 {
     if is_certificate(opener, names.old, certificate) {
         return Err(Role::Old);

@@ -1,13 +1,13 @@
 //! The files of a subcommand: they are opened in the order of the arguments, and nothing of them is read.
 
 ghost use Rattle.std.specs.Prelude.{◌∷◌, [], MatchResult};
-ghost use Rattle.uca_named_files.specs.NamedFiles.{AreOpened, DoesNotOpen, audit_files, file_for, file_system, table_and_data};
-ghost use Rattle.uca_named_files.specs.EditionNames.{change_files_of, edition_files_of};
+ghost use Rattle.uca_named_files.specs.NamedFiles.{AreOpened, DoesNotOpen, audit_files, change_files, edition_files, file_for, file_system, table_and_data};
 
 use crate::opens::Opens;
 use std::io::Read;
 use uca_run_parts::faults::Role;
 use uca_weights::Source;
+use uca_words::EditionNames;
 
 /// The source of a file, or its role if it does not open.
 pub fn open_one<O: Opens>(opener: &mut O, role: Role, name: &str) -> Result<Source<O::File>, Role>
@@ -143,15 +143,6 @@ pub fn open_audit_files<O: Opens>(
     }
 }
 
-/// The names of two tables and their data files.
-#[derive(Clone, Copy)]
-pub struct EditionNames<'a> {
-    pub old: &'a str,
-    pub old_data: &'a str,
-    pub new: &'a str,
-    pub new_data: &'a str,
-}
-
 /// The sources of two tables and their data files.
 #[derive(Drop)]
 pub struct OpenedEditions<F: Read + Drop> {
@@ -169,9 +160,9 @@ pub fn open_editions<O: Opens>(
 ) -> Result<OpenedEditions<O::File>, Role>
     ensures { MatchResult result
         (λ files. AreOpened (file_system O.open_gives O.same_gives O.create_gives O.keep_gives O.remove_gives O.File.remaining O.Made.contents)
-        opener.old opener.new (edition_files_of names.now) (files.old ∷ files.old_data ∷ files.new ∷ files.new_data ∷ []))
+        opener.old opener.new (edition_files names.now) (files.old ∷ files.old_data ∷ files.new ∷ files.new_data ∷ []))
         (DoesNotOpen (file_system O.open_gives O.same_gives O.create_gives O.keep_gives O.remove_gives O.File.remaining O.Made.contents)
-        opener.old opener.new (edition_files_of names.now)) }
+        opener.old opener.new (edition_files names.now)) }
 {
     match open_two(opener, Role::Old, names.old, Role::OldData, names.old_data) {
         Ok((old, old_data)) => match open_two(
@@ -211,10 +202,10 @@ pub fn open_change_files<O: Opens>(
 ) -> Result<OpenedChange<O::File>, Role>
     ensures { MatchResult result
         (λ files. AreOpened (file_system O.open_gives O.same_gives O.create_gives O.keep_gives O.remove_gives O.File.remaining O.Made.contents)
-        opener.old opener.new (change_files_of names.now changes.now certificate.now)
+        opener.old opener.new (change_files names.now changes.now certificate.now)
         (files.editions.old ∷ files.editions.old_data ∷ files.editions.new ∷ files.editions.new_data ∷ files.changes ∷ files.certificate ∷ []))
         (DoesNotOpen (file_system O.open_gives O.same_gives O.create_gives O.keep_gives O.remove_gives O.File.remaining O.Made.contents)
-        opener.old opener.new (change_files_of names.now changes.now certificate.now)) }
+        opener.old opener.new (change_files names.now changes.now certificate.now)) }
 {
     match open_editions(opener, names) {
         Ok(editions) => match open_two(

@@ -13,6 +13,7 @@ use Rattle.uca_weights.specs.WeightingText.{weighting_text, IsNoWeighting}
 use Rattle.uca_words.specs.declared.WordFault.{WordFault}
 use Rattle.uca_words.specs.declared.WordFault.TheVariants.{Refused, Weighting, Memory}
 use Rattle.uca_words.specs.Command.{uca_app}
+use Rattle.uca_words.specs.declared.EditionNames.{EditionNames}
 use Rattle.uca_words.specs.declared.Words.{Words}
 use Rattle.uca_words.specs.declared.Words.TheVariants.{Check, Keys, Sort, Compare, Tailor, Audit, Affected, Changes, AuditChanges, Rekey}
 
@@ -33,9 +34,10 @@ abbrev pub HasFiles : List Row → Bor Text → Bor Text → Type 0
 HasFiles rows table properties = HasWord rows (codes "table") table × HasWord rows (codes "data") properties
 
 -- the old table, its data file, the new table and its data file
-abbrev pub HasEditions : List Row → Bor Text → Bor Text → Bor Text → Bor Text → Type 0
-HasEditions rows old old_data new new_data =
-    HasWord rows (codes "old") old × HasWord rows (codes "old-data") old_data × HasWord rows (codes "new") new × HasWord rows (codes "new-data") new_data
+abbrev pub HasEditions : List Row → EditionNames → Type 0
+HasEditions rows names =
+    HasWord rows (codes "old") names.old × HasWord rows (codes "old-data") names.old_data
+    × HasWord rows (codes "new") names.new × HasWord rows (codes "new-data") names.new_data
 
 -- the subcommand of this name, with these rows of its arguments, says these `Words`
 abbrev pub Says : Text → List Row → Words → Type 0
@@ -58,9 +60,9 @@ Says name rows (Affected words) =
     (name ≡ codes "affected") × (is_given (codes "changes") rows ≡ words.changes) × HasWord rows (codes "data") words.properties
     × HasWord rows (codes "rules") words.rules
 Says name rows (Changes words) =
-    (name ≡ codes "changes") × HasEditions rows words.old words.old_data words.new words.new_data × HasWord rows (codes "certificate") words.certificate
+    (name ≡ codes "changes") × HasEditions rows words.editions × HasWord rows (codes "certificate") words.certificate
 Says name rows (AuditChanges words) =
-    (name ≡ codes "audit-changes") × HasEditions rows words.old words.old_data words.new words.new_data
+    (name ≡ codes "audit-changes") × HasEditions rows words.editions
     × HasWord rows (codes "changes") words.changes × HasWord rows (codes "certificate") words.certificate
 Says name rows (Rekey words) =
     (name ≡ codes "rekey") × HasWeighting rows words.weighting × HasDepth rows words.depth × HasWord rows (codes "certificate") words.certificate

@@ -17,7 +17,7 @@ ghost use Rattle.clap.specs.Takes.{is_given};
 ghost use Rattle.clap.specs.Walk.{texts};
 ghost use Rattle.uca_words.specs.Command.{check_app, keys_app, sort_app, compare_app, tailor_app, audit_app, affected_app, changes_app, audit_changes_app, rekey_app};
 ghost use Rattle.uca_words.specs.Met.{has_words, is_met, IsWeightingFault};
-ghost use Rattle.uca_words.specs.Words.{HasFiles, HasWord, HasWeighting, HasDepth, Says, AreRead, IsFaultOf};
+ghost use Rattle.uca_words.specs.Words.{HasEditions, HasFiles, HasWord, HasWeighting, HasDepth, Says, AreRead, IsFaultOf};
 
 mod builders;
 mod subcommands;
@@ -150,9 +150,9 @@ pub struct AffectedWords<'a> {
     pub rules: &'a str,
 }
 
-/// The arguments of `changes`.
+/// The names of the files of two editions: two tables, each with its data file.
 #[derive(Clone, Copy, Debug)]
-pub struct ChangesWords<'a> {
+pub struct EditionNames<'a> {
     /// The name of the file of the old table.
     pub old: &'a str,
     /// The name of the old table's data file.
@@ -161,6 +161,13 @@ pub struct ChangesWords<'a> {
     pub new: &'a str,
     /// The name of the new table's data file.
     pub new_data: &'a str,
+}
+
+/// The arguments of `changes`.
+#[derive(Clone, Copy, Debug)]
+pub struct ChangesWords<'a> {
+    /// The names of the files of the two editions.
+    pub editions: EditionNames<'a>,
     /// The name of the file that the certificate is written to.
     pub certificate: &'a str,
 }
@@ -168,14 +175,8 @@ pub struct ChangesWords<'a> {
 /// The arguments of `audit-changes`.
 #[derive(Clone, Copy, Debug)]
 pub struct AuditChangesWords<'a> {
-    /// The name of the file of the old table.
-    pub old: &'a str,
-    /// The name of the old table's data file.
-    pub old_data: &'a str,
-    /// The name of the file of the new table.
-    pub new: &'a str,
-    /// The name of the new table's data file.
-    pub new_data: &'a str,
+    /// The names of the files of the two editions.
+    pub editions: EditionNames<'a>,
     /// The name of the file of changes.
     pub changes: &'a str,
     /// The name of the file of the certificate.
@@ -378,15 +379,25 @@ fn affected_words<'a>(found: &ArgMatches<'a>) -> Words<'a>
     })
 }
 
+// The names of the files of two editions.
+fn editions_of<'a>(found: &ArgMatches<'a>) -> EditionNames<'a>
+    requires { has_words changes_app (rows_of (found_of found.now)) ≡ true }
+    ensures { HasEditions (rows_of (found_of found.now)) result }
+{
+    EditionNames {
+        old: word_of(found, "old"),
+        old_data: word_of(found, "old-data"),
+        new: word_of(found, "new"),
+        new_data: word_of(found, "new-data"),
+    }
+}
+
 fn changes_words<'a>(found: &ArgMatches<'a>) -> Words<'a>
     requires { has_words changes_app (rows_of (found_of found.now)) ≡ true }
     ensures { Says (codes "changes") (rows_of (found_of found.now)) result }
 {
     Words::Changes(ChangesWords {
-        old: word_of(found, "old"),
-        old_data: word_of(found, "old-data"),
-        new: word_of(found, "new"),
-        new_data: word_of(found, "new-data"),
+        editions: editions_of(found),
         certificate: word_of(found, "certificate"),
     })
 }
@@ -396,10 +407,7 @@ fn audit_changes_words<'a>(found: &ArgMatches<'a>) -> Words<'a>
     ensures { Says (codes "audit-changes") (rows_of (found_of found.now)) result }
 {
     Words::AuditChanges(AuditChangesWords {
-        old: word_of(found, "old"),
-        old_data: word_of(found, "old-data"),
-        new: word_of(found, "new"),
-        new_data: word_of(found, "new-data"),
+        editions: editions_of(found),
         changes: word_of(found, "changes"),
         certificate: word_of(found, "certificate"),
     })
