@@ -9,7 +9,7 @@ ghost use Rattle.uca_run_parts.specs.Verdicts.{WritesVerdict};
 ghost use Rattle.uca_change_runs.specs.ReadChanges.{change_of};
 ghost use Rattle.uca_change_runs.specs.AuditRun.{AuditsChanges, IsVerdict, RunsAudit};
 
-use crate::files::{ChangeFiles, read_change_files};
+use crate::files::{ChangeFiles, read_editions, read_listed};
 use std::alloc::{Allocator, Global};
 use std::io::{Read, Write};
 use uca_editions::{ChangeFault, ChangeInputs, audit_change, changes_of};
@@ -79,13 +79,20 @@ pub fn run_audit_changes_in<
     ensures { AuditsChanges (old.old ∷ old_data.old ∷ new.old ∷ new_data.old ∷ changes.old ∷ certificate.old ∷ [])
         (old.new ∷ old_data.new ∷ new.new ∷ new_data.new ∷ changes.new ∷ certificate.new ∷ []) out.old out.new result }
 {
-    match read_change_files(alloc, old, old_data, new, new_data, changes, certificate) {
-        Ok(files) => {
-            // All files are dropped in one step: that keeps the proof short.
-            let verdict = write_verdict(alloc, &files, out);
-            drop(files);
-            verdict
-        }
+    match read_editions(alloc, old, old_data, new, new_data) {
+        Ok(editions) => match read_listed(alloc, changes, certificate) {
+            Ok(listed) => {
+                // All files are dropped in one step: that keeps the proof short.
+                let files = ChangeFiles { editions, listed };
+                let verdict = write_verdict(alloc, &files, out);
+                drop(files);
+                verdict
+            }
+            Err(fault) => {
+                drop(editions);
+                Err(fault)
+            }
+        },
         Err(fault) => Err(fault),
     }
 }

@@ -3,8 +3,8 @@
 ghost use Rattle.std.specs.Prelude.{◌≡◌, ◌∷◌, [], false};
 ghost use Rattle.uca_run_parts.specs.Files.{is_role};
 ghost use Rattle.uca_run_parts.specs.ReadFiles.{ReadsFiles};
-ghost use Rattle.uca_change_runs.specs.ChangeFiles.{change_files, change_roles, editions_files, editions_roles};
-ghost use Rattle.uca_change_runs.specs.ReadChanges.{change_of, changes_file, edition_files, edition_of, editions_of, listed_files, listed_of, listed_roles};
+ghost use Rattle.uca_change_runs.specs.ChangeFiles.{editions_files, editions_roles};
+ghost use Rattle.uca_change_runs.specs.ReadChanges.{changes_file, edition_files, edition_of, editions_of, listed_files, listed_of, listed_roles};
 
 use std::alloc::{Allocator, Global};
 use std::io::Read;
@@ -50,35 +50,6 @@ pub struct ChangeFiles<M: Allocator = Global> {
     pub editions: EditionFiles<M>,
     /// What changes from the one to the other.
     pub listed: Listed<M>,
-}
-
-/// Reads the files of a change, in turn, each to its end or its first error.
-///
-/// # Errors
-///
-/// `File` for the first that is rejected.
-pub fn read_change_files<M: Allocator + Copy, A: Read, B: Read, C: Read, D: Read, E: Read, F: Read>(
-    alloc: M,
-    old: &mut Source<A>,
-    old_data: &mut Source<B>,
-    new: &mut Source<C>,
-    new_data: &mut Source<D>,
-    changes: &mut Source<E>,
-    certificate: &mut Source<F>,
-) -> Result<ChangeFiles<M>, RunFault>
-    ensures { ReadsFiles change_files change_roles (old.old ∷ old_data.old ∷ new.old ∷ new_data.old ∷ changes.old ∷ certificate.old ∷ [])
-        (old.new ∷ old_data.new ∷ new.new ∷ new_data.new ∷ changes.new ∷ certificate.new ∷ []) (λ files. change_of files) result }
-{
-    match read_editions(alloc, old, old_data, new, new_data) {
-        Ok(editions) => match read_listed(alloc, changes, certificate) {
-            Ok(listed) => Ok(ChangeFiles { editions, listed }),
-            Err(fault) => {
-                drop(editions);
-                Err(fault)
-            }
-        },
-        Err(fault) => Err(fault),
-    }
 }
 
 /// Reads the files of two editions, in turn, each to its end or its first error.
@@ -133,8 +104,12 @@ fn read_edition<M: Allocator + Copy, A: Read, B: Read>(
     }
 }
 
-// Reads a file of changes, and then a certificate, each to its end or its first error.
-fn read_listed<M: Allocator + Copy, A: Read, B: Read>(
+/// Reads a file of changes, and then a certificate, each to its end or its first error.
+///
+/// # Errors
+///
+/// `File` for the first that is rejected.
+pub fn read_listed<M: Allocator + Copy, A: Read, B: Read>(
     alloc: M,
     changes: &mut Source<A>,
     certificate: &mut Source<B>,
