@@ -199,7 +199,7 @@ pub fn lines_of(ample: Global, texts: &[String]) -> Result<String, AllocError> {
 }
 
 /// The line that is being read after the first bytes of a text.
-pub fn line_behind(text: &[u8], good: usize) -> usize {
+pub fn line_after(text: &[u8], good: usize) -> usize {
     let mut line = 1_usize;
     for byte in text.iter().take(good) {
         if *byte == b'\n' {

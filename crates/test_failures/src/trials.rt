@@ -1,7 +1,7 @@
 //! One failure after the other, in any call.
 
 use crate::answers::{Answer, Memory, Wanted, answered};
-use crate::cases::{Case, bytes, field, length_of_lines, line_behind, lines_of, refused_ends};
+use crate::cases::{Case, bytes, field, length_of_lines, line_after, lines_of, refused_ends};
 use crate::streams::{FILE, NONE, OUT, READ, Trouble};
 use std::alloc::{AllocError, Global};
 use std::cell::Cell;
@@ -239,7 +239,7 @@ fn check_reader(trial: Trial, stream: usize, role: &str) -> Result<(), Fail> {
     };
     let ends = usize::from(!trial.case.is_refused_for(role));
     for good in 0..text.len().saturating_add(ends) {
-        let end = read_end(trial, role, line_behind(text, good))?;
+        let end = read_end(trial, role, line_after(text, good))?;
         let wanted = trial.failing(&end, stream, trial.begun(&end), b"");
         check_each_way(trial, good, wanted)?;
     }

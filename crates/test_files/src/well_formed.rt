@@ -73,21 +73,21 @@ a high variable | 8: 0021 ; [*1C50.0020.0002] | WF4 row 2
 a variable accent | 1: 0020 ; [*0000.0030.0002] | WF3 row 1
 a high letter | 2: 0061 ; [.1C47.0030.0002] | WF2 row 5
 -- Continuations.
-behind a lead | 8: 4E00 ; [.FB40.0020.0002][.CE00.0000.0000] | well-formed
-behind an accent | 8: 4E00 ; [.FB40.0020.0002][.0000.0030.0002][.CE00.0000.0000] | WF1 row 8
-behind FAFF | 8: 4E00 ; [.FAFF.0020.0002][.CE00.0000.0000] | WF1 row 8
-behind FB00 | 8: 4E00 ; [.FB00.0020.0002][.CE00.0000.0000] | well-formed
-behind FBFF | 8: 4E00 ; [.FBFF.0020.0002][.CE00.0000.0000] | well-formed
-behind FC00 | 8: 4E00 ; [.FC00.0020.0002][.CE00.0000.0000] | WF1 row 8
+after a lead | 8: 4E00 ; [.FB40.0020.0002][.CE00.0000.0000] | well-formed
+after an accent | 8: 4E00 ; [.FB40.0020.0002][.0000.0030.0002][.CE00.0000.0000] | WF1 row 8
+after FAFF | 8: 4E00 ; [.FAFF.0020.0002][.CE00.0000.0000] | WF1 row 8
+after FB00 | 8: 4E00 ; [.FB00.0020.0002][.CE00.0000.0000] | well-formed
+after FBFF | 8: 4E00 ; [.FBFF.0020.0002][.CE00.0000.0000] | well-formed
+after FC00 | 8: 4E00 ; [.FC00.0020.0002][.CE00.0000.0000] | WF1 row 8
 first | 8: 4E00 ; [.CE00.0000.0000] | WF1 row 8
-first, with its lead behind | 8: 4E00 ; [.CE00.0000.0000][.FB40.0020.0002] | WF1 row 8
-behind another | 8: 4E00 ; [.FB40.0020.0002][.CE00.0000.0000][.CE00.0000.0000] | WF1 row 8
-behind another, which begins with FB | 8: 4E00 ; [.FB40.0020.0002][.FB41.0000.0000][.CE00.0000.0000] | WF1 row 8
-behind a second lead | 8: 4E00 ; [.FB40.0020.0002][.CE00.0000.0000][.FB41.0020.0002][.CE00.0000.0000] | well-formed
-behind a variable lead | 8: 4E00 ; [*FB40.0020.0002][.CE00.0000.0000] | WF4 row 2
-behind a lead without tertiary | 8: 4E00 ; [.FB40.0020.0000][.CE00.0000.0000] | WF1 row 8
+first, with its lead after | 8: 4E00 ; [.CE00.0000.0000][.FB40.0020.0002] | WF1 row 8
+after another | 8: 4E00 ; [.FB40.0020.0002][.CE00.0000.0000][.CE00.0000.0000] | WF1 row 8
+after another, which begins with FB | 8: 4E00 ; [.FB40.0020.0002][.FB41.0000.0000][.CE00.0000.0000] | WF1 row 8
+after a second lead | 8: 4E00 ; [.FB40.0020.0002][.CE00.0000.0000][.FB41.0020.0002][.CE00.0000.0000] | well-formed
+after a variable lead | 8: 4E00 ; [*FB40.0020.0002][.CE00.0000.0000] | WF4 row 2
+after a lead without tertiary | 8: 4E00 ; [.FB40.0020.0000][.CE00.0000.0000] | WF1 row 8
 with a tertiary | 8: 4E00 ; [.FB40.0020.0002][.CE00.0000.0002] | WF1 row 8
-an accent without tertiary behind a lead | 8: 4E00 ; [.FB40.0020.0002][.0000.0030.0000] | WF1 row 8
+an accent without tertiary after a lead | 8: 4E00 ; [.FB40.0020.0002][.0000.0030.0000] | WF1 row 8
 a letter without tertiary | 8: 4E00 ; [.1C50.0020.0000] | WF1 row 8
 an accent without tertiary | 8: 4E00 ; [.0000.0030.0000] | WF1 row 8
 nothing | 8: 4E00 ; [.0000.0000.0000] | well-formed

@@ -97,7 +97,7 @@ fn relations(alloc: Global, rules: &Rules) -> Result<String, AllocError> {
 fn refusal(alloc: Global, rules: &[u8], fault: RuleFault) -> Result<String, Fail> {
     let RuleFault { byte, kind } = fault;
     if kind == RuleFaultKind::Memory {
-        holds(byte <= rules.len(), "Memory behind the end")?;
+        holds(byte <= rules.len(), "Memory after the end")?;
         return Err(Fail::from(kind));
     }
     Ok(format!(in alloc; "{kind} at {byte}")?)

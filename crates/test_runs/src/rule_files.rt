@@ -22,13 +22,13 @@ fn slow<'a>(text: &'a [u8], calls: &'a Calls) -> Source<FakeReader<'a>> {
 fn run_over(
     alloc: Global,
     rules: &mut Source<FakeReader>,
-    (before, behind): (&Calls, &Calls),
+    (before, after): (&Calls, &Calls),
     out: &mut Sink<Vec<u8>>,
 ) -> Result<bool, RunFault> {
     let mut base = slow(TABLE, before);
     let mut properties = slow(DATA, before);
-    let mut tailored = slow(TABLE, behind);
-    let mut certificate = slow(b"", behind);
+    let mut tailored = slow(TABLE, after);
+    let mut certificate = slow(b"", after);
     run_audit(
         alloc,
         &mut base,
@@ -57,13 +57,13 @@ fn check(
     line: &str,
     (failed, bytes): (bool, usize),
 ) -> Result<(), Fail> {
-    let (before, calls, behind) = (Calls::new(), Calls::new(), Calls::new());
+    let (before, calls, after) = (Calls::new(), Calls::new(), Calls::new());
     let mut rules = Source::new(FakeReader::new(text, pace, &calls));
     let mut out = Sink::new(Vec::new(alloc));
-    let run = run_over(alloc, &mut rules, (&before, &behind), &mut out);
+    let run = run_over(alloc, &mut rules, (&before, &after), &mut out);
     let said = line_of(alloc, &run, &mut out);
     let is_read = rules.failed() == failed && calls.bytes.get() == bytes && calls.late.get() == 0;
-    let is_alone = behind.all.get() == 0 && out.into_inner().is_empty();
+    let is_alone = after.all.get() == 0 && out.into_inner().is_empty();
     holds(
         is_read && is_alone && said.as_slice() == line.as_bytes(),
         line,

@@ -90,7 +90,7 @@ fn levels() -> Result<(), Fail> {
     let all = compare_keys(&zeros, &zeros[..598], 255);
     holds(all == (Greater, 255), "as many levels as there can be")?;
     let some = compare_keys(&zeros, &zeros[..80], 255);
-    holds(some == (Greater, 41), "the level behind 40")
+    holds(some == (Greater, 41), "the level after 40")
 }
 
 /// The keys of two lists of elements, and how they compare.

@@ -35,19 +35,19 @@ module _ (base : TableContent) (properties : Properties) (relations : List Relat
       inl ([], made d, ap (λ es. made d ∷ es) alone.0, lead)
 
   -- after a draft, or none, only a continuation directly after a lead has a gap
-  gapless_behind : (last : Option DraftElement) (es : List DraftElement) → AllByRecursion IsListedIn es → HasNoGaps last es
+  gapless_after : (last : Option DraftElement) (es : List DraftElement) → AllByRecursion IsListedIn es → HasNoGaps last es
       → (before : List Element) (e : Element) (after : List Element) → map made es ≡ before ++ e ∷ after → HasGap e
       → IsContinuation e × FollowsLead last before
-  gapless_behind last [] listed whole [] e after parts gap = absurd (cc)
-  gapless_behind last [] listed whole (b ∷ before) e after parts gap = absurd (cc)
-  gapless_behind last (d ∷ es) listed whole [] e after parts gap =
+  gapless_after last [] listed whole [] e after parts gap = absurd (cc)
+  gapless_after last [] listed whole (b ∷ before) e after parts gap = absurd (cc)
+  gapless_after last (d ∷ es) listed whole [] e after parts gap =
       let same : made d ≡ e = cc in
       let found = whole.0 (kinds.gap_draft base properties relations plan case d listed.0 (subst HasGap (sym same) gap)) in
       (subst IsContinuation same (kinds.made_continuation base properties relations plan case d listed.0 found.0), inr (refl, found.1))
-  gapless_behind last (d ∷ es) listed whole (b ∷ before) e after parts gap =
+  gapless_after last (d ∷ es) listed whole (b ∷ before) e after parts gap =
       let same : made d ≡ b = cc in
       let rest : map made es ≡ before ++ e ∷ after = cc in
-      let later = gapless_behind (Some d) es listed.1 whole.1 before e after rest gap in
+      let later = gapless_after (Some d) es listed.1 whole.1 before e after rest gap in
       (later.0, subst (λ x. FollowsLead last (x ∷ before)) same (follows_more last d before listed.0 later.1))
 
   -- so a row of listed elements without gaps meets WF1
@@ -55,7 +55,7 @@ module _ (base : TableContent) (properties : Properties) (relations : List Relat
       → MeetsWF1 (numbered_row (plans_in base properties relations plan case) row)
   gapless_row row listed whole = record {
     gaps = λ before e after parts gap.
-        let found = gapless_behind None row.elements listed whole before e after parts gap in (found.0, at_first before found.1);
+        let found = gapless_after None row.elements listed whole before e after parts gap in (found.0, at_first before found.1);
   }
     where
       -- there is no lead before the first element

@@ -113,7 +113,7 @@ module _ (base : TableContent) (properties : Properties) (relations : List Relat
     -- the number of nothing that was there lies between those of the new weight and the anchor's
     pub none_between : (w : DraftWeight) → IsAmong with_new w → IsBetween (number anchor) (number (New place)) (number w) → ⊥
     none_between w among between = elim between [
-      | inl up ↦ next.none_behind w
+      | inl up ↦ next.none_after w
           (stood anchor w anchor_here among up.0)
           (stood w (New place) among new_there up.1)
       | inr down ↦ next.none_before w

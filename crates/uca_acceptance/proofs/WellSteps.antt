@@ -165,9 +165,9 @@ last_held Three basis a well n last accepted read outside = outside_held basis a
 
 module _ (basis : Basis) (n : ℕ) (rule : Relation) (a b : Drafting) (holds : Holds basis n a) (step : IsStep basis n rule a b) where
   -- a level's list after the step
-  list_behind : (level other : Level) (at : IsPlacedStep basis n rule a b holds step level)
+  list_after : (level other : Level) (at : IsPlacedStep basis n rule a b holds step level)
       → list_at other basis b ≡ all_inserted other (insertion_at level rule.before n at.placed.part.last ∷ []) (list_at other basis a)
-  list_behind level other at =
+  list_after level other at =
       step_list basis n rule a b step other ∙ ap (λ is. all_inserted other is (list_at other basis a)) (ap (λ d. d.insertions) at.placed.is)
 
   -- the new weight is put in next to the anchor's
@@ -179,18 +179,18 @@ module _ (basis : Basis) (n : ℕ) (rule : Relation) (a b : Drafting) (holds : H
       (λ among. let less = good.names n among in omega (arith, less))
 
   -- weights are in good order with the new one
-  stands_behind : (level : Level) (at : IsPlacedStep basis n rule a b holds step level) (well : HasWellWeights basis a) → well.E at.placed.part.last
+  stands_after : (level : Level) (at : IsPlacedStep basis n rule a b holds step level) (well : HasWellWeights basis a) → well.E at.placed.part.last
       → StandWell (list_at One basis b) (list_at Two basis b) (list_at Three basis b) (WithElement well.E (reweighted level (New n) at.placed.part.last))
-  stands_behind One at well held =
-      rw (list_behind One One at, list_behind One Two at, list_behind One Three at)
+  stands_after One at well held =
+      rw (list_after One One at, list_after One Two at, list_after One Three at)
       (new_well_one (list_at One basis a) (list_at Two basis a) (list_at Three basis a) well.E at.placed.part.last rule.before n held well.well
       at.not_ignorable (accepted_low at.placed.part.last at.placed.accepted) (put_in_list One at))
-  stands_behind Two at well held =
-      rw (list_behind Two One at, list_behind Two Two at, list_behind Two Three at)
+  stands_after Two at well held =
+      rw (list_after Two One at, list_after Two Two at, list_after Two Three at)
       (new_well_two (list_at One basis a) (list_at Two basis a) (list_at Three basis a) well.E at.placed.part.last rule.before n held well.well
       at.not_ignorable (put_in_list Two at))
-  stands_behind Three at well held =
-      rw (list_behind Three One at, list_behind Three Two at, list_behind Three Three at)
+  stands_after Three at well held =
+      rw (list_after Three One at, list_after Three Two at, list_after Three Three at)
       (new_well_three (list_at One basis a) (list_at Two basis a) (list_at Three basis a) well.E at.placed.part.last rule.before n held well.well
       at.not_ignorable (put_in_list Three at))
 
@@ -211,7 +211,7 @@ module _ (basis : Basis) (n : ℕ) (rule : Relation) (a b : Drafting) (holds : H
       let last = last_held level basis a well n part.last at.placed.accepted read.1 outside.1.0 in
       let front = all_held basis a well part.front read.0 outside.0 in
       let behind = all_held basis a well expansion (expansion_read basis a well ranges rule.expansion texts.expands) outside.1.1 in
-      step_well basis n rule a b well step F (λ e held. inl held) (stands_behind level at well last)
+      step_well basis n rule a b well step F (λ e held. inl held) (stands_after level at well last)
       (λ e either. elim either [
         | inl held ↦ listed_grown basis n a b good.1 e (well.listed e held)
         | inr same ↦ subst (IsListed (list_at One basis b) (list_at Two basis b) (list_at Three basis b)) (sym same)

@@ -114,9 +114,9 @@ module _ (tailoring : Tailoring) (known shared : Flags) (before : List Relation)
                 let two = (is_shared level p.new).0 has in
                 let none : 1 ≤ times_new level p.new front → ⊥ =
                 λ some. found.own_before ((new_counted tailoring before front are_before level p.new).1 some) in
-                let none_behind : 1 ≤ times_new level p.new back → ⊥ =
+                let none_after : 1 ≤ times_new level p.new back → ⊥ =
                 λ some. found.own_after ((new_counted tailoring after back are_after level p.new).1 some) in
-                ⊎_elim none none_behind (either (times_new level p.new front) (times_new level p.new back) (omega arith));
+                ⊎_elim none none_after (either (times_new level p.new front) (times_new level p.new back) (omega arith));
             low = found.low;
           })
 

@@ -15,7 +15,7 @@ use Rattle.uca_tailorings.proofs.Relating.{weight_of_new}
 pub one_weight : (level : Level) (before : List Element) (last : Element) (expansion : List Element) (v w : ℕ) →
     placed level before last expansion v ≡ placed level before last expansion w → v ≡ w
 one_weight level before last expansion v w same =
-    let behind : reweighted level v last ∷ expansion ≡ reweighted level w last ∷ expansion =
+    let after : reweighted level v last ∷ expansion ≡ reweighted level w last ∷ expansion =
     append_cancel_left before (reweighted level v last ∷ expansion) (reweighted level w last ∷ expansion) same in
     let element : reweighted level v last ≡ reweighted level w last = cc in
     sym (weight_of_new level v last) ∙ ap (weight level) element ∙ weight_of_new level w last

@@ -8,11 +8,11 @@ use Rattle.uca_weights.proofs.RunPlaces.{ends_fit}
 use Rattle.uca_certificates.specs.Texts.{of_level, IsRunLine}
 
 -- each run after a run takes at least one weight
-few_behind : (level : Level) (s : Run) (runs : List Run) → s.from + s.count ≤ weights_end level → AreRising level (Some s) runs
+few_after : (level : Level) (s : Run) (runs : List Run) → s.from + s.count ≤ weights_end level → AreRising level (Some s) runs
     → length runs + (s.from + s.count) ≤ weights_end level
-few_behind level s [] end h = omega arith
-few_behind level s (r ∷ runs) end h =
-    omega (arith, few_behind level r runs h.0.range.from_end h.1, h.0.above.0, h.0.some)
+few_after level s [] end h = omega arith
+few_after level s (r ∷ runs) end h =
+    omega (arith, few_after level r runs h.0.range.from_end h.1, h.0.above.0, h.0.some)
 
 -- so a level has at most 65,535
 pub few_proper : (level : Level) (runs : List Run) → AreProperRuns level runs → length runs ≤ 0xFFFF
@@ -21,7 +21,7 @@ few_proper level runs h = few level runs h.rise
     few : (level : Level) (runs : List Run) → AreRising level None runs → length runs ≤ 0xFFFF
     few level [] h = lit≤ tt
     few level (r ∷ runs) h =
-        omega (arith, few_behind level r runs h.0.range.from_end h.1, h.0.range.from_zero, h.0.some, ends_fit level)
+        omega (arith, few_after level r runs h.0.range.from_end h.1, h.0.range.from_zero, h.0.some, ends_fit level)
 
 -- a proper run has numbers of 16 bits
 run_fits : (level : Level) (previous : Option Run) (r : Run) → IsProperRun level previous r → IsRunLine (record { level = level; run = r })

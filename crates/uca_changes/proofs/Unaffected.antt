@@ -7,7 +7,7 @@ use Rattle.uca_weights.specs.declared.Depth.{Depth}
 use Rattle.uca_weights.specs.declared.Weighting.{Weighting}
 use Rattle.uca_weights.proofs.Lists.{each_weaker, each_contained}
 use Rattle.uca_values.specs.Implicit.{implicit}
-use Rattle.uca_text.specs.Texts.{Text, nfd_text, letters, code_points}
+use Rattle.uca_text.specs.Texts.{Text, nfd_text, with_classes, code_points}
 use Rattle.uca_text.specs.Occurring.{OccursInOrder}
 use Rattle.uca_text.proofs.Occurring.{occurs_trans, each_occurring}
 use Rattle.uca_elements.specs.Rows.{rows_of}
@@ -44,9 +44,9 @@ module _ (change : Change) (is : IsChange change) (accepted : IsAcceptedChange c
 
   -- so the text has one reading in letters
   same_letters : (text : List ℕ) → IsUnaffectedText change text →
-      letters (nfd text) (map change.old_properties.class (nfd text)) ≡ letters (nfd text) (map change.new_properties.class (nfd text))
+      with_classes (nfd text) (map change.old_properties.class (nfd text)) ≡ with_classes (nfd text) (map change.new_properties.class (nfd text))
   same_letters text stays =
-      ap (letters (nfd text))
+      ap (with_classes (nfd text))
       (same_classes change.old_properties change.new_properties (nfd text)
       (each_weaker (IsSamePoint change.old_properties change.new_properties) (λ c. change.old_properties.class c ≡ change.new_properties.class c)
       (λ c same. same.class) (nfd text) (same_points text stays)))
@@ -67,7 +67,7 @@ module _ (change : Change) (is : IsChange change) (accepted : IsAcceptedChange c
 
   -- the letters of a text by the old data file
   abbrev old_letters : List ℕ → Text
-  old_letters text = letters (nfd text) (map change.old_properties.class (nfd text))
+  old_letters text = with_classes (nfd text) (map change.old_properties.class (nfd text))
 
   -- their code points occur in the text
   points_occur : (text : List ℕ) → OccursInOrder (code_points (old_letters text)) (nfd text)

@@ -6,8 +6,8 @@ use Rattle.std.proofs.lemmas.List.{take_more}
 pub use Rattle.uca_weights.proofs.Lists.{each_push, each_weaker, each_any, taken_more}
 
 -- one more element of a row, after those of the rows before it
-pub behind_more : (front xs : List Element) (i : ℕ) (d : Element) → i < length xs → (front ++ take i xs) ++ get_or xs i d ∷ [] ≡ front ++ take (i + 1) xs
-behind_more front xs i d within = append_assoc front (take i xs) (get_or xs i d ∷ []) ∙ ap (λ ys. front ++ ys) (sym (take_more xs i d within))
+pub after_more : (front xs : List Element) (i : ℕ) (d : Element) → i < length xs → (front ++ take i xs) ++ get_or xs i d ∷ [] ≡ front ++ take (i + 1) xs
+after_more front xs i d within = append_assoc front (take i xs) (get_or xs i d ∷ []) ∙ ap (λ ys. front ++ ys) (sym (take_more xs i d within))
 
 -- what is true of each element is true of the one at a position
 pub each_at : (P : Element → Type 0) (xs : List Element) (i : ℕ) (d : Element) → i < length xs → AllByRecursion P xs → P (get_or xs i d)

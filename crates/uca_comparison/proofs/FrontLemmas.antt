@@ -10,7 +10,7 @@ use Rattle.uca_weights.specs.declared.Weighting.{Weighting}
 use Rattle.uca_order.specs.Levels.{lexicographic, weight_at}
 use Rattle.uca_order.specs.Fetched.{length_to, shared_length}
 use Rattle.uca_order.specs.StreamedWeights.{weighted_after}
-use Rattle.uca_comparison.specs.Fronts.{FrontState, weights_left, weight_here, front_weights, first_of, counted, count_with, fetched, is_empty, is_ended, behind_one, advanced}
+use Rattle.uca_comparison.specs.Fronts.{FrontState, weights_left, weight_here, front_weights, first_of, counted, count_with, fetched, is_empty, is_ended, after_one, advanced}
 use Rattle.uca_comparison.specs.Walks.{non_zero, GoOn}
 use Rattle.uca_order.proofs.KeyOrder.{cmp_less, cmp_equal, cmp_greater}
 
@@ -229,33 +229,33 @@ pub fetched_all : (f : FrontState) → is_ended f ≡ true → fetched f ≡ f.p
 fetched_all f is = ended_count f.passed f.elements is
 
 -- after the element at the front
-rest_behind : (weighting : Weighting) (level passed : ℕ) (flag : Bool) (es : List Element)
-    → weights_left weighting level (behind_one flag passed es) ≡ behind (weights_of_rest weighting level flag es)
-rest_behind weighting level passed flag [] = refl
-rest_behind weighting level passed flag (e ∷ es) = refl
+rest_after : (weighting : Weighting) (level passed : ℕ) (flag : Bool) (es : List Element)
+    → weights_left weighting level (after_one flag passed es) ≡ behind (weights_of_rest weighting level flag es)
+rest_after weighting level passed flag [] = refl
+rest_after weighting level passed flag (e ∷ es) = refl
 
 pub advanced_weights : (weighting : Weighting) (level : ℕ) (f : FrontState)
     → weights_left weighting level (advanced f) ≡ behind (weights_left weighting level f)
-advanced_weights weighting level f = rest_behind weighting level f.passed f.after_variable f.elements
+advanced_weights weighting level f = rest_after weighting level f.passed f.after_variable f.elements
 
-passed_behind : (passed : ℕ) (flag : Bool) (es : List Element) → (behind_one flag passed es).passed ≡ count_with passed es
-passed_behind passed flag [] = refl
-passed_behind passed flag (e ∷ es) = refl
+passed_after : (passed : ℕ) (flag : Bool) (es : List Element) → (after_one flag passed es).passed ≡ count_with passed es
+passed_after passed flag [] = refl
+passed_after passed flag (e ∷ es) = refl
 
 pub advanced_count : (weighting : Weighting) (level : ℕ) (f : FrontState) → (advanced f).passed ≡ with_first (weights_left weighting level f) f.passed
-advanced_count weighting level f = passed_behind f.passed f.after_variable f.elements ∙ front_count weighting level f
+advanced_count weighting level f = passed_after f.passed f.after_variable f.elements ∙ front_count weighting level f
 
 -- fewer elements are left after it
-fewer_behind : (passed : ℕ) (flag : Bool) (es : List Element) → is_empty es ≡ false → length (behind_one flag passed es).elements < length es
-fewer_behind passed flag [] is = absurd cc
-fewer_behind passed flag (e ∷ es) is = omega arith
+fewer_after : (passed : ℕ) (flag : Bool) (es : List Element) → is_empty es ≡ false → length (after_one flag passed es).elements < length es
+fewer_after passed flag [] is = absurd cc
+fewer_after passed flag (e ∷ es) is = omega arith
 
 pub fewer_left : (f : FrontState) → is_ended f ≡ false → length (advanced f).elements < length f.elements
-fewer_left f is = fewer_behind f.passed f.after_variable f.elements is
+fewer_left f is = fewer_after f.passed f.after_variable f.elements is
 
-no_more_behind : (passed : ℕ) (flag : Bool) (es : List Element) → length (behind_one flag passed es).elements ≤ length es
-no_more_behind passed flag [] = omega arith
-no_more_behind passed flag (e ∷ es) = omega arith
+no_more_after : (passed : ℕ) (flag : Bool) (es : List Element) → length (after_one flag passed es).elements ≤ length es
+no_more_after passed flag [] = omega arith
+no_more_after passed flag (e ∷ es) = omega arith
 
 pub no_more_left : (f : FrontState) → length (advanced f).elements ≤ length f.elements
-no_more_left f = no_more_behind f.passed f.after_variable f.elements
+no_more_left f = no_more_after f.passed f.after_variable f.elements

@@ -26,12 +26,12 @@ abbrev pub begun : List Element → FrontState
 begun es = record { elements = es; after_variable = false; passed = 0 }
 
 -- after the element at the front
-abbrev pub behind_one : Bool → ℕ → List Element → FrontState
-behind_one after_variable passed [] = record { elements = []; after_variable = after_variable; passed = passed }
-behind_one after_variable passed (e ∷ es) = record { elements = es; after_variable = is_after_variable after_variable e; passed = counted passed 1 }
+abbrev pub after_one : Bool → ℕ → List Element → FrontState
+after_one after_variable passed [] = record { elements = []; after_variable = after_variable; passed = passed }
+after_one after_variable passed (e ∷ es) = record { elements = es; after_variable = is_after_variable after_variable e; passed = counted passed 1 }
 
 abbrev pub advanced : FrontState → FrontState
-advanced f = behind_one f.after_variable f.passed f.elements
+advanced f = after_one f.after_variable f.passed f.elements
 
 abbrev pub is_empty : List Element → Bool
 is_empty [] = true

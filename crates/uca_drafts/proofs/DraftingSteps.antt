@@ -22,7 +22,7 @@ use Rattle.uca_plans.specs.Plans.{holds_implicit_variable, one_drafted}
 use Rattle.uca_plans.specs.Plans.{with_relation, and_then, with_relations}
 use Rattle.uca_plans.specs.Keys.{keys_in, is_among, with_key, with_targets}
 use Rattle.uca_plans.proofs.KeyPlaces.{has_key_is, keys_with_row}
-use Rattle.uca_plans.proofs.PlaceRows.{row_at, row_behind}
+use Rattle.uca_plans.proofs.PlaceRows.{row_at, row_after}
 use Rattle.uca_plans.proofs.PlanSteps.{target_row, step_of}
 use Rattle.uca_drafts.specs.Places.{IsPlaceOf}
 use Rattle.uca_drafts.specs.Ready.{IsReady, IsRejected}
@@ -74,11 +74,11 @@ module _ (basis : Basis) (so_far : Drafting) (n : ℕ) (r : Relation) where
         ∙ cond-true (holds_implicit_variable (elements_of basis.base) (target_row r new)) _ _ holds
 
     -- any other is added
-    pub accepted : (behind : Drafting) → needs_prefix basis.properties.class so_far.rows r.target.points ≡ false →
+    pub accepted : (after : Drafting) → needs_prefix basis.properties.class so_far.rows r.target.points ≡ false →
         passes_limit (target_row r new) (with_row (target_row r new) so_far.rows) ≡ false →
-        holds_implicit_variable (elements_of basis.base) (target_row r new) ≡ false → behind.rows ≡ with_row (target_row r new) so_far.rows →
-        behind.insertions ≡ so_far.insertions ++ new.insertions → with_relation basis so_far n r ≡ Ok behind
-    accepted behind has within outside rows insertions =
+        holds_implicit_variable (elements_of basis.base) (target_row r new) ≡ false → after.rows ≡ with_row (target_row r new) so_far.rows →
+        after.insertions ≡ so_far.insertions ++ new.insertions → with_relation basis so_far n r ≡ Ok after
+    accepted after has within outside rows insertions =
         ap (one_drafted basis so_far r.target.points) is ∙ cond-false (needs_prefix basis.properties.class so_far.rows r.target.points) _ _ has
         ∙ cond-false (passes_limit (target_row r new) (with_row (target_row r new) so_far.rows)) _ _ within
         ∙ cond-false (holds_implicit_variable (elements_of basis.base) (target_row r new)) _ _ outside
@@ -98,7 +98,7 @@ module _ (basis : Basis) (places : Positions) (rows : List DraftRow) (r : Relati
       let new : has_key rows row.key ≡ false =
       has_key_is rows row.key ∙ ap (is_among (keys_in rows)) its ∙ not_in_front (keys_in rows) ready.more r.target.points other in
       let full : 200000 ≤ length rows = ready.full other in
-      let one_more : length (with_row row rows) ≡ length rows + 1 = ap length (row_behind row rows new) ∙ length-append rows (row ∷ []) in
+      let one_more : length (with_row row rows) ≡ length rows + 1 = ap length (row_after row rows new) ∙ length-append rows (row ∷ []) in
       or_right (ltb 32 (length row.elements)) (ltb 200000 (length (with_row row rows)))
       (lt-ltb 200000 (length (with_row row rows)) (omega (arith, full, one_more)))
 
@@ -117,9 +117,9 @@ module _ (basis : Basis) (places : Positions) (rows : List DraftRow) (r : Relati
         (sym (place_in_front 0 (keys_in rows) ready.more row.key old) ∙ ap (λ k. place_at 0 (keys_in rows ++ ready.more) k) its ∙ stands.stands)).1
 
     -- after them there is no such row
-    pub behind : length rows ≤ place → with_row row rows ≡ rows ++ row ∷ []
-    behind past =
-        row_behind row rows
+    pub after : length rows ≤ place → with_row row rows ≡ rows ++ row ∷ []
+    after past =
+        row_after row rows
         (has_key_is rows row.key ∙ ap (is_among (keys_in rows)) its ∙ sym (front_is (keys_in rows) ready.more r.target.points place stands)
         ∙ le-ltb place (length (keys_in rows)) (omega (arith, past, count)))
 
@@ -132,9 +132,9 @@ module _ (basis : Basis) (places : Positions) (rows : List DraftRow) (r : Relati
         (le-ltb 200000 (length (with_row row rows)) (omega (arith, same, all, count, ready.few)))
 
     -- and so there is after them
-    pub room_behind : length rows ≤ place → length row.elements ≤ 32 → passes_limit row (with_row row rows) ≡ false
-    room_behind past few =
-        let one_more : length (with_row row rows) ≡ length rows + 1 = ap length (behind past) ∙ length-append rows (row ∷ []) in
+    pub room_after : length rows ≤ place → length row.elements ≤ 32 → passes_limit row (with_row row rows) ≡ false
+    room_after past few =
+        let one_more : length (with_row row rows) ≡ length rows + 1 = ap length (after past) ∙ length-append rows (row ∷ []) in
         or_from (ltb 32 (length row.elements)) (ltb 200000 (length (with_row row rows))) (le-ltb 32 (length row.elements) few)
         (le-ltb 200000 (length (with_row row rows)) (omega (arith, one_more, past, stands.within, ready.few)))
 
@@ -152,7 +152,7 @@ pub in_limits : (basis : Basis) (places : Positions) (so_far : Drafting) (r : Re
 in_limits basis places so_far r new ready place stands few =
     ⊎_elim
     (λ there. room_replaced basis places so_far.rows r ready (target_row r new) refl place stands there few)
-    (λ past. room_behind basis places so_far.rows r ready (target_row r new) refl place stands past few)
+    (λ past. room_after basis places so_far.rows r ready (target_row r new) refl place stands past few)
     (cases_lt place (length so_far.rows))
 
 -- so its row is put in its position, or after the others, if it has no implicit element among the variable ones
@@ -167,7 +167,7 @@ row_put basis places so_far n r new ready is has place stands few outside next o
     accepted basis so_far n r new is next has (in_limits basis places so_far r new ready place stands few) outside
     (⊎_elim
     (λ there. over there ∙ sym (replaced basis places so_far.rows r ready (target_row r new) refl place stands there))
-    (λ past. last past ∙ sym (behind basis places so_far.rows r ready (target_row r new) refl place stands past))
+    (λ past. last past ∙ sym (after basis places so_far.rows r ready (target_row r new) refl place stands past))
     (cases_lt place (length so_far.rows)))
     insertions
 

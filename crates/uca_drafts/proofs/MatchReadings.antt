@@ -10,7 +10,7 @@ use Rattle.uca_values.specs.declared.ImplicitRange.{ImplicitRange}
 use Rattle.uca_values.specs.Content.{Properties}
 use Rattle.uca_values.specs.Implicit.{implicit}
 use Rattle.uca_values.proofs.ImplicitPairs.{of_pair}
-use Rattle.uca_text.specs.Texts.{NfdText, Text, letters_of}
+use Rattle.uca_text.specs.Texts.{NfdText, Text, classed}
 use Rattle.uca_elements.specs.Rows.{same_key}
 use Rattle.uca_elements.specs.Positions.{Positions, is_placed, place_at}
 use Rattle.uca_elements.specs.Parts.{Part, Row, Implicit, IsPartOf}
@@ -86,10 +86,10 @@ module _ (places : Positions) (rows : List DraftRow) (more : List (List ℕ)) (a
 
   -- what the matches of a text give are its draft elements, read over the keys that have positions
   pub text_stands : (text : NfdText) →
-      flat_map (match_drafts ranges properties rows) (matches_of places (parts (is_placed places) (letters_of text)))
+      flat_map (match_drafts ranges properties rows) (matches_of places (parts (is_placed places) (classed text)))
       ≡ read_over ranges properties (is_placed places) rows text
   text_stands text =
-      matches_stand (letters_of text) (parts (is_placed places) (letters_of text)) (each_part (is_placed places) (letters_of text))
+      matches_stand (classed text) (parts (is_placed places) (classed text)) (each_part (is_placed places) (classed text))
 
 -- ---- One match after the other
 

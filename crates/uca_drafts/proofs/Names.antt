@@ -9,7 +9,7 @@ use Rattle.uca_plans.specs.declared.drafts.DraftWeight.TheVariants.{New}
 use Rattle.uca_plans.specs.declared.drafts.Insertion.{Insertion}
 use Rattle.uca_plans.specs.Lists.{IsNamedBelow, InsertsBelow}
 use Rattle.uca_plans.specs.Drafts.{AnchorPart, anchor_part, accepted_part, draft_elements}
-use Rattle.uca_plans.specs.Plans.{Basis, Drafting, Drafted, begun, drafted_at, draft_expansion, placed_behind, placed_if_accepted, with_relations}
+use Rattle.uca_plans.specs.Plans.{Basis, Drafting, Drafted, begun, drafted_at, draft_expansion, placed_after, placed_if_accepted, with_relations}
 use Rattle.uca_plans.proofs.PlanSteps.{AreSteps, steps_of}
 
 -- the new weights are those of relations from one on, below another, and rise
@@ -35,24 +35,24 @@ named_drafted n (Some level) before anchor expansion new gives = go (accepted_pa
     go : (part : Option AnchorPart) → placed_if_accepted level before (New n) part expansion ≡ Some new → AreNamedFrom n (n + 1) new.insertions
     go None gives = cc
     go (Some part) gives =
-        let same : placed_behind level before (New n) part expansion ≡ new = cc in
+        let same : placed_after level before (New n) part expansion ≡ new = cc in
         let least : n ≤ n = omega arith in
         let over : n + 1 ≤ n + 1 = omega arith in
         subst (λ (d : Drafted). AreNamedFrom n (n + 1) d.insertions) same (n, refl, least, over)
 
 -- along the relations the names rise
-pub named_along : (basis : Basis) (n : ℕ) (relations : List Relation) (here behind : Drafting) → AreSteps basis n relations here behind →
-    AreNamedFrom 0 n here.insertions → AreNamedFrom 0 (n + length relations) behind.insertions
-named_along basis n [] here behind steps named =
+pub named_along : (basis : Basis) (n : ℕ) (relations : List Relation) (here after : Drafting) → AreSteps basis n relations here after →
+    AreNamedFrom 0 n here.insertions → AreNamedFrom 0 (n + length relations) after.insertions
+named_along basis n [] here after steps named =
     let same : n ≡ n + 0 = omega arith in
     subst (λ (d : Drafting). AreNamedFrom 0 (n + 0) d.insertions) steps (subst (λ k. AreNamedFrom 0 k here.insertions) same named)
-named_along basis n (r ∷ relations) here behind steps named =
+named_along basis n (r ∷ relations) here after steps named =
     let step = steps.1 in
     let added = named_drafted n (level_of r.strength) r.before (draft_elements basis.ranges basis.properties here.rows r.anchor)
     (draft_expansion basis here r.expansion) step.new step.is_drafted in
     let same : n + 1 + length relations ≡ n + length (r ∷ relations) = omega arith in
-    subst (λ k. AreNamedFrom 0 k behind.insertions) same
-    (named_along basis (n + 1) relations steps.0 behind steps.2
+    subst (λ k. AreNamedFrom 0 k after.insertions) same
+    (named_along basis (n + 1) relations steps.0 after steps.2
     (subst (AreNamedFrom 0 (n + 1)) (sym step.insertions) (named_append 0 n (n + 1) here.insertions step.new.insertions named added)))
 
 -- the insertions of all relations

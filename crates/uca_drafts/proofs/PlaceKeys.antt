@@ -39,9 +39,9 @@ targets_same before r keys there =
     (among_kept before keys r.target.points there)
 
 -- a new one comes after the others
-pub targets_behind : (before : List Relation) (r : Relation) (keys : List (List ℕ)) → is_among (with_targets before keys) r.target.points ≡ false →
+pub targets_after : (before : List Relation) (r : Relation) (keys : List (List ℕ)) → is_among (with_targets before keys) r.target.points ≡ false →
     with_targets (before ++ r ∷ []) keys ≡ with_targets before keys ++ r.target.points ∷ []
-targets_behind before r keys other =
+targets_after before r keys other =
     targets_more before r keys ∙ with_key_is r.target.points (with_targets before keys)
     ∙ cond-false (is_among (with_targets before keys) r.target.points) (with_targets before keys) (with_targets before keys ++ r.target.points ∷ []) other
 
@@ -133,7 +133,7 @@ module _ (base : List (List ℕ)) (relations : List Relation) (points : List (Li
       let keys : List (List ℕ) = with_targets (take i relations) base in
       subst (λ ks. AreKeysUpTo ks news)
       (sym (ap (λ rs. with_targets rs base) (relations_more relations i r within is)
-      ∙ targets_behind (take i relations) r base (not_among distinct other)))
+      ∙ targets_after (take i relations) r base (not_among distinct other)))
       (record {
         are = pushed ∙ ap (λ ks. ks ++ r.target.points ∷ []) up_to.are;
         few = omega (arith, room, ap length pushed, length-append points (r.target.points ∷ []));

@@ -49,7 +49,7 @@ ReachesFurther before r after listed rest = (later : List Relation) × (listed �
 
 -- or before it
 abbrev EndsBefore : List Relation → List Relation → List Relation → Type 0
-EndsBefore before listed rest = (s : Relation) × (more : List Relation) × (behind : List Relation) × (before ≡ listed ++ s ∷ more) × (rest ≡ s ∷ behind)
+EndsBefore before listed rest = (s : Relation) × (more : List Relation) × (after : List Relation) × (before ≡ listed ++ s ∷ more) × (rest ≡ s ∷ after)
 
 -- it is one of the two
 reaches_or_ends : (before : List Relation) (r : Relation) (after listed rest : List Relation) → before ++ r ∷ after ≡ listed ++ rest →

@@ -116,7 +116,7 @@ impl<'a, A: Allocator> Drafting<'a, A> {
         draft: TargetDraft,
     ) -> Result<(), AllocError>
         ensures replaced { place < length self.old.rows → OnOk result (self.new.rows ≡ slice_set self.old.rows place row.entry) }
-        ensures behind { length self.old.rows ≤ place → OnOk result (self.new.rows ≡ self.old.rows ++ row.entry ∷ []) }
+        ensures after { length self.old.rows ≤ place → OnOk result (self.new.rows ≡ self.old.rows ++ row.entry ∷ []) }
         ensures insertions { OnOk result (self.new.insertions ≡ self.old.insertions ++ insertions_of draft) }
     {
         if place < self.rows.len() {

@@ -7,7 +7,7 @@ use Rattle.std.proofs.lemmas.Bool.{false_from_ne_true}
 use Rattle.std.proofs.lemmas.Grind.{flat_map-append}
 use Rattle.std.proofs.lemmas.List.{take-append-le, drop-append-le}
 use Rattle.uca_weights.specs.declared.Element.{Element}
-use Rattle.uca_text.specs.Texts.{Letter, Text, code_points, is_starter}
+use Rattle.uca_text.specs.Texts.{ClassedCodePoint, Text, code_points, is_starter}
 use Rattle.uca_elements.specs.Rows.{Rows, Keys, is_key}
 use Rattle.uca_elements.specs.Parts.{part_elements}
 use Rattle.uca_elements.specs.Reading.{longest_key, non_starters_at_front, after_non_starters, removed, others, Portion, row_portion, portion_at, portion, parts, read}
@@ -24,7 +24,7 @@ module _ (keys : Keys) (t : Text) (cut : IsCut keys t) where
   -- ---- The key at the front
 
   -- no key goes from before a cut past it
-  no_key_past : (c : Letter) (s u : Text) (d : ℕ) → t ≡ u → 0 < d → d ≤ length u → keys (code_points ((c ∷ s) ++ take d u)) ≡ false
+  no_key_past : (c : ClassedCodePoint) (s u : Text) (d : ℕ) → t ≡ u → 0 < d → d ≤ length u → keys (code_points ((c ∷ s) ++ take d u)) ≡ false
   no_key_past c s u zero same some within = absurd (omega arith)
   no_key_past c s [] (suc d) same some within = absurd (omega arith)
   no_key_past c s (e ∷ u) (suc d) same some within =
@@ -41,7 +41,7 @@ module _ (keys : Keys) (t : Text) (cut : IsCut keys t) where
       ap (λ front. cond (keys (code_points front)) (suc n) (longest_key keys (s ++ t) n)) (take-append-le (suc n) s t within)
       ∙ ap (cond (keys (code_points (take (suc n) s))) (suc n)) (longest_before s n (omega arith))
 
-  longest_of_piece : (c : Letter) (s : Text) → longest_key keys ((c ∷ s) ++ t) (length ((c ∷ s) ++ t)) ≡ longest_key keys (c ∷ s) (length (c ∷ s))
+  longest_of_piece : (c : ClassedCodePoint) (s : Text) → longest_key keys ((c ∷ s) ++ t) (length ((c ∷ s) ++ t)) ≡ longest_key keys (c ∷ s) (length (c ∷ s))
   longest_of_piece c s =
       let long = length-append (c ∷ s) t in
       no_longer keys ((c ∷ s) ++ t) (length (c ∷ s)) (length ((c ∷ s) ++ t)) (omega (arith, long))
@@ -73,23 +73,23 @@ module _ (keys : Keys) (t : Text) (cut : IsCut keys t) where
       elim (is_starter c) as (λ b. cond b (c ∷ (s ++ t)) (after_non_starters (s ++ t)) ≡ cond b (c ∷ s) (after_non_starters s) ++ t)
       [ true ↦ refl | false ↦ after_before s ]
 
-  row_portion_before : (front behind : Text) → row_portion keys front (behind ++ t) ≡ followed_by t (row_portion keys front behind)
-  row_portion_before front behind =
-      let marks : Text = non_starters_at_front behind in
+  row_portion_before : (front tail : Text) → row_portion keys front (tail ++ t) ≡ followed_by t (row_portion keys front tail)
+  row_portion_before front tail =
+      let marks : Text = non_starters_at_front tail in
       let set : List Bool = removed keys front [] marks in
-      ap₂ (λ m r. portion_of front m (removed keys front [] m) r) (marks_before behind) (after_before behind)
+      ap₂ (λ m r. portion_of front m (removed keys front [] m) r) (marks_before tail) (after_before tail)
       ∙ ap (λ rest. let p : Portion = record { part = (portion_of front marks set []).part; rest = rest } in p)
-      (sym (append_assoc (others set marks) (after_non_starters behind) t))
+      (sym (append_assoc (others set marks) (after_non_starters tail) t))
 
   -- ---- One portion
 
-  portion_at_before : (c : Letter) (s : Text) (n : ℕ) → n ≤ length (c ∷ s) → portion_at keys c (s ++ t) n ≡ followed_by t (portion_at keys c s n)
+  portion_at_before : (c : ClassedCodePoint) (s : Text) (n : ℕ) → n ≤ length (c ∷ s) → portion_at keys c (s ++ t) n ≡ followed_by t (portion_at keys c s n)
   portion_at_before c s zero within = refl
   portion_at_before c s (suc n) within =
       ap₂ (row_portion keys) (take-append-le (suc n) (c ∷ s) t within) (drop-append-le (suc n) (c ∷ s) t within)
       ∙ row_portion_before (take (suc n) (c ∷ s)) (drop (suc n) (c ∷ s))
 
-  portion_before : (c : Letter) (s : Text) → portion keys c (s ++ t) ≡ followed_by t (portion keys c s)
+  portion_before : (c : ClassedCodePoint) (s : Text) → portion keys c (s ++ t) ≡ followed_by t (portion keys c s)
   portion_before c s =
       ap (portion_at keys c (s ++ t)) (longest_of_piece c s)
       ∙ portion_at_before c s (longest_key keys (c ∷ s) (length (c ∷ s))) (longest_within keys (c ∷ s) (length (c ∷ s)))

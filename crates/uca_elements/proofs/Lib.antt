@@ -5,7 +5,7 @@ pub mod PlaceLemmas
 pub mod ExtensionSteps
 pub mod ExtensionEnd
 pub mod Portions
-pub mod OccurringLetters
+pub mod OccurringMembers
 pub mod Parts
 pub mod CutReading
 pub mod RelatedReading

@@ -3,7 +3,7 @@ use Rattle.std.proofs.Common.{◌≡◌, ℕ, zero, suc, ◌<◌, ◌≤◌, Lis
 use Rattle.std.proofs.Common.{◌∙◌, append-nil, ⊎_elim, arith, ◌+◌, drop, get_or, Option, Some, None, add-one, length-drop, length-take-le, take-append-drop, append_assoc}
 use Rattle.std.proofs.lemmas.Bool.{cond_both, cond-true, cond-false, cases_Bool, cases_eq, both_ways}
 use Rattle.std.specs.List.{AllByRecursion}
-use Rattle.uca_text.specs.Texts.{Letter, Text, code_points, is_starter, NfdText}
+use Rattle.uca_text.specs.Texts.{ClassedCodePoint, Text, code_points, is_starter, NfdText}
 use Rattle.uca_elements.specs.Rows.{Keys}
 use Rattle.uca_elements.specs.Reading.{is_taken, removed, members, others, longest_key, non_starters_at_front, after_non_starters, IsAtStarter}
 use Rattle.uca_elements.specs.Reading.{AreNonStartersBefore}
@@ -15,7 +15,7 @@ use Rattle.uca_elements.specs.Places.{is_gone, left_at}
 use Rattle.uca_elements.specs.Matches.{IsLongest}
 use Rattle.uca_elements.specs.declared.places.Place.{Place}
 use Rattle.uca_elements.specs.declared.matches.Longest.{Longest}
-use Rattle.uca_elements.proofs.PlaceLemmas.{not_true, letter_at, left_gone, left_kept, left_end}
+use Rattle.uca_elements.proofs.PlaceLemmas.{not_true, classed_at, left_gone, left_kept, left_end}
 
 -- ---- The longest key at the front of a text, and the non-starters after it
 
@@ -59,17 +59,17 @@ no_longer keys t p (suc q) within none =
 
 -- ---- The non-starters
 
--- a text whose first letter is a non-starter, and one whose first letter is a starter
-pub marks_more : (c : Letter) (t : Text) → is_starter c ≡ false → non_starters_at_front (c ∷ t) ≡ c ∷ non_starters_at_front t
+-- a text that begins with a non-starter, and one that begins with a starter
+pub marks_more : (c : ClassedCodePoint) (t : Text) → is_starter c ≡ false → non_starters_at_front (c ∷ t) ≡ c ∷ non_starters_at_front t
 marks_more c t h = cond-false (is_starter c) [] (c ∷ non_starters_at_front t) h
 
-pub after_more : (c : Letter) (t : Text) → is_starter c ≡ false → after_non_starters (c ∷ t) ≡ after_non_starters t
+pub after_more : (c : ClassedCodePoint) (t : Text) → is_starter c ≡ false → after_non_starters (c ∷ t) ≡ after_non_starters t
 after_more c t h = cond-false (is_starter c) (c ∷ t) (after_non_starters t) h
 
-pub marks_none : (c : Letter) (t : Text) → is_starter c ≡ true → non_starters_at_front (c ∷ t) ≡ []
+pub marks_none : (c : ClassedCodePoint) (t : Text) → is_starter c ≡ true → non_starters_at_front (c ∷ t) ≡ []
 marks_none c t h = cond-true (is_starter c) [] (c ∷ non_starters_at_front t) h
 
-pub after_none : (c : Letter) (t : Text) → is_starter c ≡ true → after_non_starters (c ∷ t) ≡ c ∷ t
+pub after_none : (c : ClassedCodePoint) (t : Text) → is_starter c ≡ true → after_non_starters (c ∷ t) ≡ c ∷ t
 after_none c t h = cond-true (is_starter c) (c ∷ t) (after_non_starters t) h
 
 pub marks-append : (t : Text) → non_starters_at_front t ++ after_non_starters t ≡ t
@@ -123,7 +123,7 @@ extended_is_key keys start skipped (c ∷ marks) key =
 
 -- ---- The walk to the longest key at the front of what is left
 
--- a node stands for the letters that are left between `first` and i, and `best` is the longest key among their beginnings
+-- a node stands for the code points that are left between `first` and i, and `best` is the longest key among their beginnings
 pub record IsWalked {N : Type 0} (stands_for : N → List ℕ → Type 0) (keys : Keys) (s : NfdText) (place : Place) (first i : ℕ) (node : N)
     (best : Option (Longest N)) : Type 0 where
   pub count : ℕ
@@ -133,8 +133,8 @@ pub record IsWalked {N : Type 0} (stands_for : N → List ℕ → Type 0) (keys 
   pub node_is : stands_for node (code_points (take count (left_at s place first)))
   pub best_is : IsLongest stands_for keys s place first count best
 
--- one more letter of a list
-one_more : (t rest : Text) (count : ℕ) (c : Letter) → count ≤ length t → c ∷ rest ≡ drop count t →
+-- one more code point of a list
+one_more : (t rest : Text) (count : ℕ) (c : ClassedCodePoint) → count ≤ length t → c ∷ rest ≡ drop count t →
     (suc count ≤ length t) × (rest ≡ drop (suc count) t) × (take (suc count) t ≡ take count t ++ c ∷ [])
 one_more t rest count c within split =
     let some : count < length t = omega (arith, length-drop count t, ap length split) in
@@ -171,18 +171,18 @@ module _ {N : Type 0} (stands_for : N → List ℕ → Type 0) (keys : Keys) (s 
         best_is = walked.best_is;
       }
 
-  -- the walk comes to a letter
+  -- the walk comes to a code point
   module _ (i : ℕ) (node : N) (best : Option (Longest N)) (same : length s.classes ≡ length s.points) (within : i < length s.points)
       (kept : is_gone place i ≡ false) (walked : IsWalked stands_for keys s place first i node best) where
     here : (suc walked.count ≤ length (left_at s place first)) × (left_at s place (suc i) ≡ drop (suc walked.count) (left_at s place first)) ×
-        (take (suc walked.count) (left_at s place first) ≡ take walked.count (left_at s place first) ++ letter_at s i ∷ [])
-    here = one_more (left_at s place first) (left_at s place (suc i)) walked.count (letter_at s i) walked.passed
+        (take (suc walked.count) (left_at s place first) ≡ take walked.count (left_at s place first) ++ classed_at s i ∷ [])
+    here = one_more (left_at s place first) (left_at s place (suc i)) walked.count (classed_at s i) walked.passed
         (sym (left_kept s place i same within kept) ∙ walked.left)
 
-    -- the code points up to the letter
+    -- the code points up to the code point
     pub so_far : code_points (take (suc walked.count) (left_at s place first)) ≡ code_points (take walked.count (left_at s place first))
         ++ get_or s.points i 0 ∷ []
-    so_far = ap code_points here.2 ∙ code_points-push (take walked.count (left_at s place first)) (letter_at s i)
+    so_far = ap code_points here.2 ∙ code_points-push (take walked.count (left_at s place first)) (classed_at s i)
 
     -- no key goes on so
     pub walked_out : BeginsNoKeyIn keys (code_points (take walked.count (left_at s place first)) ++ get_or s.points i 0 ∷ []) →
@@ -225,7 +225,7 @@ module _ {N : Type 0} (stands_for : N → List ℕ → Type 0) (keys : Keys) (s 
     pub longest_now : (next : N) →
         stands_for next (code_points (take walked.count (left_at s place first)) ++ get_or s.points i 0 ∷ []) →
         keys (code_points (take walked.count (left_at s place first)) ++ get_or s.points i 0 ∷ []) ≡ true →
-        IsLongest stands_for keys s place first (suc walked.count) (Some (record { node = next; behind = i + 1 }))
+        IsLongest stands_for keys s place first (suc walked.count) (Some (record { node = next; after = i + 1 }))
     longest_now next stands some =
         let t : Text = left_at s place first in
         let key : keys (code_points (take (suc walked.count) t)) ≡ true = ap keys so_far ∙ some in

@@ -5,13 +5,13 @@ use Rattle.std.proofs.Math.Seq.{take-length, drop-length}
 use Rattle.std.proofs.lemmas.Bool.{cond-true}
 use Rattle.std.specs.List.{AllByRecursion, list_all}
 use Rattle.std.proofs.lemmas.List.Elements.{recursion_from_All, All-contains_itself}
-use Rattle.uca_text.specs.Texts.{Letter, Text, code_points}
+use Rattle.uca_text.specs.Texts.{ClassedCodePoint, Text, code_points}
 use Rattle.uca_text.specs.Occurring.{OccursInOrder}
 use Rattle.uca_text.proofs.Occurring.{occurs_refl, occurs_more, occurs_front, occurs_trans, occurs_append, occurs_take, occurs_code_points, each_occurring}
 use Rattle.uca_elements.specs.Rows.{Keys}
 use Rattle.uca_elements.specs.Parts.{Row, IsPartOf}
 use Rattle.uca_elements.specs.Reading.{is_taken, removed, members, others, longest_key, non_starters_at_front, after_non_starters, Portion, portion_at, portion, parts}
-use Rattle.uca_elements.proofs.OccurringLetters.{occurs_members, occurs_others}
+use Rattle.uca_elements.proofs.OccurringMembers.{occurs_members, occurs_others}
 use Rattle.uca_elements.proofs.MatchLemmas.{marks-append, longest_is_key, extended_is_key}
 use Rattle.uca_elements.proofs.ReadingLemmas.{portion_of, portion_shorter, parts_portion}
 
@@ -29,7 +29,7 @@ longest_same keys new t same (suc n) =
     (longest_same keys new t same n)
 
 -- one non-starter is taken under both, or under neither
-taken_same : (keys new : Keys) (t key skipped : Text) (c : Letter) → HaveSameKeys keys new t → OccursInOrder (key ++ c ∷ []) t →
+taken_same : (keys new : Keys) (t key skipped : Text) (c : ClassedCodePoint) → HaveSameKeys keys new t → OccursInOrder (key ++ c ∷ []) t →
     is_taken keys key skipped c ≡ is_taken new key skipped c
 taken_same keys new t key skipped c same occurs =
     ap (λ b. list_all (λ d. nat_lt d.class c.class) skipped && b) (same (code_points (key ++ c ∷ [])) (occurs_code_points (key ++ c ∷ []) t occurs))
@@ -53,71 +53,71 @@ removed_same keys new t key skipped (c ∷ marks) same occurs =
 
 -- ---- A key at the front, and what follows it
 
-module _ (front behind t : Text) (whole : front ++ behind ≡ t) where
-  marks_occur : OccursInOrder (front ++ non_starters_at_front behind) t
+module _ (front tail t : Text) (whole : front ++ tail ≡ t) where
+  marks_occur : OccursInOrder (front ++ non_starters_at_front tail) t
   marks_occur =
-      let before : OccursInOrder (non_starters_at_front behind) (non_starters_at_front behind ++ after_non_starters behind) =
-      occurs_front (non_starters_at_front behind) (after_non_starters behind) in
-      let marks : OccursInOrder (non_starters_at_front behind) behind = subst (OccursInOrder (non_starters_at_front behind)) (marks-append behind) before in
-      subst (OccursInOrder (front ++ non_starters_at_front behind)) whole
-      (occurs_append front front (non_starters_at_front behind) behind (occurs_refl front) marks)
+      let before : OccursInOrder (non_starters_at_front tail) (non_starters_at_front tail ++ after_non_starters tail) =
+      occurs_front (non_starters_at_front tail) (after_non_starters tail) in
+      let marks : OccursInOrder (non_starters_at_front tail) tail = subst (OccursInOrder (non_starters_at_front tail)) (marks-append tail) before in
+      subst (OccursInOrder (front ++ non_starters_at_front tail)) whole
+      (occurs_append front front (non_starters_at_front tail) tail (occurs_refl front) marks)
 
   -- the extended key occurs in the text
-  key_occurs : (set : List Bool) → OccursInOrder (front ++ members set (non_starters_at_front behind)) t
+  key_occurs : (set : List Bool) → OccursInOrder (front ++ members set (non_starters_at_front tail)) t
   key_occurs set =
-      occurs_trans (front ++ members set (non_starters_at_front behind)) (front ++ non_starters_at_front behind) t
-      (occurs_append front front (members set (non_starters_at_front behind)) (non_starters_at_front behind) (occurs_refl front)
-      (occurs_members set (non_starters_at_front behind))) marks_occur
+      occurs_trans (front ++ members set (non_starters_at_front tail)) (front ++ non_starters_at_front tail) t
+      (occurs_append front front (members set (non_starters_at_front tail)) (non_starters_at_front tail) (occurs_refl front)
+      (occurs_members set (non_starters_at_front tail))) marks_occur
 
   -- and so does what is read after it
-  rest_occurs : (set : List Bool) → OccursInOrder (others set (non_starters_at_front behind) ++ after_non_starters behind) t
+  rest_occurs : (set : List Bool) → OccursInOrder (others set (non_starters_at_front tail) ++ after_non_starters tail) t
   rest_occurs set =
-      let inside : OccursInOrder (others set (non_starters_at_front behind) ++ after_non_starters behind)
-      (non_starters_at_front behind ++ after_non_starters behind) =
-      occurs_append (others set (non_starters_at_front behind)) (non_starters_at_front behind) (after_non_starters behind)
-      (after_non_starters behind) (occurs_others set (non_starters_at_front behind)) (occurs_refl (after_non_starters behind)) in
-      let later : OccursInOrder (others set (non_starters_at_front behind) ++ after_non_starters behind) behind =
-      subst (OccursInOrder (others set (non_starters_at_front behind) ++ after_non_starters behind)) (marks-append behind) inside in
-      subst (OccursInOrder (others set (non_starters_at_front behind) ++ after_non_starters behind)) whole
-      (occurs_append [] front (others set (non_starters_at_front behind) ++ after_non_starters behind) behind tt later)
+      let inside : OccursInOrder (others set (non_starters_at_front tail) ++ after_non_starters tail)
+      (non_starters_at_front tail ++ after_non_starters tail) =
+      occurs_append (others set (non_starters_at_front tail)) (non_starters_at_front tail) (after_non_starters tail)
+      (after_non_starters tail) (occurs_others set (non_starters_at_front tail)) (occurs_refl (after_non_starters tail)) in
+      let later : OccursInOrder (others set (non_starters_at_front tail) ++ after_non_starters tail) tail =
+      subst (OccursInOrder (others set (non_starters_at_front tail) ++ after_non_starters tail)) (marks-append tail) inside in
+      subst (OccursInOrder (others set (non_starters_at_front tail) ++ after_non_starters tail)) whole
+      (occurs_append [] front (others set (non_starters_at_front tail) ++ after_non_starters tail) tail tt later)
 
 -- ---- One part
 
 -- what is left after the first part occurs in the text
-portion_rest_occurs : (keys : Keys) (c : Letter) (t : Text) (n : ℕ) → OccursInOrder (portion_at keys c t n).rest (c ∷ t)
+portion_rest_occurs : (keys : Keys) (c : ClassedCodePoint) (t : Text) (n : ℕ) → OccursInOrder (portion_at keys c t n).rest (c ∷ t)
 portion_rest_occurs keys c t zero = occurs_more t c t (occurs_refl t)
 portion_rest_occurs keys c t (suc n) =
     let front : Text = take (suc n) (c ∷ t) in
-    let behind : Text = drop (suc n) (c ∷ t) in
-    rest_occurs front behind (c ∷ t) (take-append-drop (suc n) (c ∷ t)) (removed keys front [] (non_starters_at_front behind))
+    let after : Text = drop (suc n) (c ∷ t) in
+    rest_occurs front after (c ∷ t) (take-append-drop (suc n) (c ∷ t)) (removed keys front [] (non_starters_at_front after))
 
 -- the same keys give the same first part
-portion_at_same : (keys new : Keys) (c : Letter) (t : Text) (n : ℕ) → HaveSameKeys keys new (c ∷ t) → portion_at keys c t n ≡ portion_at new c t n
+portion_at_same : (keys new : Keys) (c : ClassedCodePoint) (t : Text) (n : ℕ) → HaveSameKeys keys new (c ∷ t) → portion_at keys c t n ≡ portion_at new c t n
 portion_at_same keys new c t zero same = refl
 portion_at_same keys new c t (suc n) same =
     let front : Text = take (suc n) (c ∷ t) in
-    let behind : Text = drop (suc n) (c ∷ t) in
-    ap (λ set. portion_of front (non_starters_at_front behind) set (after_non_starters behind))
-    (removed_same keys new (c ∷ t) front [] (non_starters_at_front behind) same
-    (marks_occur front behind (c ∷ t) (take-append-drop (suc n) (c ∷ t))))
+    let after : Text = drop (suc n) (c ∷ t) in
+    ap (λ set. portion_of front (non_starters_at_front after) set (after_non_starters after))
+    (removed_same keys new (c ∷ t) front [] (non_starters_at_front after) same
+    (marks_occur front after (c ∷ t) (take-append-drop (suc n) (c ∷ t))))
 
-portion_same : (keys new : Keys) (c : Letter) (t : Text) → HaveSameKeys keys new (c ∷ t) → portion keys c t ≡ portion new c t
+portion_same : (keys new : Keys) (c : ClassedCodePoint) (t : Text) → HaveSameKeys keys new (c ∷ t) → portion keys c t ≡ portion new c t
 portion_same keys new c t same =
     portion_at_same keys new c t (longest_key keys (c ∷ t) (length (c ∷ t))) same
     ∙ ap (portion_at new c t) (longest_same keys new (c ∷ t) same (length (c ∷ t)))
 
 -- it is a key that occurs in a text, or a code point of it
-portion_is_part : (keys : Keys) (c : Letter) (t whole : Text) (n : ℕ) → OccursInOrder (c ∷ t) whole →
+portion_is_part : (keys : Keys) (c : ClassedCodePoint) (t whole : Text) (n : ℕ) → OccursInOrder (c ∷ t) whole →
     longest_key keys (c ∷ t) (length (c ∷ t)) ≡ n → IsPartOf keys whole (portion_at keys c t n).part
 portion_is_part keys c t whole zero occurs none =
     (each_occurring (Contains (code_points whole)) (code_points (c ∷ t)) (code_points whole) (occurs_code_points (c ∷ t) whole occurs)
     (recursion_from_All (Contains (code_points whole)) (code_points whole) (All-contains_itself (code_points whole)))).0
 portion_is_part keys c t whole (suc n) occurs found =
     let front : Text = take (suc n) (c ∷ t) in
-    let behind : Text = drop (suc n) (c ∷ t) in
-    let marks : Text = non_starters_at_front behind in
+    let after : Text = drop (suc n) (c ∷ t) in
+    let marks : Text = non_starters_at_front after in
     let set : List Bool = removed keys front [] marks in
-    let within = key_occurs front behind (c ∷ t) (take-append-drop (suc n) (c ∷ t)) set in (
+    let within = key_occurs front after (c ∷ t) (take-append-drop (suc n) (c ∷ t)) set in (
       extended_is_key keys front [] marks (longest_is_key keys (c ∷ t) (length (c ∷ t)) n found),
       occurs_code_points (front ++ members set marks) whole (occurs_trans (front ++ members set marks) (c ∷ t) whole within occurs),
     )

@@ -1,10 +1,10 @@
--- Positions in a text: what is left from there on, and which letters are gone.
+-- Positions in a text: what is left from there on, and which code points are gone.
 use Rattle.std.proofs.Common.{◌≡◌, ℕ, zero, suc, ◌+◌, ◌<◌, ◌≤◌, List, [], ◌∷◌, ◌++◌, length, drop, get_or, Bool, true, false, cond, sym, ap, refl}
 use Rattle.std.proofs.Common.{◌∙◌, arith, ◌≢◌, ◌-◌, ◌*◌, ◌/◌, ◌%◌, ◌^◌, ◌&&◌, nat_le, nat_eq, bit_and, bit_or, w64, ⊎_elim}
 use Rattle.std.proofs.lemmas.Bool.{cond_both, cond-true, cond-false, cases_lt}
 use Rattle.std.proofs.lemmas.List.{drop_all}
 use Rattle.std.proofs.Math.Seq.{drop-cons}
-use Rattle.uca_text.specs.Texts.{Letter, Text, NfdText, letters, letters_of}
+use Rattle.uca_text.specs.Texts.{ClassedCodePoint, Text, NfdText, with_classes, classed}
 use Rattle.uca_elements.specs.Places.{is_gone, left_from, left_at, left_of, IsPlace}
 use Rattle.uca_elements.specs.declared.places.Place.{Place}
 use Rattle.std.proofs.lemmas.Bool.Decides.{nat_tests}
@@ -16,35 +16,35 @@ use mir.Val.{bits}
 
 -- ---- Letters
 
-pub length-letters : (points classes : List ℕ) → length classes ≡ length points → length (letters points classes) ≡ length points
-length-letters [] classes same = refl
-length-letters (c ∷ points) [] same = absurd (omega arith)
-length-letters (c ∷ points) (k ∷ classes) same = ap suc (length-letters points classes (omega arith))
+pub length-with_classes : (points classes : List ℕ) → length classes ≡ length points → length (with_classes points classes) ≡ length points
+length-with_classes [] classes same = refl
+length-with_classes (c ∷ points) [] same = absurd (omega arith)
+length-with_classes (c ∷ points) (k ∷ classes) same = ap suc (length-with_classes points classes (omega arith))
 
--- the letter at a position
-abbrev pub letter_at : NfdText → ℕ → Letter
-letter_at s i = record { code = get_or s.points i 0; class = get_or s.classes i 0 }
+-- the code point at a position
+abbrev pub classed_at : NfdText → ℕ → ClassedCodePoint
+classed_at s i = record { code = get_or s.points i 0; class = get_or s.classes i 0 }
 
-letters_at : (points classes : List ℕ) (i : ℕ) (d : Letter) → length classes ≡ length points → i < length points →
-    get_or (letters points classes) i d ≡ record { code = get_or points i 0; class = get_or classes i 0 }
+letters_at : (points classes : List ℕ) (i : ℕ) (d : ClassedCodePoint) → length classes ≡ length points → i < length points →
+    get_or (with_classes points classes) i d ≡ record { code = get_or points i 0; class = get_or classes i 0 }
 letters_at [] classes i d same within = absurd (omega arith)
 letters_at (c ∷ points) [] i d same within = absurd (omega arith)
 letters_at (c ∷ points) (k ∷ classes) zero d same within = refl
 letters_at (c ∷ points) (k ∷ classes) (suc i) d same within = letters_at points classes i d (omega arith) (omega arith)
 
 pub letters_here : (s : NfdText) (i : ℕ) → length s.classes ≡ length s.points → i < length s.points →
-    get_or (letters_of s) i (letter_at s i) ≡ letter_at s i
-letters_here s i same within = letters_at s.points s.classes i (letter_at s i) same within
+    get_or (classed s) i (classed_at s i) ≡ classed_at s i
+letters_here s i same within = letters_at s.points s.classes i (classed_at s i) same within
 
 pub letters_more : (s : NfdText) (i : ℕ) → length s.classes ≡ length s.points → i < length s.points →
-    drop i (letters_of s) ≡ letter_at s i ∷ drop (suc i) (letters_of s)
+    drop i (classed s) ≡ classed_at s i ∷ drop (suc i) (classed s)
 letters_more s i same within =
-    let there : i < length (letters_of s) = omega (arith, length-letters s.points s.classes same) in
-    drop-cons (letters_of s) i (letter_at s i) there
-    ∙ ap (λ c. c ∷ drop (suc i) (letters_of s)) (letters_at s.points s.classes i (letter_at s i) same within)
+    let there : i < length (classed s) = omega (arith, length-with_classes s.points s.classes same) in
+    drop-cons (classed s) i (classed_at s i) there
+    ∙ ap (λ c. c ∷ drop (suc i) (classed s)) (letters_at s.points s.classes i (classed_at s i) same within)
 
-pub letters_end : (s : NfdText) (i : ℕ) → length s.classes ≡ length s.points → length s.points ≤ i → drop i (letters_of s) ≡ []
-letters_end s i same past = drop_all i (letters_of s) (omega (arith, length-letters s.points s.classes same))
+pub letters_end : (s : NfdText) (i : ℕ) → length s.classes ≡ length s.points → length s.points ≤ i → drop i (classed s) ≡ []
+letters_end s i same past = drop_all i (classed s) (omega (arith, length-with_classes s.points s.classes same))
 
 -- ---- What is left
 
@@ -67,19 +67,19 @@ pub left_gone : (s : NfdText) (place : Place) (i : ℕ) → length s.classes ≡
     left_at s place i ≡ left_at s place (suc i)
 left_gone s place i same within gone =
     ap (left_from (is_gone place) i) (letters_more s i same within)
-    ∙ cond-true (is_gone place i) (left_at s place (suc i)) (letter_at s i ∷ left_at s place (suc i)) gone
+    ∙ cond-true (is_gone place i) (left_at s place (suc i)) (classed_at s i ∷ left_at s place (suc i)) gone
 
 pub left_kept : (s : NfdText) (place : Place) (i : ℕ) → length s.classes ≡ length s.points → i < length s.points → is_gone place i ≡ false →
-    left_at s place i ≡ letter_at s i ∷ left_at s place (suc i)
+    left_at s place i ≡ classed_at s i ∷ left_at s place (suc i)
 left_kept s place i same within kept =
     ap (left_from (is_gone place) i) (letters_more s i same within)
-    ∙ cond-false (is_gone place i) (left_at s place (suc i)) (letter_at s i ∷ left_at s place (suc i)) kept
+    ∙ cond-false (is_gone place i) (left_at s place (suc i)) (classed_at s i ∷ left_at s place (suc i)) kept
 
 pub left_end : (s : NfdText) (place : Place) (i : ℕ) → length s.classes ≡ length s.points → length s.points ≤ i → left_at s place i ≡ []
 left_end s place i same past = ap (left_from (is_gone place) i) (letters_end s i same past)
 
 pub left_beyond : (s : NfdText) (p q : Place) (i : ℕ) → ((k : ℕ) → i ≤ k → is_gone p k ≡ is_gone q k) → left_at s p i ≡ left_at s q i
-left_beyond s p q i same = left_same (is_gone p) (is_gone q) i (drop i (letters_of s)) (λ k above below. same k above)
+left_beyond s p q i same = left_same (is_gone p) (is_gone q) i (drop i (classed s)) (λ k above below. same k above)
 
 pub all_left : (g : ℕ → Bool) → ((k : ℕ) → g k ≡ false) → (i : ℕ) (t : Text) → left_from g i t ≡ t
 all_left g none i [] = refl
@@ -88,7 +88,7 @@ all_left g none i (c ∷ t) =
 
 -- ---- Letters that are gone, by the bits of a number
 
--- a letter before the run is not gone
+-- a code point before the run is not gone
 pub gone_before_run : (place : Place) (i : ℕ) → i < place.run → is_gone place i ≡ false
 gone_before_run place i h = let test : nat_le place.run i ≡ false = grind (arith, nat_tests) in
     ap (λ b. b && nat_eq (bit_at place.removed (i - place.run)) 1) test
@@ -108,11 +108,11 @@ abbrev pub with_gone : Place → ℕ → Place
 with_gone place i = record place { removed = bit_or place.removed (1 * 2 ^ (i - place.run) % 2 ^ bits w64) }
 
 pub gone_here : (place : Place) (i : ℕ) → place.run ≤ i → i - place.run < 64 → is_gone (with_gone place i) i ≡ true
-gone_here place i behind near =
-    gone_by_bit (with_gone place i) i behind ∙ ap (λ bit. nat_eq bit 1) (bit_at_set_same w64 place.removed (i - place.run) near)
+gone_here place i after near =
+    gone_by_bit (with_gone place i) i after ∙ ap (λ bit. nat_eq bit 1) (bit_at_set_same w64 place.removed (i - place.run) near)
 
 pub gone_elsewhere : (place : Place) (i k : ℕ) → place.run ≤ i → i - place.run < 64 → k ≢ i → is_gone (with_gone place i) k ≡ is_gone place k
-gone_elsewhere place i k behind near other =
+gone_elsewhere place i k after near other =
     ⊎_elim
     (λ before. gone_before_run (with_gone place i) k before ∙ sym (gone_before_run place k before))
     (λ from_run.
@@ -122,7 +122,7 @@ gone_elsewhere place i k behind near other =
     ∙ sym (gone_by_bit place k from_run))
     (cases_lt k place.run)
 
--- no letter is gone
+-- no code point is gone
 none_gone : (place : Place) (i : ℕ) → place.removed ≡ 0 → is_gone place i ≡ false
 none_gone place i none =
     ⊎_elim
@@ -138,10 +138,10 @@ not_true false h = refl
 -- after its run a position may as well begin a new one
 pub left_anew : (s : NfdText) (place new : Place) (at : ℕ) → IsPlace s place → place.end ≤ at → new.removed ≡ 0 → left_at s new at ≡ left_at s place at
 left_anew s place new at here past none =
-    left_beyond s new place at (λ k behind. none_gone new k none
+    left_beyond s new place at (λ k after. none_gone new k none
     ∙ sym (not_true (is_gone place k) (λ gone. let before = here.gone_before k gone in omega arith)))
 
 -- from the beginning of a text, nothing is gone
-pub left_of_start : (s : NfdText) → left_of s (record { at = 0; run = 0; end = 0; removed = 0 }) ≡ letters_of s
+pub left_of_start : (s : NfdText) → left_of s (record { at = 0; run = 0; end = 0; removed = 0 }) ≡ classed s
 left_of_start s = all_left (is_gone (record { at = 0; run = 0; end = 0; removed = 0 }))
-    (λ i. none_gone (record { at = 0; run = 0; end = 0; removed = 0 }) i refl) 0 (letters_of s)
+    (λ i. none_gone (record { at = 0; run = 0; end = 0; removed = 0 }) i refl) 0 (classed s)

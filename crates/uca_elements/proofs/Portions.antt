@@ -4,7 +4,7 @@ use Rattle.std.proofs.Common.{subst, ◌∙◌, arith, add-one}
 use Rattle.std.specs.List.{flat_map}
 use Rattle.std.specs.Borrow.{Bor}
 use Rattle.uca_weights.specs.declared.Element.{Element}
-use Rattle.uca_text.specs.Texts.{Letter, Text, NfdText}
+use Rattle.uca_text.specs.Texts.{ClassedCodePoint, Text, NfdText}
 use Rattle.uca_values.specs.Implicit.{implicit}
 use Rattle.uca_values.proofs.ImplicitPairs.{of_pair}
 use Rattle.uca_elements.specs.Rows.{Keys, is_key}
@@ -18,9 +18,9 @@ use Rattle.uca_elements.specs.declared.matches.Longest.{Longest}
 use Rattle.uca_elements.specs.declared.matches.Portion.{Portion}
 use Rattle.uca_elements.specs.declared.matches.Match.TheVariants.{Key, Unlisted}
 use Rattle.uca_elements.proofs.ReadingLemmas.{portion_parts, parts_of_none, parts_of_longest}
-use Rattle.uca_elements.proofs.PlaceLemmas.{letter_at, left_kept}
+use Rattle.uca_elements.proofs.PlaceLemmas.{classed_at, left_kept}
 
-module _ {N : Type 0} (stands_for : N → List ℕ → Type 0) (keys : Keys) (s : NfdText) (place : Place) (first : ℕ) (behind : place.at ≤ first)
+module _ {N : Type 0} (stands_for : N → List ℕ → Type 0) (keys : Keys) (s : NfdText) (place : Place) (first : ℕ) (after : place.at ≤ first)
     (same_left : left_at s place first ≡ left_of s place) where
   -- a code point that no key begins with
   pub portion_unlisted : (next : Place) (point : ℕ) → length s.classes ≡ length s.points → first < length s.points → is_gone place first ≡ false →
@@ -28,7 +28,7 @@ module _ {N : Type 0} (stands_for : N → List ℕ → Type 0) (keys : Keys) (s 
       next.at ≡ first + 1 → left_of s next ≡ left_at s place (first + 1) →
       IsPortion stands_for keys s place (record { given = Unlisted point; next = next })
   portion_unlisted next point same within kept none letter here at left =
-      let c : Letter = letter_at s first in
+      let c : ClassedCodePoint = classed_at s first in
       let on : left_at s place first ≡ c ∷ left_at s place (suc first) = left_kept s place first same within kept in
       let none_there : longest_key keys (c ∷ left_at s place (suc first)) (length (c ∷ left_at s place (suc first))) ≡ 0 =
       ap (λ t. longest_key keys t (length t)) (sym on) ∙ none in
@@ -45,8 +45,8 @@ module _ {N : Type 0} (stands_for : N → List ℕ → Type 0) (keys : Keys) (s 
 
   -- a key, with what it takes
   pub portion_listed : (key : Longest N) (from : Place) (portion : Portion N) →
-      (longest : IsLongestKey stands_for keys s place first (length (left_at s place first)) key) → from.at ≡ key.behind →
-      left_of s from ≡ left_at s place key.behind → IsExtended stands_for keys s (take (suc longest.count) (left_at s place first)) from portion →
+      (longest : IsLongestKey stands_for keys s place first (length (left_at s place first)) key) → from.at ≡ key.after →
+      left_of s from ≡ left_at s place key.after → IsExtended stands_for keys s (take (suc longest.count) (left_at s place first)) from portion →
       IsPortion stands_for keys s place portion
   portion_listed key from portion longest at left extended =
       let t : Text = left_at s place first in

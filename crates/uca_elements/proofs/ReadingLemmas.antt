@@ -6,7 +6,7 @@ use Rattle.std.specs.List.{flat_map}
 use Rattle.std.proofs.lemmas.Bool.{cases_order, false≢true}
 use Rattle.std.proofs.Math.Seq.{take-append-add}
 use Rattle.uca_weights.specs.declared.Element.{Element}
-use Rattle.uca_text.specs.Texts.{Letter, Text, code_points}
+use Rattle.uca_text.specs.Texts.{ClassedCodePoint, Text, code_points}
 use Rattle.uca_elements.specs.Rows.{Rows, Keys, is_key, IsKey}
 use Rattle.uca_elements.specs.Parts.{Part, Row, Implicit, part_elements}
 use Rattle.uca_elements.specs.Reading.{IsRowMatch, NoRowBegins, AreNonStartersBefore, AreRemoved, IsReading, removed, members, others, longest_key}
@@ -99,11 +99,11 @@ row_portion_is rows front marks rest set before gone =
     (after_of_split marks rest before.are_non_starters before.ends)
     ∙ ap (λ s. portion_of front marks s rest) (sym (removed_unique rows front marks set gone))
 
-pub portion_unlisted : (rows : Rows) (c : Letter) (t : Text) → NoRowBegins rows (c ∷ t) →
+pub portion_unlisted : (rows : Rows) (c : ClassedCodePoint) (t : Text) → NoRowBegins rows (c ∷ t) →
     portion (is_key rows) c t ≡ record { part = Implicit c.code; rest = t }
 portion_unlisted rows c t none = ap (portion_at (is_key rows) c t) (longest_unlisted rows (c ∷ t) none)
 
-pub portion_listed : (rows : Rows) (c : Letter) (front rest : Text) → IsRowMatch rows (c ∷ front) rest →
+pub portion_listed : (rows : Rows) (c : ClassedCodePoint) (front rest : Text) → IsRowMatch rows (c ∷ front) rest →
     portion (is_key rows) c (front ++ rest) ≡ row_portion (is_key rows) (c ∷ front) rest
 portion_listed rows c front rest found =
     ap (portion_at (is_key rows) c (front ++ rest)) (longest_match rows (c ∷ front) rest found)
@@ -120,11 +120,11 @@ row_portion_shorter keys front s =
       ap length (marks-append s),
     )
 
-portion_at_shorter : (keys : Keys) (c : Letter) (t : Text) (n : ℕ) → length (portion_at keys c t n).rest ≤ length t
+portion_at_shorter : (keys : Keys) (c : ClassedCodePoint) (t : Text) (n : ℕ) → length (portion_at keys c t n).rest ≤ length t
 portion_at_shorter keys c t zero = omega arith
 portion_at_shorter keys c t (suc n) = omega (arith, row_portion_shorter keys (c ∷ take n t) (drop n t), length-drop n t)
 
-pub portion_shorter : (keys : Keys) (c : Letter) (t : Text) → length (portion keys c t).rest ≤ length t
+pub portion_shorter : (keys : Keys) (c : ClassedCodePoint) (t : Text) → length (portion keys c t).rest ≤ length t
 portion_shorter keys c t = portion_at_shorter keys c t (longest_key keys (c ∷ t) (length (c ∷ t)))
 
 -- ---- The whole text
@@ -142,7 +142,7 @@ parts_within_same keys (suc n) (suc m) (c ∷ t) h k =
     ap (λ ps. first.part ∷ ps) (parts_within_same keys n m first.rest (omega arith) (omega arith))
 
 -- the first part, and those of what is left after it
-pub parts_portion : (keys : Keys) (c : Letter) (t : Text) → parts keys (c ∷ t) ≡ (portion keys c t).part ∷ parts keys (portion keys c t).rest
+pub parts_portion : (keys : Keys) (c : ClassedCodePoint) (t : Text) → parts keys (c ∷ t) ≡ (portion keys c t).part ∷ parts keys (portion keys c t).rest
 parts_portion keys c t =
     let shorter = portion_shorter keys c t in
     let first : Portion = portion keys c t in
@@ -152,11 +152,11 @@ parts_portion keys c t =
 abbrev pub portion_reads : (ℕ → List Element) → Rows → Portion → List Element
 portion_reads implicit rows p = part_elements implicit rows p.part ++ read implicit rows p.rest
 
-pub read_portion : (implicit : ℕ → List Element) (rows : Rows) (c : Letter) (t : Text) →
+pub read_portion : (implicit : ℕ → List Element) (rows : Rows) (c : ClassedCodePoint) (t : Text) →
     read implicit rows (c ∷ t) ≡ portion_reads implicit rows (portion (is_key rows) c t)
 read_portion implicit rows c t = ap (flat_map (part_elements implicit rows)) (parts_portion (is_key rows) c t)
 
-pub read_unlisted : (implicit : ℕ → List Element) (rows : Rows) (c : Letter) (t : Text) → NoRowBegins rows (c ∷ t) →
+pub read_unlisted : (implicit : ℕ → List Element) (rows : Rows) (c : ClassedCodePoint) (t : Text) → NoRowBegins rows (c ∷ t) →
     read implicit rows (c ∷ t) ≡ implicit c.code ++ read implicit rows t
 read_unlisted implicit rows c t none =
     read_portion implicit rows c t
@@ -184,7 +184,7 @@ some_row rows key h = go (rows key) refl
     go (Some row) e = (row, e)
 
 -- where two readings agree on shorter texts, they agree on the whole
-unique_step : (implicit : ℕ → List Element) (rows : Rows) (E : Text → List Element) → IsReading implicit rows E → (c : Letter) (t : Text) →
+unique_step : (implicit : ℕ → List Element) (rows : Rows) (E : Text → List Element) → IsReading implicit rows E → (c : ClassedCodePoint) (t : Text) →
     ((s : Text) → length s ≤ length t → E s ≡ read implicit rows s) → (k : ℕ) → longest_key (is_key rows) (c ∷ t) (length (c ∷ t)) ≡ k →
     E (c ∷ t) ≡ read implicit rows (c ∷ t)
 unique_step implicit rows E reading c t shorter zero e =
@@ -192,17 +192,17 @@ unique_step implicit rows E reading c t shorter zero e =
     reading.unlisted c t none ∙ ap (λ es. implicit c.code ++ es) (shorter t (omega arith)) ∙ sym (read_unlisted implicit rows c t none)
 unique_step implicit rows E reading c t shorter (suc k) e =
     let front : Text = take (suc k) (c ∷ t) in
-    let behind : Text = drop (suc k) (c ∷ t) in
-    let marks : Text = non_starters_at_front behind in
-    let rest : Text = after_non_starters behind in
+    let after : Text = drop (suc k) (c ∷ t) in
+    let marks : Text = non_starters_at_front after in
+    let rest : Text = after_non_starters after in
     let set : List Bool = removed (is_key rows) front [] marks in
     let at_front = match_longest rows (c ∷ t) k e in
-    let matched : IsRowMatch rows front (marks ++ rest) = subst (λ s. IsRowMatch rows front s) (sym (marks-append behind)) at_front in
-    let before = AreNonStartersBefore-split behind in
+    let matched : IsRowMatch rows front (marks ++ rest) = subst (λ s. IsRowMatch rows front s) (sym (marks-append after)) at_front in
+    let before = AreNonStartersBefore-split after in
     let gone = AreRemoved-removed rows front marks in
     let found = some_row rows (code_points (front ++ members set marks)) (extended_is_key (is_key rows) front [] marks at_front.key) in
-    let whole : c ∷ t ≡ front ++ (marks ++ rest) = sym (ap (λ s. front ++ s) (marks-append behind) ∙ take-append-drop (suc k) (c ∷ t)) in
-    let fewer : length (others set marks ++ rest) ≤ length t = omega (arith, row_portion_shorter (is_key rows) front behind, length-drop k t) in
+    let whole : c ∷ t ≡ front ++ (marks ++ rest) = sym (ap (λ s. front ++ s) (marks-append after) ∙ take-append-drop (suc k) (c ∷ t)) in
+    let fewer : length (others set marks ++ rest) ≤ length t = omega (arith, row_portion_shorter (is_key rows) front after, length-drop k t) in
     ap E whole
     ∙ reading.listed front marks rest set found.0 matched before gone found.1
     ∙ ap (λ es. found.0 ++ es) (shorter (others set marks ++ rest) fewer)
@@ -224,7 +224,7 @@ read_unique implicit rows E reading t = read_unique_within implicit rows E readi
 -- ---- The same by what `longest_key` finds
 
 -- a text that no key begins: its first part is its first code point
-pub parts_of_none : (keys : Keys) (c : Letter) (t : Text) → longest_key keys (c ∷ t) (length (c ∷ t)) ≡ 0 →
+pub parts_of_none : (keys : Keys) (c : ClassedCodePoint) (t : Text) → longest_key keys (c ∷ t) (length (c ∷ t)) ≡ 0 →
     parts keys (c ∷ t) ≡ Implicit c.code ∷ parts keys t
 parts_of_none keys c t none =
     parts_portion keys c t ∙ ap (λ n. (portion_at keys c t n).part ∷ parts keys (portion_at keys c t n).rest) none
@@ -241,7 +241,7 @@ parts_of_longest keys (c ∷ t) k found = parts_portion keys c t ∙ ap (λ n. p
 
 -- ---- A text that is a key
 
--- no letter follows it, so it is its longest key and takes no non-starters
+-- no code point follows it, so it is its longest key and takes no non-starters
 pub key_reads_as_row : (implicit : ℕ → List Element) (rows : Rows) (t : Text) (row : List Element) → t ≢ [] → rows (code_points t) ≡ Some row →
     read implicit rows t ≡ row
 key_reads_as_row implicit rows t row some found =

@@ -3,7 +3,7 @@ use Rattle.std.specs.Prelude.{List}
 use Rattle.uca_weights.specs.declared.Element.{Element}
 use Rattle.uca_values.specs.declared.ImplicitRange.{ImplicitRange}
 use Rattle.uca_values.specs.Content.{Properties, properties_of}
-use Rattle.uca_text.specs.Texts.{NfdText, letters_of}
+use Rattle.uca_text.specs.Texts.{NfdText, classed}
 use Rattle.uca_elements.specs.Rows.{Rows}
 use Rattle.uca_elements.specs.Reading.{collation_elements}
 use Rattle.uca_elements.specs.declared.collator.Collator.{Collator}
@@ -20,4 +20,4 @@ collation_of content c = record { rows = content c.lookup.now; ranges = c.header
 
 -- the collation elements of a text
 abbrev pub elements_of : Collation → NfdText → List Element
-elements_of c text = collation_elements c.rows c.ranges c.properties (letters_of text)
+elements_of c text = collation_elements c.rows c.ranges c.properties (classed text)

@@ -2,7 +2,7 @@
 -- Only clauses inside this crate cite this file.
 use Rattle.std.specs.Prelude.{◌≡◌, ℕ, ◌-◌, ◌<◌, ◌≤◌, List, [], ◌++◌, false, length, take, drop, nat_lt, slice_index}
 use Rattle.std.specs.List.{list_all}
-use Rattle.uca_text.specs.Texts.{Text, NfdText, code_points, letters_of}
+use Rattle.uca_text.specs.Texts.{Text, NfdText, code_points, classed}
 use Rattle.uca_elements.specs.Rows.{Keys}
 use Rattle.uca_elements.specs.Reading.{removed, members, others, non_starters_at_front, after_non_starters}
 use Rattle.uca_elements.specs.Places.{is_gone, left_from, left_at, left_of}
@@ -17,12 +17,12 @@ abbrev pub extended_rest : Keys → Text → Text → Text → Text
 extended_rest keys key skipped t = (skipped ++ others (removed keys key skipped (non_starters_at_front t)) (non_starters_at_front t))
     ++ after_non_starters t
 
--- the letters that are left between two positions
+-- the code points that are left between two positions
 abbrev pub left_between : NfdText → Place → ℕ → ℕ → Text
-left_between s place from to = left_from (is_gone place) from (take (to - from) (drop from (letters_of s)))
+left_between s place from to = left_from (is_gone place) from (take (to - from) (drop from (classed s)))
 
 -- the non-starters from a position up to i have been gone through, and some of them may be gone since
-pub record IsBehind (s : NfdText) (place : Place) (i : ℕ) (next : Place) : Type 0 where
+pub record IsAfter (s : NfdText) (place : Place) (i : ℕ) (next : Place) : Type 0 where
   pub begun : place.at ≤ i
   pub within : i ≤ length s.points
   pub at : next.at ≡ place.at

@@ -20,15 +20,15 @@ pub record IsFound {N : Type 0} (stands_for : N → List ℕ → Type 0) (keys :
 abbrev pub len_left : NfdText → Place → ℕ → ℕ
 len_left s place first = length (left_at s place first)
 
--- the longest key of at most n letters at the front of what is left from `first` on, and the position after it
+-- the longest key of at most n code points at the front of what is left from `first` on, and the position after it
 pub record IsLongestKey {N : Type 0} (stands_for : N → List ℕ → Type 0) (keys : Keys) (s : NfdText) (place : Place) (first n : ℕ) (key : Longest N) :
     Type 0 where
   pub count : ℕ
   pub longest : longest_key keys (left_at s place first) n ≡ suc count
   pub stands : stands_for key.node (code_points (take (suc count) (left_at s place first)))
-  pub left : left_at s place key.behind ≡ drop (suc count) (left_at s place first)
-  pub onward : first < key.behind
-  pub within : key.behind ≤ length s.points
+  pub left : left_at s place key.after ≡ drop (suc count) (left_at s place first)
+  pub onward : first < key.after
+  pub within : key.after ≤ length s.points
 
 abbrev pub IsLongest : {N : Type 0} → (N → List ℕ → Type 0) → Keys → NfdText → Place → ℕ → ℕ → Option (Longest N) → Type 0
 IsLongest stands_for keys s place first n None = longest_key keys (left_at s place first) n ≡ 0

@@ -2,21 +2,21 @@
 -- Only clauses of this crate and the model of `Matches` cite this file.
 use Rattle.std.specs.Prelude.{◌≡◌, ℕ, suc, ◌-◌, ◌<◌, ◌≤◌, [], ◌∷◌, Bool, true, ◌&&◌, nat_le, nat_eq, if◌then◌else◌, drop, length, slice_index}
 use Rattle.std.specs.Int.{bit_at}
-use Rattle.uca_text.specs.Texts.{Text, NfdText, letters_of}
+use Rattle.uca_text.specs.Texts.{Text, NfdText, classed}
 use Rattle.uca_elements.specs.declared.places.Place.{Place}
 
--- whether the letter at i has been removed
+-- whether the code point at i has been removed
 abbrev pub is_gone : Place → ℕ → Bool
 is_gone place i = nat_le place.run i && nat_eq (bit_at place.removed (i - place.run)) 1
 
--- the letters of a text that begins at i, without those that are gone
+-- the code points of a text that begins at i, without those that are gone
 abbrev pub left_from : (ℕ → Bool) → ℕ → Text → Text
 left_from gone i [] = []
 left_from gone i (c ∷ t) = if gone i then left_from gone (suc i) t else c ∷ left_from gone (suc i) t
 
 -- what is left of a text from i on
 abbrev pub left_at : NfdText → Place → ℕ → Text
-left_at s place i = left_from (is_gone place) i (drop i (letters_of s))
+left_at s place i = left_from (is_gone place) i (drop i (classed s))
 
 -- what is left of a text from a position on
 abbrev pub left_of : NfdText → Place → Text

@@ -3,7 +3,7 @@ use Rattle.std.specs.Prelude.{◌≡◌, ◌≢◌, ℕ, zero, suc, ◌<◌, Lis
 use Rattle.std.specs.Prelude.{IsFalse, nat_lt, ⊤, if◌then◌else◌}
 use Rattle.std.specs.List.{AllByRecursion, list_all, flat_map}
 use Rattle.uca_weights.specs.declared.Element.{Element}
-use Rattle.uca_text.specs.Texts.{Letter, Text, code_points, is_starter}
+use Rattle.uca_text.specs.Texts.{ClassedCodePoint, Text, code_points, is_starter}
 use Rattle.uca_elements.specs.Rows.{Rows, Keys, is_key, IsKey}
 use Rattle.uca_elements.specs.Parts.{Part, Row, Implicit, part_elements}
 use Rattle.uca_values.specs.declared.ImplicitRange.{ImplicitRange}
@@ -32,7 +32,7 @@ pub record AreNonStartersBefore (non_starters rest : Text) : Type 0 where
   pub are_non_starters : AllByRecursion (λ c. IsFalse (is_starter c)) non_starters
   pub ends : IsAtStarter rest
 
--- the letters at the positions of a set, and those at the others
+-- the code points at the positions of a set, and those at the others
 abbrev pub members : List Bool → Text → Text
 members (true ∷ set) (c ∷ t) = c ∷ members set t
 members (false ∷ set) (c ∷ t) = members set t
@@ -45,17 +45,17 @@ others (false ∷ set) (c ∷ t) = c ∷ others set t
 others [] t = t
 others (b ∷ set) [] = []
 
--- the letters that are skipped do not block c (S2.1.2): each has a class less than that of c
-abbrev pub IsFree : Text → Letter → Type 0
+-- the code points that are skipped do not block c (S2.1.2): each has a class less than that of c
+abbrev pub IsFree : Text → ClassedCodePoint → Type 0
 IsFree skipped c = AllByRecursion (λ d. d.class < c.class) skipped
 
--- The discontiguous match (S2.1.1 to S2.1.3), as the set of positions of the non-starters that are removed. The letter
--- at a position is removed exactly if two conditions are met. The letters before it that are not removed do not block
--- it. And this is a key: the start, then the removed letters before it, and then this letter. A removed letter is no
+-- The discontiguous match (S2.1.1 to S2.1.3), as the set of positions of the non-starters that are removed. The code point
+-- at a position is removed exactly if two conditions are met. The code points before it that are not removed do not block
+-- it. And this is a key: the start, then the removed code points before it, and then this code point. A removed code point is no
 -- longer between others, and blocks nothing.
 pub record AreRemoved (rows : Rows) (start : Text) (non_starters : Text) (set : List Bool) : Type 0 where
   pub places : length set ≡ length non_starters
-  pub each : (before after : Text) (c : Letter) (here : List Bool) (b : Bool) (later : List Bool) → non_starters ≡ before ++ c ∷ after →
+  pub each : (before after : Text) (c : ClassedCodePoint) (here : List Bool) (b : Bool) (later : List Bool) → non_starters ≡ before ++ c ∷ after →
       set ≡ here ++ b ∷ later → length here ≡ length before →
       IsTrue b ↔ (IsFree (others here before) c × IsKey rows (code_points (start ++ (members here before ++ c ∷ []))))
 
@@ -64,14 +64,14 @@ pub record AreRemoved (rows : Rows) (start : Text) (non_starters : Text) (set : 
 -- extended key; then the skipped non-starters are read, in their order, with all that follows them.
 pub record IsReading (implicit : ℕ → List Element) (rows : Rows) (E : Text → List Element) : Type 0 where
   pub empty : E [] ≡ []
-  pub unlisted : (c : Letter) (t : Text) → NoRowBegins rows (c ∷ t) → E (c ∷ t) ≡ implicit c.code ++ E t
+  pub unlisted : (c : ClassedCodePoint) (t : Text) → NoRowBegins rows (c ∷ t) → E (c ∷ t) ≡ implicit c.code ++ E t
   pub listed : (front non_starters rest : Text) (set : List Bool) (row : List Element) → IsRowMatch rows front (non_starters ++ rest) →
       AreNonStartersBefore non_starters rest → AreRemoved rows front non_starters set →
       rows (code_points (front ++ members set non_starters)) ≡ Some row → E (front ++ (non_starters ++ rest)) ≡ row ++ E (others set non_starters ++ rest)
 
 -- ---- By a function
 
--- the length of the longest key, of at most n letters, that begins the text; 0 if there is none
+-- the length of the longest key, of at most n code points, that begins the text; 0 if there is none
 abbrev pub longest_key : Keys → Text → ℕ → ℕ
 longest_key keys t zero = 0
 longest_key keys t (suc n) = if keys (code_points (take (suc n) t)) then suc n else longest_key keys t n
@@ -85,11 +85,11 @@ abbrev pub after_non_starters : Text → Text
 after_non_starters [] = []
 after_non_starters (c ∷ t) = if is_starter c then c ∷ t else after_non_starters t
 
--- whether a non-starter is removed after a key and the letters skipped so far: none of them blocks it, and with it the key is a key
-abbrev pub is_taken : Keys → Text → Text → Letter → Bool
+-- whether a non-starter is removed after a key and the code points skipped so far: none of them blocks it, and with it the key is a key
+abbrev pub is_taken : Keys → Text → Text → ClassedCodePoint → Bool
 is_taken keys key skipped c = list_all (λ d. nat_lt d.class c.class) skipped && keys (code_points (key ++ c ∷ []))
 
--- which of the non-starters are removed after the key and the letters skipped so far
+-- which of the non-starters are removed after the key and the code points skipped so far
 abbrev pub removed : Keys → Text → Text → Text → List Bool
 removed keys key skipped [] = []
 removed keys key skipped (c ∷ non_starters) =
@@ -108,14 +108,14 @@ row_portion keys front rest =
     let set = removed keys front [] non_starters in
     record { part = Row (code_points (front ++ members set non_starters)); rest = others set non_starters ++ after_non_starters rest }
 
-abbrev pub portion_at : Keys → Letter → Text → ℕ → Portion
+abbrev pub portion_at : Keys → ClassedCodePoint → Text → ℕ → Portion
 portion_at keys c t zero = record { part = Implicit c.code; rest = t }
 portion_at keys c t (suc n) = row_portion keys (take (suc n) (c ∷ t)) (drop (suc n) (c ∷ t))
 
-abbrev pub portion : Keys → Letter → Text → Portion
+abbrev pub portion : Keys → ClassedCodePoint → Text → Portion
 portion keys c t = portion_at keys c t (longest_key keys (c ∷ t) (length (c ∷ t)))
 
--- the parts of a text of at most n letters
+-- the parts of a text of at most n code points
 abbrev pub parts_within : Keys → ℕ → Text → List Part
 parts_within keys zero t = []
 parts_within keys (suc n) [] = []

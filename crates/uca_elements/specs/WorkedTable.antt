@@ -22,7 +22,7 @@ use Rattle.std.specs.Prelude.{ℕ, List, [], ◌∷◌, ◌++◌, true, false, N
 use Rattle.uca_weights.specs.declared.Element.{Element}
 use Rattle.uca_values.specs.declared.ImplicitRange.{ImplicitRange}
 use Rattle.uca_values.specs.Content.{Entry, HeaderContent, TableContent, DataContent, Properties, properties_of}
-use Rattle.uca_text.specs.Texts.{Text, letters}
+use Rattle.uca_text.specs.Texts.{Text, with_classes}
 use Rattle.uca_elements.specs.Rows.{rows_of}
 use Rattle.uca_elements.specs.Reading.{collation_elements}
 
@@ -89,7 +89,7 @@ with_letters = small_rows ++ row (0x61 ∷ 0x62 ∷ 0x41 ∷ []) (plain 0x1C70 0
 
 -- code points, which are in Normalization Form D already, with their classes
 abbrev pub small_text : List ℕ → Text
-small_text points = letters points (map small_properties.class points)
+small_text points = with_classes points (map small_properties.class points)
 
 -- the collation elements of a text under some rows, with the header and the data file above
 abbrev pub elements_under : List Entry → List ℕ → List Element

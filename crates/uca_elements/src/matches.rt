@@ -3,7 +3,7 @@ ghost use Rattle.std.specs.Prelude.{◌≡◌, ◌≢◌, ℕ, ◌-◌, ◌<◌,
 ghost use Rattle.uca_text.specs.Texts.{Text, code_points};
 ghost use Rattle.uca_elements.specs.Places.{left_at, left_of, IsPlace};
 ghost use Rattle.uca_elements.specs.Matches.{IsFound, IsLongest, IsExtended, IsPortion, len_left};
-ghost use Rattle.uca_elements.specs.Extensions.{IsBehind, IsGoing};
+ghost use Rattle.uca_elements.specs.Extensions.{IsAfter, IsGoing};
 ghost use Rattle.uca_elements.specs.declared.places.Place.{Place};
 
 use crate::key_sets::KeySet;
@@ -15,8 +15,8 @@ use uca_text::Normal;
 pub struct Longest<N> {
     /// The node that stands for the key.
     pub node: N,
-    /// The position after the letters that are the key.
-    pub behind: usize,
+    /// The position after the code points that are the key.
+    pub after: usize,
 }
 
 /// What a part of a text is matched as: a key, or a code point that no key covers.
@@ -74,10 +74,7 @@ fn longest_match<K: KeySet>(
         };
         node = next;
         if keys.is_key(node) {
-            best = Some(Longest {
-                node,
-                behind: i + 1,
-            });
+            best = Some(Longest { node, after: i + 1 });
         }
     }
     best
@@ -104,10 +101,10 @@ fn extended<K: KeySet>(
     requires found { (key : List ℕ) × K.stands_for keys.now so_far.node key }
     requires within { i < length text.now.points }
     requires non_starter { slice_index text.now.classes i ≢ 0 }
-    requires behind { so_far.next.run ≤ i }
+    requires after { so_far.next.run ≤ i }
     requires near { i - so_far.next.run < 64 }
-    ensures non_starters { (place : Place) → IsBehind text.now place i so_far.next → IsBehind text.now place (i + 1) result.next }
-    ensures matched { (place : Place) (front : Text) → IsBehind text.now place i so_far.next →
+    ensures non_starters { (place : Place) → IsAfter text.now place i so_far.next → IsAfter text.now place (i + 1) result.next }
+    ensures matched { (place : Place) (front : Text) → IsAfter text.now place i so_far.next →
         IsGoing (K.stands_for keys.now) (K.keys keys.now) text.now place front i so_far →
         IsGoing (K.stands_for keys.now) (K.keys keys.now) text.now place front (i + 1) result }
 {
@@ -179,12 +176,12 @@ pub fn next_portion<K: KeySet>(keys: &K, text: &Normal, place: Place) -> Option<
             next: place.moved(text, first + 1),
         });
     };
-    let behind = place.moved(text, key.behind);
+    let after = place.moved(text, key.after);
     if !keys.may_go_on(key.node) {
         return Some(Portion {
             given: Match::Key(key.node),
-            next: behind,
+            next: after,
         });
     }
-    Some(extend(keys, text, key.node, behind))
+    Some(extend(keys, text, key.node, after))
 }

@@ -4,9 +4,9 @@ ghost use Rattle.uca_elements.specs.Places.{is_gone, left_at, left_of, IsPlace};
 
 use uca_text::Normal;
 
-/// A position in a text, and which letters have been removed from the run of non-starters around it.
+/// A position in a text, and which code points have been removed from the run of non-starters around it.
 ///
-/// What is left of the text from there on is its letters from `at` on that have not been removed.
+/// What is left of the text from there on is its code points from `at` on that have not been removed.
 #[derive(Clone, Copy)]
 pub struct Place {
     /// Where to read on.
@@ -15,7 +15,7 @@ pub struct Place {
     pub run: usize,
     /// The position after the run, as far as it has been gone through, at `at` or after it.
     pub end: usize,
-    /// Which letters of the run have been removed: bit i stands for the letter at `run + i`. No run is
+    /// Which code points of the run have been removed: bit i stands for the code point at `run + i`. No run is
     /// longer than 64.
     pub removed: u64,
 }
@@ -33,7 +33,7 @@ impl Place {
         }
     }
 
-    /// Whether the letter at `i` has been removed.
+    /// Whether the code point at `i` has been removed.
     pub fn is_removed(self, i: usize) -> bool
         ensures { result ≡ is_gone self i }
     {
@@ -43,9 +43,9 @@ impl Place {
         (self.removed >> (i - self.run)) & 1 == 1
     }
 
-    /// The same position, after the letter at `i` has been removed too.
+    /// The same position, after the code point at `i` has been removed too.
     pub fn with_removed(self, i: usize) -> Place
-        requires behind { self.run ≤ i }
+        requires after { self.run ≤ i }
         requires near { i - self.run < 64 }
         ensures here { is_gone result i ≡ true }
         ensures elsewhere { (k : ℕ) → k ≢ i → is_gone result k ≡ is_gone self k }
@@ -62,7 +62,7 @@ impl Place {
     /// The position to read on from at `at`, which is after it.
     pub fn moved(self, text: &Normal, at: usize) -> Place
         requires place { IsPlace text.now self }
-        requires behind { self.at ≤ at }
+        requires after { self.at ≤ at }
         requires within { at ≤ length text.now.points }
         ensures place { IsPlace text.now result }
         ensures at { result.at ≡ at }
@@ -80,10 +80,10 @@ impl Place {
         }
     }
 
-    /// The first position from this one on whose letter has not been removed, or the end of the text.
+    /// The first position from this one on whose code point has not been removed, or the end of the text.
     pub fn first_left(self, text: &Normal) -> usize
         requires { IsPlace text.now self }
-        ensures behind { self.at ≤ result }
+        ensures after { self.at ≤ result }
         ensures within { result ≤ length text.now.points }
         ensures left { left_at text.now self result ≡ left_of text.now self }
         ensures kept { result < length text.now.points → is_gone self result ≡ false }

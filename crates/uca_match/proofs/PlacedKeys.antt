@@ -201,10 +201,10 @@ distinct_keys [] distinct = tt
 distinct_keys (row ∷ rows) distinct = (distinct.0, distinct_keys rows distinct.1)
 
 -- the elements of a key are at its position, if these elements come before those of the rows
-rows_behind : (front : List (List Element)) (rows : List Entry) (key : List ℕ) →
+rows_after : (front : List (List Element)) (rows : List Entry) (key : List ℕ) →
     rows_of rows key ≡ option_map (λ p. get_or (front ++ map (λ (r : Entry). r.elements) rows) p []) (place_at (length front) (keys_of rows) key)
-rows_behind front [] key = refl
-rows_behind front (row ∷ rows) key = go (same_key row.key key) (rows_behind (front ++ row.elements ∷ []) rows key)
+rows_after front [] key = refl
+rows_after front (row ∷ rows) key = go (same_key row.key key) (rows_after (front ++ row.elements ∷ []) rows key)
   where
     all : List (List Element)
     all = map (λ (r : Entry). r.elements) rows
@@ -226,7 +226,7 @@ rows_behind front (row ∷ rows) key = go (same_key row.key key) (rows_behind (f
 -- the elements of a key are at its position
 pub rows_by_position : (rows : List Entry) (key : List ℕ) →
     rows_of rows key ≡ option_map (λ p. get_or (map (λ (r : Entry). r.elements) rows) p []) (place_at 0 (keys_of rows) key)
-rows_by_position rows key = rows_behind [] rows key
+rows_by_position rows key = rows_after [] rows key
 
 -- ---- The keys of a trie
 

@@ -1,7 +1,7 @@
 //! What a text is matched as by the keys of a map, part by part.
 ghost use Rattle.std.specs.Prelude.{◌≡◌};
 ghost use Rattle.std.specs.Iterator.{YieldsFirst, item_count};
-ghost use Rattle.uca_text.specs.Texts.{letters_of};
+ghost use Rattle.uca_text.specs.Texts.{classed};
 ghost use Rattle.uca_match.specs.Tries.{positions};
 ghost use Rattle.uca_elements.specs.Positions.{is_placed};
 ghost use Rattle.uca_elements.specs.Reading.{parts};
@@ -43,7 +43,7 @@ impl<'a, A: Allocator> Model for Matches<'a, A> {
 impl<'a, A: Allocator> Matches<'a, A> {
     /// The matches of `text`, in order. It takes no memory.
     pub fn new(keys: &'a KeyMap<A>, text: &'a Normal) -> Self
-        ensures { result ≡ matches_of (positions keys.now) (parts (is_placed (positions keys.now)) (letters_of text.now)) }
+        ensures { result ≡ matches_of (positions keys.now) (parts (is_placed (positions keys.now)) (classed text.now)) }
     {
         Matches {
             keys,

@@ -46,9 +46,9 @@ one_level : (n : ℕ) (a b : List ℕ) → (compare_from n (a ∷ []) (b ∷ [])
 one_level n a b = order-decided (lexicographic a b) n (record { order = Equal; level = 0 }) ∙ then_equal (lexicographic a b)
 
 -- what follows the bytes of a level and of the levels after it
-behind_level : (a b : List ℕ) (more : List (List ℕ)) (xs : List ℕ)
+after_level : (a b : List ℕ) (more : List (List ℕ)) (xs : List ℕ)
     → levels_bytes (a ∷ b ∷ more) ++ (0 ∷ 0 ∷ xs) ≡ level_bytes a ++ (0 ∷ 0 ∷ (levels_bytes (b ∷ more) ++ (0 ∷ 0 ∷ xs)))
-behind_level a b more xs = append_assoc (level_bytes a) (0 ∷ 0 ∷ levels_bytes (b ∷ more)) (0 ∷ 0 ∷ xs)
+after_level a b more xs = append_assoc (level_bytes a) (0 ∷ 0 ∷ levels_bytes (b ∷ more)) (0 ∷ 0 ∷ xs)
 
 -- levels, each followed by 00 00 and more
 levels_order : (n : ℕ) (a b : List ℕ) (left right : List (List ℕ)) (xs ys : List ℕ) → AreLevels (a ∷ left) (b ∷ right)
@@ -58,8 +58,8 @@ levels_order n a b [] [] xs ys h = bytes_zero a b xs ys h.0 h.1 ∙ ap (λ o. or
 levels_order n a b [] (d ∷ right) xs ys h = absurd h.2
 levels_order n a b (c ∷ left) [] xs ys h = absurd h.2
 levels_order n a b (c ∷ left) (d ∷ right) xs ys h =
-    ap (λ l. lexicographic l (levels_bytes (b ∷ d ∷ right) ++ (0 ∷ 0 ∷ ys))) (behind_level a c left xs)
-    ∙ ap (lexicographic (level_bytes a ++ (0 ∷ 0 ∷ (levels_bytes (c ∷ left) ++ (0 ∷ 0 ∷ xs))))) (behind_level b d right ys)
+    ap (λ l. lexicographic l (levels_bytes (b ∷ d ∷ right) ++ (0 ∷ 0 ∷ ys))) (after_level a c left xs)
+    ∙ ap (lexicographic (level_bytes a ++ (0 ∷ 0 ∷ (levels_bytes (c ∷ left) ++ (0 ∷ 0 ∷ xs))))) (after_level b d right ys)
     ∙ bytes_zero a b (levels_bytes (c ∷ left) ++ (0 ∷ 0 ∷ xs)) (levels_bytes (d ∷ right) ++ (0 ∷ 0 ∷ ys)) h.0 h.1
     ∙ ap (ordering_then (lexicographic a b)) (levels_order (suc n) c d left right xs ys h.2)
     ∙ sym (then_assoc (lexicographic a b) (compare_from (suc n) (c ∷ left) (d ∷ right)).order (lexicographic xs ys))
@@ -218,8 +218,8 @@ levels_separators n a b (c ∷ left) (d ∷ right) xs ys h =
     let here = level_separators a b more more_right h.0 h.1 in
     let all : shared_separators (levels_bytes (a ∷ c ∷ left) ++ (0 ∷ 0 ∷ xs)) (levels_bytes (b ∷ d ∷ right) ++ (0 ∷ 0 ∷ ys))
     ≡ shared_separators (level_bytes a ++ (0 ∷ 0 ∷ more)) (level_bytes b ++ (0 ∷ 0 ∷ more_right)) =
-    ap (λ l. shared_separators l (levels_bytes (b ∷ d ∷ right) ++ (0 ∷ 0 ∷ ys))) (behind_level a c left xs)
-    ∙ ap (shared_separators (level_bytes a ++ (0 ∷ 0 ∷ more))) (behind_level b d right ys) in
+    ap (λ l. shared_separators l (levels_bytes (b ∷ d ∷ right) ++ (0 ∷ 0 ∷ ys))) (after_level a c left xs)
+    ∙ ap (shared_separators (level_bytes a ++ (0 ∷ 0 ∷ more))) (after_level b d right ys) in
     tells_step (lexicographic a b) n (length (c ∷ left)) _ (shared_separators more more_right) (compare_from (suc n) (c ∷ left) (d ∷ right))
     (λ e. all ∙ here.0 e) (λ e. all ∙ here.1 e) (levels_separators (suc n) c d left right xs ys h.2)
 

@@ -2,14 +2,14 @@
 use Rattle.std.proofs.Common.{◌≡◌, ℕ, zero, suc, ◌<◌, ◌≤◌, ◌^◌, List, [], ◌∷◌, length, Bool, true, false, nat_eq, refl, arith}
 use Rattle.std.proofs.lemmas.List.{length-map}
 use Rattle.uca_weights.specs.declared.Weighting.{Weighting}
-use Rattle.uca_text.specs.Texts.{NfdText, letters_of}
+use Rattle.uca_text.specs.Texts.{NfdText, classed}
 use Rattle.uca_text.specs.Limits.{IsAccepted}
 use Rattle.uca_elements.specs.Collations.{Collation, elements_of}
 use Rattle.uca_order.specs.Levels.{weight_at, weighted}
 use Rattle.uca_order.specs.Fetched.{length_to, primaries, first_difference}
 use Rattle.uca_order.specs.Lengths.{HasShortRows}
 use Rattle.uca_order.specs.Laws.{CountsAreExact}
-use Rattle.uca_order.proofs.KeyLength.{length-weighted, length-elements, length-letters}
+use Rattle.uca_order.proofs.KeyLength.{length-weighted, length-elements, length-with_classes}
 
 -- at most all are fetched
 few_step : (place w : ℕ) (ws : List ℕ) (b : Bool) → nat_eq w 0 ≡ b → ((place : ℕ) → length_to place ws ≤ length ws) → length_to place (w ∷ ws) ≤ length (w ∷ ws)
@@ -30,10 +30,10 @@ few_elements c weighting text place short accepted =
     let few = few_fetched place (primaries weighting es) in
     let all = length-map (weighted weighting es) (weight_at 1) in
     let each = length-weighted weighting [] es in
-    let some = length-elements c (letters_of text) short in
-    let letters = length-letters text.points text.classes in
+    let some = length-elements c (classed text) short in
+    let with_classes = length-with_classes text.points text.classes in
     let short_text = accepted.few in
-    omega (arith, few, all, each, some, letters, short_text)
+    omega (arith, few, all, each, some, with_classes, short_text)
 
 pub counts_exact : CountsAreExact
 counts_exact c weighting left right short good good_too = (

@@ -11,7 +11,7 @@ use Rattle.uca_weights.specs.declared.Weighting.TheVariants.{NonIgnorable, Shift
 use Rattle.uca_values.specs.declared.ImplicitRange.{ImplicitRange}
 use Rattle.uca_values.specs.Content.{Properties, Entry, IsEntry}
 use Rattle.uca_values.specs.Implicit.{implicit, lead_of, pair_by_lead, unlisted_pair}
-use Rattle.uca_text.specs.Texts.{Letter, Text, NfdText, letters, letters_of, is_starter}
+use Rattle.uca_text.specs.Texts.{ClassedCodePoint, Text, NfdText, with_classes, classed, is_starter}
 use Rattle.uca_text.specs.Limits.{IsAccepted}
 use Rattle.std.specs.Iterator.{Yields, YieldsFirst}
 use Rattle.std.specs.Iterator.Runs.{Run, WholeRun}
@@ -126,13 +126,13 @@ few_implicit ranges properties point = by_lead (lead_of ranges point)
     by_lead (Some lead) = omega arith
     by_lead None = block (properties.is_core point) (properties.is_other point) _ _ _ (omega arith) (omega arith) (omega arith)
 
--- a part of at most 32 elements, after which at most n letters are left
+-- a part of at most 32 elements, after which at most n code points are left
 pub record IsShortPortion (implicit : ℕ → List Element) (rows : Rows) (p : Portion) (n : ℕ) : Type 0 where
   pub few : length (part_elements implicit rows p.part) ≤ 32
   pub rest : length p.rest ≤ n
 
 -- each portion is such a one
-pub short_portion : (implicit : ℕ → List Element) (rows : Rows) (c : Letter) (t : Text) (n : ℕ) → ((point : ℕ) → length (implicit point) ≤ 32)
+pub short_portion : (implicit : ℕ → List Element) (rows : Rows) (c : ClassedCodePoint) (t : Text) (n : ℕ) → ((point : ℕ) → length (implicit point) ≤ 32)
     → HasShortRows rows → IsShortPortion implicit rows (portion_at (is_key rows) c t n) (length t)
 short_portion implicit rows c t zero few short = record { few = few c.code; rest = omega arith }
 short_portion implicit rows c t (suc n) few short =
@@ -150,7 +150,7 @@ short_portion implicit rows c t (suc n) few short =
       );
     }
 
--- so a text has at most 32 elements for each letter
+-- so a text has at most 32 elements for each code point
 pub length-read_within : (implicit : ℕ → List Element) (rows : Rows) (n : ℕ) (t : Text) → ((point : ℕ) → length (implicit point) ≤ 32)
     → HasShortRows rows → length (flat_map (part_elements implicit rows) (parts_within (is_key rows) n t)) ≤ 32 * length t
 length-read_within implicit rows zero t few short = omega arith
@@ -167,11 +167,11 @@ length-read_within implicit rows (suc n) (c ∷ t) few short =
 pub length-elements : (c : Collation) (t : Text) → HasShortRows c.rows → length (collation_elements c.rows c.ranges c.properties t) ≤ 32 * length t
 length-elements c t short = length-read_within (implicit c.ranges c.properties) c.rows (length t) t (few_implicit c.ranges c.properties) short
 
--- a text has a letter for each code point that has a class
-pub length-letters : (points classes : List ℕ) → length (letters points classes) ≤ length points
-length-letters [] classes = omega arith
-length-letters (c ∷ points) [] = omega arith
-length-letters (c ∷ points) (k ∷ classes) = omega (arith, length-letters points classes)
+-- a text has as many code points as have a class
+pub length-with_classes : (points classes : List ℕ) → length (with_classes points classes) ≤ length points
+length-with_classes [] classes = omega arith
+length-with_classes (c ∷ points) [] = omega arith
+length-with_classes (c ∷ points) (k ∷ classes) = omega (arith, length-with_classes points classes)
 
 -- three bytes for each code point
 length-points_bytes : (points : List ℕ) → length (points_bytes points) ≡ 3 * length points
@@ -181,21 +181,21 @@ length-points_bytes (p ∷ points) = omega (arith, length-points_bytes points)
 -- the key of a text within the limits
 pub keys_short : KeysAreShort
 keys_short c Weights weighting text short accepted =
-    let t = letters_of text in
+    let t = classed text in
     omega (
       arith,
       length-key weighting (elements_of c text),
       length-elements c t short,
-      length-letters text.points text.classes,
+      length-with_classes text.points text.classes,
       accepted.few,
     )
 keys_short c Identical weighting text short accepted =
-    let t = letters_of text in
+    let t = classed text in
     omega (
       arith,
       length-key weighting (elements_of c text),
       length-elements c t short,
-      length-letters text.points text.classes,
+      length-with_classes text.points text.classes,
       length-points_bytes text.points,
       length-append (key_bytes weighting (elements_of c text)) (0 ∷ 0 ∷ points_bytes text.points),
       accepted.few,

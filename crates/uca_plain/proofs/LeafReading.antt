@@ -6,7 +6,7 @@ use Rattle.std.specs.List.{flat_map}
 use Rattle.std.proofs.lemmas.Bool.{false_from_ne_true}
 use Rattle.uca_weights.specs.declared.Element.{Element}
 use Rattle.uca_values.specs.Implicit.{implicit}
-use Rattle.uca_text.specs.Texts.{Letter, Text, NfdText, nfd_text, code_points, letters}
+use Rattle.uca_text.specs.Texts.{ClassedCodePoint, Text, NfdText, nfd_text, code_points, with_classes}
 use Rattle.uca_elements.specs.Rows.{Keys, is_key}
 use Rattle.uca_elements.specs.Lookups.{BeginsNoKeyIn}
 use Rattle.uca_elements.specs.Parts.{Part, Row, Implicit, part_elements}
@@ -17,7 +17,7 @@ use Rattle.uca_elements.proofs.MatchLemmas.{marks-append, no_longer}
 use Rattle.uca_elements.proofs.ReadingLemmas.{parts_of_none, parts_of_longest}
 use Rattle.uca_plain.specs.Leaves.{IsLeaf, AreLeaves, points_elements, leaf_elements}
 
-module _ (keys : Keys) (x : Letter) (leaf : (y : ℕ) → BeginsNoKeyIn keys (x.code ∷ y ∷ [])) where
+module _ (keys : Keys) (x : ClassedCodePoint) (leaf : (y : ℕ) → BeginsNoKeyIn keys (x.code ∷ y ∷ [])) where
   -- no key is longer
   no_key : (y : ℕ) (more : List ℕ) → keys (x.code ∷ y ∷ more) ≡ false
   no_key y more = false_from_ne_true (keys (x.code ∷ y ∷ more)) (λ key. leaf y (more, key))
@@ -62,11 +62,11 @@ module _ (c : Collation) where
   read_leaf : (x : ℕ) (xs : List ℕ) → IsLeaf c x → points_elements c (x ∷ xs) ≡ leaf_elements c x ++ points_elements c xs
   unfolding points_elements
   read_leaf x xs leaf =
-      let letter : Letter = record { code = x; class = c.properties.class x } in
+      let letter : ClassedCodePoint = record { code = x; class = c.properties.class x } in
       let key : Bool = is_key c.rows (x ∷ []) in
       let elements : Part → List Element = part_elements (implicit c.ranges c.properties) c.rows in
       let part : Part = leaf_part (is_key c.rows) letter leaf.ends key in
-      let text : Text = letters xs (map c.properties.class xs) in
+      let text : Text = with_classes xs (map c.properties.class xs) in
       ap (flat_map elements) (leaf_parts (is_key c.rows) letter leaf.ends text key refl)
       ∙ ap (λ es. es ++ points_elements c xs) (sym (append-nil (elements part)))
       ∙ ap (λ es. es ++ points_elements c xs) (sym (ap (flat_map elements) (leaf_parts (is_key c.rows) letter leaf.ends [] key refl)))

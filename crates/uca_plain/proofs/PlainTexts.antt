@@ -6,7 +6,7 @@ use Rattle.std.proofs.lemmas.List.{length-map}
 use Rattle.unicode_normalization.specs.Forms.{nfd, Nfd}
 use Rattle.unicode_normalization.proofs.FormsLemmas.{normalize-nil}
 use Rattle.uca_values.specs.Implicit.{implicit}
-use Rattle.uca_text.specs.Texts.{Text, letters, letters_of, nfd_text}
+use Rattle.uca_text.specs.Texts.{Text, with_classes, classed, nfd_text}
 use Rattle.uca_text.specs.Limits.{HasNoLongRun}
 use Rattle.uca_text.proofs.Runs.{few_have_no_long_run}
 use Rattle.uca_text.proofs.NfdLength.{nfd_length}
@@ -18,19 +18,19 @@ use Rattle.uca_elements.specs.Cuts.{IsCut}
 use Rattle.uca_elements.proofs.CutReading.{read_pieces}
 use Rattle.uca_plain.specs.Plain.{IsPlain, ArePlain, elements_alone}
 
-letters-append : (f : ℕ → ℕ) (xs ys : List ℕ) → letters (xs ++ ys) (map f (xs ++ ys)) ≡ letters xs (map f xs) ++ letters ys (map f ys)
-letters-append f [] ys = refl
-letters-append f (x ∷ xs) ys = ap (λ t. record { code = x; class = f x } ∷ t) (letters-append f xs ys)
+with_classes-append : (f : ℕ → ℕ) (xs ys : List ℕ) → with_classes (xs ++ ys) (map f (xs ++ ys)) ≡ with_classes xs (map f xs) ++ with_classes ys (map f ys)
+with_classes-append f [] ys = refl
+with_classes-append f (x ∷ xs) ys = ap (λ t. record { code = x; class = f x } ∷ t) (with_classes-append f xs ys)
 
 module _ (c : Collation) where
   abbrev text_of : List ℕ → Text
-  text_of xs = letters_of (nfd_text c.properties xs)
+  text_of xs = classed (nfd_text c.properties xs)
 
   -- a text that begins with a plain code point may be cut before it
   cut_before : (y : ℕ) (ys : List ℕ) → IsPlain c y → IsCut (is_key c.rows) (text_of (y ∷ ys))
   cut_before y ys plain =
       let begins = nfd_begins y plain.first plain.more plain.split plain.starter ys in
-      subst (λ points. IsCut (is_key c.rows) (letters points (map c.properties.class points))) (sym begins)
+      subst (λ points. IsCut (is_key c.rows) (with_classes points (map c.properties.class points))) (sym begins)
       ((let zero_class = plain.class in grind (arith, nat_tests)), plain.no_follower)
 
   -- so it reads as the two pieces
@@ -39,13 +39,13 @@ module _ (c : Collation) where
   read_before xs y ys plain =
       let pieces = nfd_pieces y plain.first plain.more plain.split plain.starter xs ys in
       let points : text_of (xs ++ y ∷ ys) ≡ text_of xs ++ text_of (y ∷ ys) =
-      ap (λ points. letters points (map c.properties.class points)) pieces ∙ letters-append c.properties.class (nfd xs) (nfd (y ∷ ys)) in
+      ap (λ points. with_classes points (map c.properties.class points)) pieces ∙ with_classes-append c.properties.class (nfd xs) (nfd (y ∷ ys)) in
       ap (read (implicit c.ranges c.properties) c.rows) points
       ∙ read_pieces (implicit c.ranges c.properties) c.rows (text_of (y ∷ ys)) (cut_before y ys plain) (text_of xs)
 
   pub plain_texts : (xs : List ℕ) → ArePlain c xs → elements_of c (nfd_text c.properties xs) ≡ flat_map (elements_alone c) xs
   plain_texts [] plain =
-      ap (λ points. collation_elements c.rows c.ranges c.properties (letters points (map c.properties.class points))) (normalize-nil Nfd)
+      ap (λ points. collation_elements c.rows c.ranges c.properties (with_classes points (map c.properties.class points))) (normalize-nil Nfd)
   plain_texts (x ∷ []) plain = sym (append-nil (elements_alone c x))
   plain_texts (x ∷ y ∷ ys) plain =
       read_before (x ∷ []) y ys plain.1.0 ∙ ap (λ es. elements_alone c x ++ es) (plain_texts (y ∷ ys) plain.1)

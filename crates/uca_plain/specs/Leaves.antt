@@ -2,7 +2,7 @@
 use Rattle.std.specs.Prelude.{ℕ, List, [], ◌∷◌, map}
 use Rattle.std.specs.List.{AllByRecursion}
 use Rattle.uca_weights.specs.declared.Element.{Element}
-use Rattle.uca_text.specs.Texts.{letters}
+use Rattle.uca_text.specs.Texts.{with_classes}
 use Rattle.uca_elements.specs.Rows.{is_key}
 use Rattle.uca_elements.specs.Lookups.{BeginsNoKeyIn}
 use Rattle.uca_elements.specs.Collations.{Collation}
@@ -17,7 +17,7 @@ AreLeaves c xs = AllByRecursion (IsLeaf c) xs
 
 -- the elements of code points that are in Normalization Form D
 unfoldable pub points_elements : Collation → List ℕ → List Element
-points_elements c xs = collation_elements c.rows c.ranges c.properties (letters xs (map c.properties.class xs))
+points_elements c xs = collation_elements c.rows c.ranges c.properties (with_classes xs (map c.properties.class xs))
 
 -- the elements of one of them alone
 abbrev pub leaf_elements : Collation → ℕ → List Element

@@ -32,13 +32,13 @@ HasNoGaps before (e ∷ es) = (HasDraftGap e → IsDraftContinuation e × IsDraf
 -- ---- Lists put together
 
 -- what has no gaps has none after any element
-pub gaps_behind : (before : Option DraftElement) (es : List DraftElement) → HasNoGaps None es → HasNoGaps before es
-gaps_behind before [] whole = tt
-gaps_behind before (e ∷ es) whole = (λ gap. absurd (whole.0 gap).1, whole.1)
+pub gaps_after : (before : Option DraftElement) (es : List DraftElement) → HasNoGaps None es → HasNoGaps before es
+gaps_after before [] whole = tt
+gaps_after before (e ∷ es) whole = (λ gap. absurd (whole.0 gap).1, whole.1)
 
 -- two lists without gaps have none together
 pub gaps_joined : (before : Option DraftElement) (es fs : List DraftElement) → HasNoGaps before es → HasNoGaps None fs → HasNoGaps before (es ++ fs)
-gaps_joined before [] fs first second = gaps_behind before fs second
+gaps_joined before [] fs first second = gaps_after before fs second
 gaps_joined before (e ∷ es) fs first second = (first.0, gaps_joined (Some e) es fs first.1 second)
 
 -- in a list without gaps an element that is no continuation has no gap
@@ -52,7 +52,7 @@ whole_in before (f ∷ front) e es whole none gap = whole_in (Some f) front e es
 pub gaps_replaced : (before : Option DraftElement) (front : List DraftElement) (e f : DraftElement) (es fs : List DraftElement)
     → HasNoGaps before (front ++ e ∷ es)
     → (HasDraftGap f → ⊥) → HasNoGaps None fs → HasNoGaps before (front ++ f ∷ fs)
-gaps_replaced before [] e f es fs whole none second = (λ gap. absurd (none gap), gaps_behind (Some f) fs second)
+gaps_replaced before [] e f es fs whole none second = (λ gap. absurd (none gap), gaps_after (Some f) fs second)
 gaps_replaced before (x ∷ front) e f es fs whole none second = (whole.0, gaps_replaced (Some x) front e f es fs whole.1 none second)
 
 -- the last element of an accepted part has no gap

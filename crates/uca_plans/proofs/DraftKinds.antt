@@ -10,9 +10,9 @@ use Rattle.uca_weights.specs.declared.Level.TheVariants.{One, Two, Three}
 use Rattle.uca_plans.specs.declared.drafts.DraftWeight.{DraftWeight}
 use Rattle.uca_plans.specs.declared.drafts.DraftWeight.TheVariants.{Base, New}
 use Rattle.uca_plans.specs.declared.drafts.DraftElement.{DraftElement}
-use Rattle.uca_plans.specs.Drafts.{is_zero, draft_weight, is_ignorable_to, AnchorPart, behind_front, anchor_part, is_implicit_primary, is_continuation, takes_no_weight}
+use Rattle.uca_plans.specs.Drafts.{is_zero, draft_weight, is_ignorable_to, AnchorPart, after_front, anchor_part, is_implicit_primary, is_continuation, takes_no_weight}
 use Rattle.uca_plans.specs.Drafts.{accepted_part, reset, reweighted}
-use Rattle.uca_plans.specs.Plans.{Drafted, placed_behind, placed_if_accepted, drafted_at}
+use Rattle.uca_plans.specs.Plans.{Drafted, placed_after, placed_if_accepted, drafted_at}
 
 -- ---- Kinds
 
@@ -149,7 +149,7 @@ all_are_ignorable level (e ∷ es) none = go (anchor_part level es) (all_are_ign
 
     -- by the part of the rest
     go : (rest : Option AnchorPart) → (anchor_part level es ≡ None → AllByRecursion (λ f. is_ignorable_to level f ≡ true) es) → anchor_part level es ≡ rest
-        → behind_front level e rest ≡ None → AllByRecursion (λ f. is_ignorable_to level f ≡ true) (e ∷ es)
+        → after_front level e rest ≡ None → AllByRecursion (λ f. is_ignorable_to level f ≡ true) (e ∷ es)
     go (Some p) more is joined = absurd (cc)
     go None more is joined = (by_test (is_ignorable_to level e) refl joined, more is)
 
@@ -160,7 +160,7 @@ part_is level (e ∷ es) part found = go (anchor_part level es) refl (λ p. part
   where
     -- by the part of the rest
     go : (rest : Option AnchorPart) → anchor_part level es ≡ rest → ((p : AnchorPart) → anchor_part level es ≡ Some p → IsAnchorPart level es p)
-        → behind_front level e rest ≡ Some part → IsAnchorPart level (e ∷ es) part
+        → after_front level e rest ≡ Some part → IsAnchorPart level (e ∷ es) part
     go (Some p) is more joined =
         let inner = more p is in
         let same : record { front = e ∷ p.front; last = p.last } ≡ part = cc in
@@ -182,7 +182,7 @@ pub record IsPlacedDraft (level : Level) (before : Bool) (n : ℕ) (anchor expan
   pub part : AnchorPart
   pub found : IsAnchorPart level anchor part
   pub accepted : takes_no_weight level part.last ≡ false
-  pub is : new ≡ placed_behind level before (New n) part expansion
+  pub is : new ≡ placed_after level before (New n) part expansion
 
 -- the part that is accepted
 pub accepted_is : (level : Level) (found : Option AnchorPart) (part : AnchorPart) → accepted_part level found ≡ Some part
@@ -209,7 +209,7 @@ placed_is level before n anchor expansion new drafted = go (accepted_part level 
     go None is placed = absurd (cc)
     go (Some part) is placed =
         let accepted = accepted_is level (anchor_part level anchor) part is in
-        let same : placed_behind level before (New n) part expansion ≡ new = cc in
+        let same : placed_after level before (New n) part expansion ≡ new = cc in
         record { part = part; found = part_is level anchor part accepted.0; accepted = accepted.1; is = sym same }
 
 -- what is drafted at no level: the elements of the anchor and of the expansion

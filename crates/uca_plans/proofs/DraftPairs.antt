@@ -6,7 +6,7 @@ use Rattle.std.specs.List.{AllByRecursion, flat_map}
 use Rattle.uca_values.specs.declared.ImplicitRange.{ImplicitRange}
 use Rattle.uca_values.specs.Content.{Properties}
 use Rattle.uca_values.specs.Implicit.{implicit}
-use Rattle.uca_text.specs.Texts.{NfdText, code_points, letters, letters_of}
+use Rattle.uca_text.specs.Texts.{NfdText, code_points, with_classes, classed}
 use Rattle.uca_elements.specs.Rows.{same_key}
 use Rattle.uca_elements.specs.Parts.{Part, Row, Implicit, IsPartOf}
 use Rattle.uca_elements.specs.Reading.{parts}
@@ -16,7 +16,7 @@ use Rattle.uca_plans.specs.declared.drafts.DraftElement.{DraftElement}
 use Rattle.uca_plans.specs.Drafts.{DraftRow, as_draft, has_key, draft_at, part_drafts, draft_elements}
 
 -- what is true of each code point of a text is true of each of its letters
-each_letter : (P : ℕ → Type 0) (points classes : List ℕ) → AllByRecursion P points → AllByRecursion P (code_points (letters points classes))
+each_letter : (P : ℕ → Type 0) (points classes : List ℕ) → AllByRecursion P points → AllByRecursion P (code_points (with_classes points classes))
 each_letter P [] classes all = tt
 each_letter P (c ∷ points) [] all = tt
 each_letter P (c ∷ points) (k ∷ classes) all = (all.0, each_letter P points classes all.1)
@@ -38,16 +38,16 @@ module _ (P : List DraftElement → Type 0) (none : P []) (append : (es fs : Lis
       → AllByRecursion (λ c. P (map (as_draft true) (implicit ranges properties c))) text.points
       → P (draft_elements ranges properties rows text)
   read_each ranges properties rows text at_rows at_points =
-      each (parts (has_key rows) (letters_of text)) (each_part (has_key rows) (letters_of text))
+      each (parts (has_key rows) (classed text)) (each_part (has_key rows) (classed text))
     where
       -- the draft elements of one part
-      of_part : (p : Part) → IsPartOf (has_key rows) (letters_of text) p → P (part_drafts ranges properties rows p)
+      of_part : (p : Part) → IsPartOf (has_key rows) (classed text) p → P (part_drafts ranges properties rows p)
       of_part (Row key) is = at_key rows key at_rows
       of_part (Implicit c) is =
-          each_contained (λ d. P (map (as_draft true) (implicit ranges properties d))) (code_points (letters_of text)) c
+          each_contained (λ d. P (map (as_draft true) (implicit ranges properties d))) (code_points (classed text)) c
           (each_letter (λ d. P (map (as_draft true) (implicit ranges properties d))) text.points text.classes at_points) is
 
       -- and of some
-      each : (ps : List Part) → AllByRecursion (IsPartOf (has_key rows) (letters_of text)) ps → P (flat_map (part_drafts ranges properties rows) ps)
+      each : (ps : List Part) → AllByRecursion (IsPartOf (has_key rows) (classed text)) ps → P (flat_map (part_drafts ranges properties rows) ps)
       each [] are = none
       each (p ∷ ps) are = append (part_drafts ranges properties rows p) (flat_map (part_drafts ranges properties rows) ps) (of_part p are.0) (each ps are.1)

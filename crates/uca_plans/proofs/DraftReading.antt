@@ -8,7 +8,7 @@ use Rattle.uca_weights.specs.declared.Element.{Element}
 use Rattle.uca_values.specs.declared.ImplicitRange.{ImplicitRange}
 use Rattle.uca_values.specs.Content.{Properties}
 use Rattle.uca_values.specs.Implicit.{implicit}
-use Rattle.uca_text.specs.Texts.{NfdText, code_points, letters, letters_of}
+use Rattle.uca_text.specs.Texts.{NfdText, code_points, with_classes, classed}
 use Rattle.uca_text.specs.Occurring.{OccursInOrder}
 use Rattle.uca_text.proofs.Occurring.{occurs_trans}
 use Rattle.uca_elements.specs.Rows.{rows_of, is_key, same_key}
@@ -23,26 +23,26 @@ use Rattle.uca_plans.proofs.KeyPlaces.{has_draft}
 -- ---- Texts
 
 -- letters have the code points that they are made of
-points_of_letters : (points classes : List ℕ) → length classes ≡ length points → code_points (letters points classes) ≡ points
+points_of_letters : (points classes : List ℕ) → length classes ≡ length points → code_points (with_classes points classes) ≡ points
 points_of_letters [] classes same = refl
 points_of_letters (c ∷ points) [] same = absurd (omega arith)
 points_of_letters (c ∷ points) (k ∷ classes) same = ap (λ rest. c ∷ rest) (points_of_letters points classes (omega arith))
 
 -- a text has the code points of its NFD
-pub points_of : (text : NfdText) → length text.classes ≡ length text.points → code_points (letters_of text) ≡ text.points
+pub points_of : (text : NfdText) → length text.classes ≡ length text.points → code_points (classed text) ≡ text.points
 points_of text same = points_of_letters text.points text.classes same
 
-letters_occur : (points classes : List ℕ) → OccursInOrder (code_points (letters points classes)) points
+letters_occur : (points classes : List ℕ) → OccursInOrder (code_points (with_classes points classes)) points
 letters_occur [] classes = tt
 letters_occur (c ∷ points) [] = tt
 letters_occur (c ∷ points) (k ∷ classes) = inl (refl, letters_occur points classes)
 
 -- what occurs in order in the letters of a text occurs in it
-pub occurs_in_text : (key : List ℕ) (text : NfdText) → OccursInOrder key (code_points (letters_of text)) → OccursInOrder key text.points
-occurs_in_text key text h = occurs_trans key (code_points (letters_of text)) text.points h (letters_occur text.points text.classes)
+pub occurs_in_text : (key : List ℕ) (text : NfdText) → OccursInOrder key (code_points (classed text)) → OccursInOrder key text.points
+occurs_in_text key text h = occurs_trans key (code_points (classed text)) text.points h (letters_occur text.points text.classes)
 
 -- a text with code points has letters
-pub letters_some : (text : NfdText) → length text.classes ≡ length text.points → text.points ≢ [] → letters_of text ≢ []
+pub letters_some : (text : NfdText) → length text.classes ≡ length text.points → text.points ≢ [] → classed text ≢ []
 letters_some text same some none = some (sym (points_of text same) ∙ ap code_points none)
 
 -- ---- By what occurs
@@ -56,12 +56,12 @@ same_at_parts f g P same (p ∷ ps) each = ap₂ (λ es fs. es ++ fs) (same p ea
 -- drafts that agree at the keys that occur in order in a text read it alike
 pub read_by_what_occurs : DraftsReadByWhatOccurs
 read_by_what_occurs ranges properties rows others text agree =
-    same_at_parts (part_drafts ranges properties rows) (part_drafts ranges properties others) (IsPartOf (has_key rows) (letters_of text)) same
-    (parts (has_key rows) (letters_of text)) (each_part (has_key rows) (letters_of text))
-    ∙ ap (flat_map (part_drafts ranges properties others)) (parts_same (has_key rows) (has_key others) (letters_of text)
+    same_at_parts (part_drafts ranges properties rows) (part_drafts ranges properties others) (IsPartOf (has_key rows) (classed text)) same
+    (parts (has_key rows) (classed text)) (each_part (has_key rows) (classed text))
+    ∙ ap (flat_map (part_drafts ranges properties others)) (parts_same (has_key rows) (has_key others) (classed text)
     (λ key occurs. sym (has_draft rows key) ∙ ap is_some (agree key (occurs_in_text key text occurs)) ∙ has_draft others key))
   where
-    same : (p : Part) → IsPartOf (has_key rows) (letters_of text) p → part_drafts ranges properties rows p ≡ part_drafts ranges properties others p
+    same : (p : Part) → IsPartOf (has_key rows) (classed text) p → part_drafts ranges properties rows p ≡ part_drafts ranges properties others p
     same (Row key) is = ap (λ o. unwrap_or o []) (agree key (occurs_in_text key text is.1))
     same (Implicit c) is = refl
 
@@ -70,11 +70,11 @@ read_by_what_occurs ranges properties rows others text agree =
 -- it is its one part, and reads as its row
 pub read_of_key : KeysReadAsTheirRows
 read_of_key ranges properties rows text row same some found =
-    let points : code_points (letters_of text) ≡ text.points = points_of text same in
+    let points : code_points (classed text) ≡ text.points = points_of text same in
     ap (flat_map (part_drafts ranges properties rows))
-    (key_is_part (has_key rows) (letters_of text) (letters_some text same some)
+    (key_is_part (has_key rows) (classed text) (letters_some text same some)
     (ap (has_key rows) points ∙ sym (has_draft rows text.points) ∙ ap is_some found))
-    ∙ append-nil (unwrap_or (draft_at rows (code_points (letters_of text))) [])
+    ∙ append-nil (unwrap_or (draft_at rows (code_points (classed text))) [])
     ∙ ap (λ key. unwrap_or (draft_at rows key) []) points
     ∙ ap (λ o. unwrap_or o []) found
 
@@ -122,6 +122,6 @@ valued_key value rows key = ap is_some (valued_row value rows key) ∙ go (draft
 -- reading the rows where each element is valued gives the draft elements, each valued
 pub read_as_rows : DraftsReadAsRows
 read_as_rows value ranges properties rows text keeps =
-    parts_valued value rows ranges properties keeps (parts (is_key (rows_of (valued_rows value rows))) (letters_of text))
+    parts_valued value rows ranges properties keeps (parts (is_key (rows_of (valued_rows value rows))) (classed text))
     ∙ ap (λ ps. map value (flat_map (part_drafts ranges properties rows) ps))
-    (parts_same (is_key (rows_of (valued_rows value rows))) (has_key rows) (letters_of text) (λ key _. valued_key value rows key))
+    (parts_same (is_key (rows_of (valued_rows value rows))) (has_key rows) (classed text) (λ key _. valued_key value rows key))

@@ -1,9 +1,9 @@
 -- What an insertion makes of a level's list.
 use Rattle.std.proofs.Common.{◌≡◌, ◌⊎◌, inl, inr, ◌+◌, Bool, true, false, List, [], ◌∷◌, length, if◌then◌else◌, refl, sym, arith, subst}
 use Rattle.uca_plans.specs.declared.drafts.DraftWeight.{DraftWeight}
-use Rattle.uca_plans.specs.Lists.{Insertion, inserted, same_weight, before_weight, behind_weight}
+use Rattle.uca_plans.specs.Lists.{Insertion, inserted, same_weight, before_weight, after_weight}
 use Rattle.uca_plans.specs.ListLaws.{IsAmong, StandsBefore, AreApart, NewWeightsStandNearest, NothingStandsBetween, NewWeightsTakePlaces}
-use Rattle.uca_plans.proofs.ListMembers.{same_or_other, second_among, behind_first, among_same}
+use Rattle.uca_plans.proofs.ListMembers.{same_or_other, second_among, after_first, among_same}
 
 -- a new weight put directly before or after the first position of another
 pub data Inserts (a n : DraftWeight) : Bool → List DraftWeight → List DraftWeight → Type 0 where
@@ -111,37 +111,37 @@ inserts_kept v w (later other h) (inr there) = inr (inserts_kept v w h there)
 -- what comes before the anchor's weight comes before the new one
 inserts_below : {a n : DraftWeight} {b : Bool} {ms ns : List DraftWeight} (v : DraftWeight) → Inserts a n b ms ns → AreApart ms → StandsBefore ms v a
     → StandsBefore ns v n
-inserts_below {a = a} v (ahead {ms = ms}) apart stands = absurd (apart.0 (behind_first a ms v a stands))
-inserts_below {a = a} v (behind {ms = ms}) apart stands = absurd (apart.0 (behind_first a ms v a stands))
+inserts_below {a = a} v (ahead {ms = ms}) apart stands = absurd (apart.0 (after_first a ms v a stands))
+inserts_below {a = a} v (behind {ms = ms}) apart stands = absurd (apart.0 (after_first a ms v a stands))
 inserts_below v (later other h) apart (inl here) = inl (here.0, inserts_new h)
 inserts_below v (later other h) apart (inr there) = inr (inserts_below v h apart.1 there)
 
 -- what comes after the anchor's weight comes after the new one
 inserts_above : {a n : DraftWeight} {b : Bool} {ms ns : List DraftWeight} (w : DraftWeight) → Inserts a n b ms ns → StandsBefore ms a w
     → StandsBefore ns n w
-inserts_above {a = a} w (ahead {ms = ms}) stands = inl (refl, inr (behind_first a ms a w stands))
-inserts_above {a = a} w (behind {ms = ms}) stands = inr (inl (refl, behind_first a ms a w stands))
+inserts_above {a = a} w (ahead {ms = ms}) stands = inl (refl, inr (after_first a ms a w stands))
+inserts_above {a = a} w (behind {ms = ms}) stands = inr (inl (refl, after_first a ms a w stands))
 inserts_above w (later other h) (inl here) = absurd (other (sym here.0))
 inserts_above w (later other h) (inr there) = inr (inserts_above w h there)
 
 -- ---- Nothing between
 
 -- nothing is after the anchor's weight and before the new one
-none_behind : {a n : DraftWeight} {b : Bool} {ms ns : List DraftWeight} (w : DraftWeight) → Inserts a n b ms ns → AreApart ns
+none_after : {a n : DraftWeight} {b : Bool} {ms ns : List DraftWeight} (w : DraftWeight) → Inserts a n b ms ns → AreApart ns
     → StandsBefore ns a w → StandsBefore ns w n → ⊥
-none_behind {a = a} {n = n} w (ahead {ms = ms}) apart first second = apart.0 (behind_first n (a ∷ ms) w n second)
-none_behind {a = a} {n = n} w (behind {ms = ms}) apart first (inl here) = apart.0 (among_same (n ∷ ms) w a (sym here.0) (behind_first a (n ∷ ms) a w first))
-none_behind {n = n} w (behind {ms = ms}) apart first (inr there) = apart.1.0 (behind_first n ms w n there)
-none_behind w (later other h) apart (inl here) second = other (sym here.0)
-none_behind {a = a} w (later {m = m} {ns = ns} other h) apart (inr there) (inl here) = apart.0 (among_same ns w m (sym here.0) (second_among ns a w there))
-none_behind w (later other h) apart (inr there) (inr also) = none_behind w h apart.1 there also
+none_after {a = a} {n = n} w (ahead {ms = ms}) apart first second = apart.0 (after_first n (a ∷ ms) w n second)
+none_after {a = a} {n = n} w (behind {ms = ms}) apart first (inl here) = apart.0 (among_same (n ∷ ms) w a (sym here.0) (after_first a (n ∷ ms) a w first))
+none_after {n = n} w (behind {ms = ms}) apart first (inr there) = apart.1.0 (after_first n ms w n there)
+none_after w (later other h) apart (inl here) second = other (sym here.0)
+none_after {a = a} w (later {m = m} {ns = ns} other h) apart (inr there) (inl here) = apart.0 (among_same ns w m (sym here.0) (second_among ns a w there))
+none_after w (later other h) apart (inr there) (inr also) = none_after w h apart.1 there also
 
 -- nothing is after the new weight and before the anchor's
 none_before : {a n : DraftWeight} {b : Bool} {ms ns : List DraftWeight} (w : DraftWeight) → Inserts a n b ms ns → AreApart ns
     → StandsBefore ns n w → StandsBefore ns w a → ⊥
-none_before {a = a} {n = n} w (ahead {ms = ms}) apart first (inl here) = apart.0 (among_same (a ∷ ms) w n (sym here.0) (behind_first n (a ∷ ms) n w first))
-none_before {a = a} w (ahead {ms = ms}) apart first (inr there) = apart.1.0 (behind_first a ms w a there)
-none_before {a = a} {n = n} w (behind {ms = ms}) apart first second = apart.0 (behind_first a (n ∷ ms) w a second)
+none_before {a = a} {n = n} w (ahead {ms = ms}) apart first (inl here) = apart.0 (among_same (a ∷ ms) w n (sym here.0) (after_first n (a ∷ ms) n w first))
+none_before {a = a} w (ahead {ms = ms}) apart first (inr there) = apart.1.0 (after_first a ms w a there)
+none_before {a = a} {n = n} w (behind {ms = ms}) apart first second = apart.0 (after_first a (n ∷ ms) w a second)
 none_before {n = n} w (later {m = m} {ns = ns} other h) apart (inl here) second = apart.0 (among_same ns n m (sym here.0) (inserts_new h))
 none_before {n = n} w (later {m = m} {ns = ns} other h) apart (inr there) (inl here) = apart.0 (among_same ns w m (sym here.0) (second_among ns n w there))
 none_before w (later other h) apart (inr there) (inr also) = none_before w h apart.1 there also
@@ -179,9 +179,9 @@ not_same f n other = elim (same_or_other f n) [
 abbrev TakesOne : DraftWeight → DraftWeight → Bool → List DraftWeight → List DraftWeight → Type 0
 TakesOne f a b ms ns =
     ((StandsBefore ms a f ⊎ ((a ≡ f) × (b ≡ true)))
-    × (length (before_weight f ns) ≡ length (before_weight f ms) + 1) × (length (behind_weight f ns) ≡ length (behind_weight f ms)))
+    × (length (before_weight f ns) ≡ length (before_weight f ms) + 1) × (length (after_weight f ns) ≡ length (after_weight f ms)))
     ⊎ ((StandsBefore ms f a ⊎ ((a ≡ f) × (b ≡ false)))
-    × (length (before_weight f ns) ≡ length (before_weight f ms)) × (length (behind_weight f ns) ≡ length (behind_weight f ms) + 1))
+    × (length (before_weight f ns) ≡ length (before_weight f ms)) × (length (after_weight f ns) ≡ length (after_weight f ms) + 1))
 
 -- one member more in front that is not the weight
 takes_later : (f a m : DraftWeight) (b : Bool) (ms ns : List DraftWeight) → same_weight f m ≡ false → TakesOne f a b ms ns
@@ -235,10 +235,10 @@ stands_nearest i members apart among fresh =
 pub stands_next : NothingStandsBetween
 stands_next i members apart among fresh =
     let h = inserts i members among in
-    let apart_behind = inserts_apart h apart fresh in
+    let apart_after = inserts_apart h apart fresh in
     record {
-      none_behind = λ w. none_behind w h apart_behind;
-      none_before = λ w. none_before w h apart_behind;
+      none_after = λ w. none_after w h apart_after;
+      none_before = λ w. none_before w h apart_after;
       same = λ v w among_v among_w. (
         inserts_stood v w h (λ new. fresh (among_same members v i.new new among_v)) (λ new. fresh (among_same members w i.new new among_w)),
         inserts_kept v w h,

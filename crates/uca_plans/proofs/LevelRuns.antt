@@ -26,16 +26,16 @@ use Rattle.uca_plans.proofs.GoodLists.{IsGoodList, good_fixed}
 -- ---- Runs that rise from 1 on
 
 -- runs that rise after a run
-rising_behind : (level : Level) (s : Run) (runs : List Run) → 0 < s.from → 0 < s.to
+rising_after : (level : Level) (s : Run) (runs : List Run) → 0 < s.from → 0 < s.to
     → AreRunsFrom (weights_end level) (s.from + s.count) (s.to + s.count) runs → AreRising level (Some s) runs
-rising_behind level s [] from to rise = tt
-rising_behind level s (r ∷ runs) from to rise = (
+rising_after level s [] from to rise = tt
+rising_after level s (r ∷ runs) from to rise = (
   record {
     some = rise.0;
     range = record { from_zero = omega (arith, rise.1); to_zero = omega (arith, rise.2); from_end = rise.3; to_end = rise.4 };
     above = (rise.1, rise.2);
   },
-  rising_behind level r runs (omega (arith, rise.1)) (omega (arith, rise.2)) rise.5,
+  rising_after level r runs (omega (arith, rise.1)) (omega (arith, rise.2)) rise.5,
 )
 
 -- runs that rise from 1 on are proper
@@ -47,7 +47,7 @@ rising_from_one level (r ∷ runs) rise = (
     range = record { from_zero = omega (arith, rise.1); to_zero = omega (arith, rise.2); from_end = rise.3; to_end = rise.4 };
     above = tt;
   },
-  rising_behind level r runs (omega (arith, rise.1)) (omega (arith, rise.2)) rise.5,
+  rising_after level r runs (omega (arith, rise.1)) (omega (arith, rise.2)) rise.5,
 )
 
 -- ---- Zero

@@ -5,7 +5,7 @@ use Rattle.std.proofs.lemmas.Bool.Decides.{nat_tests}
 use Rattle.std.specs.List.{AllByRecursion}
 use Rattle.uca_plans.specs.declared.drafts.DraftWeight.{DraftWeight}
 use Rattle.uca_plans.specs.declared.drafts.DraftWeight.TheVariants.{Base, New}
-use Rattle.uca_plans.specs.Lists.{same_weight, before_weight, behind_weight}
+use Rattle.uca_plans.specs.Lists.{same_weight, before_weight, after_weight}
 use Rattle.uca_plans.specs.ListLaws.{IsAmong, StandsBefore, AreApart}
 
 -- ---- Equal weights
@@ -56,9 +56,9 @@ second_among (m ∷ ms) v w (inl here) = inr here.1
 second_among (m ∷ ms) v w (inr there) = inr (second_among ms v w there)
 
 -- what comes after the first is a member of the rest
-pub behind_first : (m : DraftWeight) (ms : List DraftWeight) (v w : DraftWeight) → StandsBefore (m ∷ ms) v w → IsAmong ms w
-behind_first m ms v w (inl here) = here.1
-behind_first m ms v w (inr there) = second_among ms v w there
+pub after_first : (m : DraftWeight) (ms : List DraftWeight) (v w : DraftWeight) → StandsBefore (m ∷ ms) v w → IsAmong ms w
+after_first m ms v w (inl here) = here.1
+after_first m ms v w (inr there) = second_among ms v w there
 
 -- equal weights are members together
 pub among_same : (ms : List DraftWeight) (v w : DraftWeight) → v ≡ w → IsAmong ms v → IsAmong ms w
@@ -73,7 +73,7 @@ not_before_itself (m ∷ ms) v apart (inr there) = not_before_itself ms v apart.
 -- ---- Lists cut at a member
 
 -- a list is the members before one, that one, and those after it
-pub weight_split : (w : DraftWeight) (ms : List DraftWeight) → IsAmong ms w → before_weight w ms ++ w ∷ behind_weight w ms ≡ ms
+pub weight_split : (w : DraftWeight) (ms : List DraftWeight) → IsAmong ms w → before_weight w ms ++ w ∷ after_weight w ms ≡ ms
 weight_split w [] among = absurd among
 weight_split w (m ∷ ms) among = elim (same_or_other w m) [
   | inl same ↦ rw same.0 (ap (λ x. x ∷ ms) same.1)

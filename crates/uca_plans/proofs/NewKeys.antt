@@ -56,13 +56,13 @@ others_kept new keys (s ∷ relations) others =
     ∙ ap (λ rest. cond (not (is_among keys s.target.points)) (s.target.points ∷ rest) rest) (others_kept new keys relations others.1)
 
 -- targets come after keys, without those that are among them
-behind_keys : (keys : List (List ℕ)) (relations : List Relation) → AreDistinct relations
+after_keys : (keys : List (List ℕ)) (relations : List Relation) → AreDistinct relations
     → with_targets relations keys ≡ keys ++ others_than keys (targets relations)
-behind_keys keys [] distinct = sym (append-nil keys)
-behind_keys keys (r ∷ relations) distinct =
+after_keys keys [] distinct = sym (append-nil keys)
+after_keys keys (r ∷ relations) distinct =
     let new = r.target.points in
     let rest = others_than keys (targets relations) in
-    behind_keys (with_key new keys) relations (rest_distinct r relations distinct)
+    after_keys (with_key new keys) relations (rest_distinct r relations distinct)
     ∙ ap (λ texts. with_key new keys ++ texts) (others_kept new keys relations (first_other r relations distinct))
     ∙ ap (λ more. more ++ rest) (with_key_is new keys)
     ∙ go (is_among keys new) rest
@@ -80,7 +80,7 @@ plan_keys basis relations plan distinct planned_so =
     ap (λ (p : Plan). keys_of p.rows) made.is_plan
     ∙ keys_of_numbered (level_plans (elements_of basis.base) made.drafting.insertions) made.drafting.rows
     ∙ keys_so_far basis relations made.drafting made.steps
-    ∙ behind_keys (keys_of basis.base) relations distinct
+    ∙ after_keys (keys_of basis.base) relations distinct
     ∙ ap (λ news. keys_of basis.base ++ news)
     (filter_agree (λ key. not (is_among (keys_of basis.base) key)) (λ key. not (is_key (rows_of basis.base) key))
     (λ key. ap not (sym (found_among basis.base key))) (targets relations))

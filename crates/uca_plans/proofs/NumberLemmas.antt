@@ -87,13 +87,13 @@ number_here segment before m behind =
 -- ---- In one pass
 
 -- the pass goes on from what was reached
-pass_behind : (segment : Segment) (before behind : List DraftWeight)
+pass_after : (segment : Segment) (before behind : List DraftWeight)
     → map (number segment (before ++ behind)) (range_with_len (length before + 1) (length behind)) ≡ numbers_from segment.top (reached segment before) behind
-pass_behind segment before [] = refl
-pass_behind segment before (m ∷ behind) =
+pass_after segment before [] = refl
+pass_after segment before (m ∷ behind) =
     let all = before ++ m ∷ behind in
     let here = number_here segment before m behind in
-    let later = pass_behind segment (before ++ m ∷ []) behind in
+    let later = pass_after segment (before ++ m ∷ []) behind in
     let same : (before ++ m ∷ []) ++ behind ≡ all = append_assoc before (m ∷ []) behind in
     let place : length (before ++ m ∷ []) + 1 ≡ (length before + 1) + 1 = omega (arith, length-append before (m ∷ [])) in
     let rest : map (number segment all) (range_with_len ((length before + 1) + 1) (length behind)) ≡ numbers_from segment.top (one_further m (reached segment before)) behind =
@@ -107,7 +107,7 @@ pass_behind segment before (m ∷ behind) =
 pub numbers_in_one_pass : (segment : Segment) (members : List DraftWeight) → numbers_of segment members ≡ numbers_from segment.top segment.below members
 numbers_in_one_pass segment members =
     let start : segment.below + 0 ≡ segment.below = omega arith in
-    pass_behind segment [] members ∙ ap (λ reach. numbers_from segment.top reach members) start
+    pass_after segment [] members ∙ ap (λ reach. numbers_from segment.top reach members) start
 
 -- ---- The order of numbers
 
@@ -135,7 +135,7 @@ less_number segment members places i m i_within m_within less = elim (cases_lt i
   | inl before ↦ before
   | inr not_before ↦ elim (cases_lt m i) [
     | inl behind ↦ let back = number_order segment members places m i behind i_within in absurd (omega arith)
-    | inr not_behind ↦ let same : i ≡ m = omega arith in absurd (omega (arith, less, ap (λ n. number segment members n) same))
+    | inr not_after ↦ let same : i ≡ m = omega arith in absurd (omega (arith, less, ap (λ n. number segment members n) same))
   ]
 ]
 

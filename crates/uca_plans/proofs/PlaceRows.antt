@@ -54,21 +54,21 @@ row_at new rows i there found =
     (omega (arith, here.1.within), here.1.replaced ∙ ap (λ k. set rows k new) is)
 
 -- a row with a new key comes after the others
-pub row_behind : (new : DraftRow) (rows : List DraftRow) → has_key rows new.key ≡ false → with_row new rows ≡ rows ++ new ∷ []
-row_behind new [] other = refl
-row_behind new (row ∷ rows) other =
+pub row_after : (new : DraftRow) (rows : List DraftRow) → has_key rows new.key ≡ false → with_row new rows ≡ rows ++ new ∷ []
+row_after new [] other = refl
+row_after new (row ∷ rows) other =
     let parts = or_parts (same_key row.key new.key) (has_key rows new.key) other in
-    cond-false (same_key row.key new.key) (new ∷ rows) (row ∷ with_row new rows) parts.0 ∙ ap (λ more. row ∷ more) (row_behind new rows parts.1)
+    cond-false (same_key row.key new.key) (new ∷ rows) (row ∷ with_row new rows) parts.0 ∙ ap (λ more. row ∷ more) (row_after new rows parts.1)
 
 -- and its position is their number
-pub place_behind : (place : ℕ) (new : List ℕ) (keys : List (List ℕ)) → is_among keys new ≡ false →
+pub place_after : (place : ℕ) (new : List ℕ) (keys : List (List ℕ)) → is_among keys new ≡ false →
     place_at place (with_key new keys) new ≡ Some (place + length keys)
-place_behind place new [] other =
+place_after place new [] other =
     cond-true (same_key new new) (Some place) None (same_key-itself new)
     ∙ ap (λ p. Some p) (let same : place ≡ place + 0 = omega arith in same)
-place_behind place new (key ∷ keys) other =
+place_after place new (key ∷ keys) other =
     let parts = or_parts (same_key key new) (is_among keys new) other in
     ap (λ ks. place_at place ks new) (cond-false (same_key key new) (key ∷ keys) (key ∷ with_key new keys) parts.0)
     ∙ cond-false (same_key key new) (Some place) (place_at (place + 1) (with_key new keys) new) parts.0
-    ∙ place_behind (place + 1) new keys parts.1
+    ∙ place_after (place + 1) new keys parts.1
     ∙ ap (λ p. Some p) (let same : place + 1 + length keys ≡ place + suc (length keys) = omega arith in same)

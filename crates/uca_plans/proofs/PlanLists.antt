@@ -13,7 +13,7 @@ use Rattle.uca_plans.specs.declared.drafts.DraftWeight.TheVariants.{Base, New}
 use Rattle.uca_plans.specs.declared.drafts.DraftElement.{DraftElement}
 use Rattle.uca_plans.specs.Lists.{Insertion, base_weights, same_level, inserted, all_inserted, members_of}
 use Rattle.uca_plans.specs.Drafts.{AnchorPart, anchor_part, accepted_part, draft_weight, draft_elements}
-use Rattle.uca_plans.specs.Plans.{Basis, Drafting, Drafted, placed_behind, placed_if_accepted, drafted_at, draft_expansion, begun, Plan, planned}
+use Rattle.uca_plans.specs.Plans.{Basis, Drafting, Drafted, placed_after, placed_if_accepted, drafted_at, draft_expansion, begun, Plan, planned}
 use Rattle.uca_plans.proofs.GoodLists.{IsGoodList, IsGrown, good_base, good_more, good_inserted, grown_same, grown_through, grown_inserted}
 use Rattle.uca_plans.proofs.LevelRuns.{good_proper}
 use Rattle.uca_plans.proofs.PlanSteps.{IsStep, AreSteps, IsPlanned, planned_is}
@@ -21,10 +21,10 @@ use Rattle.uca_plans.proofs.PlanSteps.{IsStep, AreSteps, IsPlanned, planned_is}
 -- ---- Insertions
 
 -- insertions after others
-pub inserted_behind : (level : Level) (is js : List Insertion) (ms : List DraftWeight)
+pub inserted_after : (level : Level) (is js : List Insertion) (ms : List DraftWeight)
     → all_inserted level (is ++ js) ms ≡ all_inserted level js (all_inserted level is ms)
-inserted_behind level [] js ms = refl
-inserted_behind level (i ∷ is) js ms = inserted_behind level is js (if same_level i.level level then inserted i ms else ms)
+inserted_after level [] js ms = refl
+inserted_after level (i ∷ is) js ms = inserted_after level is js (if same_level i.level level then inserted i ms else ms)
 
 -- a relation puts in its own new weight or none
 abbrev pub AreNamed : ℕ → List Insertion → Type 0
@@ -42,7 +42,7 @@ named_at (Some level) before n anchor expansion new is = go (accepted_part level
     go None refused = absurd (cc)
     go (Some part) placed =
         let i : Insertion = record { level = level; before = before; anchor = draft_weight level part.last; new = New n } in
-        let same : placed_behind level before (New n) part expansion ≡ new = cc in inr (i, sym (ap (λ d. d.insertions) same), refl)
+        let same : placed_after level before (New n) part expansion ≡ new = cc in inr (i, sym (ap (λ d. d.insertions) same), refl)
 
 -- a good list is good after the insertions of a relation, and has grown
 good_all : (level : Level) (es : List Element) (n : ℕ) (is : List Insertion) (ms : List DraftWeight) → AreNamed n is → IsGoodList level es n ms
@@ -80,7 +80,7 @@ pub step_list : (basis : Basis) (n : ℕ) (rule : Relation) (a b : Drafting) (st
     → list_at level basis b ≡ all_inserted level step.new.insertions (list_at level basis a)
 step_list basis n rule a b step level =
     ap (λ is. members_of level (elements_of basis.base) is) step.insertions
-    ∙ inserted_behind level a.insertions step.new.insertions (map Base (base_weights level (elements_of basis.base)))
+    ∙ inserted_after level a.insertions step.new.insertions (map Base (base_weights level (elements_of basis.base)))
 
 -- good lists are good after a step, and have grown
 pub good_step : (basis : Basis) (n : ℕ) (rule : Relation) (a b : Drafting) → IsStep basis n rule a b → HasGoodLists basis n a

@@ -11,7 +11,7 @@ use Rattle.uca_check.specs.WellFormed.{elements_of}
 use Rattle.uca_plans.specs.declared.drafts.DraftWeight.{DraftWeight}
 use Rattle.uca_plans.specs.declared.drafts.DraftWeight.TheVariants.{Base, New}
 use Rattle.uca_plans.specs.declared.drafts.Segment.{Segment}
-use Rattle.uca_plans.specs.Lists.{fixed_weight, base_weights, Insertion, same_level, inserted, all_inserted, before_weight, behind_weight}
+use Rattle.uca_plans.specs.Lists.{fixed_weight, base_weights, Insertion, same_level, inserted, all_inserted, before_weight, after_weight}
 use Rattle.uca_plans.specs.Lists.{low_members, high_members, low_segment, high_segment, has_room, level_has_room, members_of}
 use Rattle.uca_plans.specs.ListLaws.{IsRising, IsAmong, StandsBefore}
 use Rattle.uca_plans.proofs.ListMembers.{of_each}
@@ -122,7 +122,7 @@ all_greater f (w ∷ ws) above = go (nat_lt f w) (grind (arith, nat_tests, above
 -- among rising weights those before one of them are less, and those after it are greater
 base_counts : (ws : List ℕ) (f : ℕ) → IsRising ws → IsAmong ws f
     → (length (before_weight (Base f) (map Base ws)) ≡ length (filter (λ v. nat_lt v f) ws))
-    × (length (behind_weight (Base f) (map Base ws)) ≡ length (filter (λ v. nat_lt f v) ws))
+    × (length (after_weight (Base f) (map Base ws)) ≡ length (filter (λ v. nat_lt f v) ws))
 base_counts [] f rising there = absurd there
 base_counts (w ∷ ws) f rising (inl here) =
     let above : AllByRecursion (λ v. f < v) ws = subst (λ x. AllByRecursion (λ v. x < v) ws) here rising.0 in

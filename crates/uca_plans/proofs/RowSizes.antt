@@ -10,7 +10,7 @@ use Rattle.uca_weights.specs.Levels.{level_of}
 use Rattle.uca_values.specs.declared.ImplicitRange.{ImplicitRange}
 use Rattle.uca_values.specs.Content.{Entry, Properties, IsEntry, AreRows, Fits}
 use Rattle.uca_check.specs.WellFormed.{elements_of}
-use Rattle.uca_text.specs.Texts.{Text, NfdText, letters_of}
+use Rattle.uca_text.specs.Texts.{Text, NfdText, classed}
 use Rattle.uca_rules.specs.declared.relations.Relation.{Relation}
 use Rattle.uca_rules.specs.Relations.{IsRuleText, HasRuleTexts}
 use Rattle.uca_elements.specs.Rows.{same_key}
@@ -23,7 +23,7 @@ use Rattle.uca_plans.specs.declared.drafts.DraftWeight.{DraftWeight}
 use Rattle.uca_plans.specs.declared.drafts.DraftWeight.TheVariants.{New}
 use Rattle.uca_plans.specs.Drafts.{DraftRow, as_draft, row_as_draft, with_row, has_key, draft_at, part_drafts, draft_elements, AnchorPart, anchor_part}
 use Rattle.uca_plans.specs.Drafts.{accepted_part, reweighted}
-use Rattle.uca_plans.specs.Plans.{Basis, Drafting, Drafted, drafted_at, placed_behind, placed_if_accepted, draft_expansion, begun, LevelPlans, numbered}
+use Rattle.uca_plans.specs.Plans.{Basis, Drafting, Drafted, drafted_at, placed_after, placed_if_accepted, draft_expansion, begun, LevelPlans, numbered}
 use Rattle.uca_plans.specs.Plans.{numbered_row, Plan}
 use Rattle.uca_plans.specs.Keys.{keys_in}
 use Rattle.uca_plans.specs.Sizes.{IsSizedRow, AreSizedRows, PlansHaveSizedRows}
@@ -59,7 +59,7 @@ module _ (ranges : List ImplicitRange) (properties : Properties) (rows : List Dr
   -- where each row has some, a text of rules has some
   pub some_drafts : (text : NfdText) → IsRuleText text → 1 ≤ length (draft_elements ranges properties rows text)
   some_drafts text is_text =
-      some_read (letters_of text) (letters_some text is_text.normal.accepted.same is_text.some)
+      some_read (classed text) (letters_some text is_text.normal.accepted.same is_text.some)
 
 -- ---- What a relation gives
 
@@ -75,7 +75,7 @@ some_drafted (Some level) before weight anchor expansion new some gives = go (ac
     go : (part : Option AnchorPart) → placed_if_accepted level before weight part expansion ≡ Some new → 1 ≤ length new.elements
     go None gives = cc
     go (Some part) gives =
-        let same : placed_behind level before weight part expansion ≡ new = cc in
+        let same : placed_after level before weight part expansion ≡ new = cc in
         subst (λ (d : Drafted). 1 ≤ length d.elements) same
         (omega (arith, length-append part.front (reweighted level weight part.last ∷ expansion)))
 

@@ -4,7 +4,7 @@ use Rattle.std.proofs.Common.{subst, ◌∙◌, inl, inr, ⊎_elim}
 use Rattle.std.specs.List.{AllByRecursion, flat_map}
 use Rattle.std.proofs.lemmas.Bool.{false≢true, or_left, or_right, or_cases, cases_Bool}
 use Rattle.uca_weights.proofs.Lists.{each_parts, inside}
-use Rattle.uca_text.specs.Texts.{NfdText, code_points, letters_of}
+use Rattle.uca_text.specs.Texts.{NfdText, code_points, classed}
 use Rattle.uca_text.specs.Occurring.{OccursInOrder}
 use Rattle.uca_rules.specs.declared.relations.Relation.{Relation}
 use Rattle.uca_rules.specs.Relations.{IsTarget, IsUntouched, IsUsedBy, IsRuleText, HasRuleTexts}
@@ -95,14 +95,14 @@ same_reading ranges properties keys before after later rest r rows all text rule
     let there : is_among (keys_in rows) text.points ≡ true = ap (λ ks. is_among ks text.points) own ∙ target_among before keys text.points target in
     let there_too : all text.points ≡ true = listed text.points ∙ ap (λ ks. is_among ks text.points) all_keys
     ∙ among_kept later (keys_in rows) text.points there in
-    let points : code_points (letters_of text) ≡ text.points = points_of text same_length in
-    key_is_part all (letters_of text) (letters_some text same_length in_rules.some) (ap all points ∙ there_too)
-    ∙ sym (key_is_part (has_key rows) (letters_of text) (letters_some text same_length in_rules.some)
+    let points : code_points (classed text) ≡ text.points = points_of text same_length in
+    key_is_part all (classed text) (letters_some text same_length in_rules.some) (ap all points ∙ there_too)
+    ∙ sym (key_is_part (has_key rows) (classed text) (letters_some text same_length in_rules.some)
     (ap (has_key rows) points ∙ has_key_is rows text.points ∙ there)))
     (λ free.
     let untouched : IsUntouched (later ++ rest) text.points =
     subst (λ rs. IsUntouched rs text.points) whole (rules.none_late before after r text.points refl (text_used r text is_text) free) in
-    parts_same all (has_key rows) (letters_of text)
+    parts_same all (has_key rows) (classed text)
     (λ key occurs.
     listed key
     ∙ ap (λ ks. is_among ks key) all_keys

@@ -105,10 +105,10 @@ module _ (level : Level) (ms lows : List DraftWeight) (i : Insertion) (has : Has
   ]
 
   -- so all members have sides where the new one has, and as many are low
-  sides_behind : (news : List DraftWeight) → HasSide level (inserted i ms) news i.new
+  sides_after : (news : List DraftWeight) → HasSide level (inserted i ms) news i.new
       → ((w : DraftWeight) → IsAmong ms w → is_below_fixed level news w ≡ is_below_fixed level lows w)
       → ((n : ℕ) → list_any (same_weight (New n)) news ≡ true → IsAmong (inserted i ms) (New n)) → HasSides level (inserted i ms) news
-  sides_behind news new same went = record {
+  sides_after news new same went = record {
     apart = nearest.apart;
     there = (nearest.each (fixed level)).1 (inr has.there);
     sides = λ w among. elim ((nearest.each w).0 among) [
@@ -139,9 +139,9 @@ module _ (level : Level) (ms lows : List DraftWeight) (i : Insertion) (has : Has
   ]
 
   -- the sides where the new weight goes low
-  low_behind : GoesLow (fixed level) i ms → HasSides level (inserted i ms) (i.new ∷ lows)
-  low_behind low =
-      sides_behind (i.new ∷ lows)
+  low_after : GoesLow (fixed level) i ms → HasSides level (inserted i ms) (i.new ∷ lows)
+  low_after low =
+      sides_after (i.new ∷ lows)
       (inl (
         new_below low,
         subst (λ w. is_below_fixed level (w ∷ lows) w ≡ true) (sym at.named)
@@ -157,9 +157,9 @@ module _ (level : Level) (ms lows : List DraftWeight) (i : Insertion) (has : Has
       ])
 
   -- and where it goes high
-  high_behind : GoesHigh (fixed level) i ms → HasSides level (inserted i ms) lows
-  high_behind high =
-      sides_behind lows
+  high_after : GoesHigh (fixed level) i ms → HasSides level (inserted i ms) lows
+  high_after high =
+      sides_after lows
       (inr (
         inr (new_above high),
         subst (λ w. is_below_fixed level lows w ≡ false) (sym at.named)
@@ -176,6 +176,6 @@ module _ (level : Level) (ms lows : List DraftWeight) (i : Insertion) (has : Has
       × (length (low_members level (inserted i ms)) ≡ length (low_members level ms))
       × (length (high_members level (inserted i ms)) ≡ length (high_members level ms) + 1))
   goes = elim (takes_one_place (fixed level) i ms has.there at.anchor (λ is. at.fresh (among_same ms (fixed level) i.new (sym is) has.there))) [
-    | inl low ↦ inl (low_side level ms lows i has at.anchor low.0, low_behind low.0, low.1, low.2)
-    | inr high ↦ inr (high_side level ms lows i has at.anchor high.0, high_behind high.0, high.1, high.2)
+    | inl low ↦ inl (low_side level ms lows i has at.anchor low.0, low_after low.0, low.1, low.2)
+    | inr high ↦ inr (high_side level ms lows i has at.anchor high.0, high_after high.0, high.1, high.2)
   ]

@@ -7,7 +7,7 @@ use Rattle.uca_weights.specs.declared.Level.TheVariants.{One, Two, Three}
 use Rattle.uca_values.specs.declared.ImplicitRange.{ImplicitRange}
 use Rattle.uca_values.specs.Content.{Entry, Properties}
 use Rattle.uca_values.specs.Implicit.{implicit}
-use Rattle.uca_text.specs.Texts.{NfdText, letters_of}
+use Rattle.uca_text.specs.Texts.{NfdText, classed}
 use Rattle.uca_elements.specs.Rows.{same_key}
 use Rattle.uca_elements.specs.Parts.{Part, Row, Implicit}
 use Rattle.uca_elements.specs.Reading.{parts}
@@ -51,7 +51,7 @@ part_drafts ranges properties rows (Implicit c) = map (as_draft true) (implicit 
 
 -- the draft elements of a text, which is matched against the keys of the rows
 abbrev pub draft_elements : List ImplicitRange → Properties → List DraftRow → NfdText → List DraftElement
-draft_elements ranges properties rows text = flat_map (part_drafts ranges properties rows) (parts (has_key rows) (letters_of text))
+draft_elements ranges properties rows text = flat_map (part_drafts ranges properties rows) (parts (has_key rows) (classed text))
 
 -- ---- What a rule means
 
@@ -75,13 +75,13 @@ pub record AnchorPart : Type 0 where
   pub front : List DraftElement
   pub last : DraftElement
 
-abbrev pub behind_front : Level → DraftElement → Option AnchorPart → Option AnchorPart
-behind_front level e None = if is_ignorable_to level e then None else Some (record { front = []; last = e })
-behind_front level e (Some part) = Some (record { front = e ∷ part.front; last = part.last })
+abbrev pub after_front : Level → DraftElement → Option AnchorPart → Option AnchorPart
+after_front level e None = if is_ignorable_to level e then None else Some (record { front = []; last = e })
+after_front level e (Some part) = Some (record { front = e ∷ part.front; last = part.last })
 
 abbrev pub anchor_part : Level → List DraftElement → Option AnchorPart
 anchor_part level [] = None
-anchor_part level (e ∷ es) = behind_front level e (anchor_part level es)
+anchor_part level (e ∷ es) = after_front level e (anchor_part level es)
 
 -- a weight from 8000 up, where implicit weights are
 abbrev pub is_implicit_primary : DraftWeight → Bool

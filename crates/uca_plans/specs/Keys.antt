@@ -3,7 +3,7 @@ use Rattle.std.specs.Prelude.{◌≡◌, ◌⊎◌, ℕ, Bool, false, ◌||◌, 
 use Rattle.std.specs.List.{flat_map}
 use Rattle.uca_values.specs.declared.ImplicitRange.{ImplicitRange}
 use Rattle.uca_values.specs.Content.{Properties}
-use Rattle.uca_text.specs.Texts.{NfdText, letters_of}
+use Rattle.uca_text.specs.Texts.{NfdText, classed}
 use Rattle.uca_rules.specs.declared.relations.Relation.{Relation}
 use Rattle.uca_rules.specs.Relations.{AreRules}
 use Rattle.uca_elements.specs.Rows.{Keys, same_key}
@@ -31,7 +31,7 @@ with_targets (r ∷ relations) keys = with_targets relations (with_key r.target.
 
 -- a text's draft elements, where it is matched against keys that may be more than those of the rows
 abbrev pub read_over : List ImplicitRange → Properties → Keys → List DraftRow → NfdText → List DraftElement
-read_over ranges properties keys rows text = flat_map (part_drafts ranges properties rows) (parts keys (letters_of text))
+read_over ranges properties keys rows text = flat_map (part_drafts ranges properties rows) (parts keys (classed text))
 
 -- the text is the anchor or the expansion of the relation
 abbrev pub IsTextOf : Relation → NfdText → Type 0

@@ -6,7 +6,7 @@ use Rattle.uca_weights.specs.declared.Level.{Level}
 use Rattle.uca_weights.specs.Levels.{weight}
 use Rattle.uca_plans.specs.declared.drafts.DraftWeight.{DraftWeight}
 use Rattle.uca_plans.specs.declared.drafts.DraftWeight.TheVariants.{Base}
-use Rattle.uca_plans.specs.Lists.{fixed_weight, top_weight, base_weights, Insertion, inserted, before_weight, behind_weight, level_has_room, level_numbers, number_in}
+use Rattle.uca_plans.specs.Lists.{fixed_weight, top_weight, base_weights, Insertion, inserted, before_weight, after_weight, level_has_room, level_numbers, number_in}
 
 -- ---- Base weights
 
@@ -92,8 +92,8 @@ GoesHigh fixed i members = StandsBefore members fixed i.anchor ⊎ ((i.anchor �
 -- each new weight takes one position of one segment: of the low one if it goes low, else of the high one
 abbrev pub TakesOnePlace : DraftWeight → Insertion → List DraftWeight → Type 0
 TakesOnePlace fixed i members =
-    (GoesLow fixed i members × (length (before_weight fixed (inserted i members)) ≡ length (before_weight fixed members) + 1) × (length (behind_weight fixed (inserted i members)) ≡ length (behind_weight fixed members)))
-    ⊎ (GoesHigh fixed i members × (length (before_weight fixed (inserted i members)) ≡ length (before_weight fixed members)) × (length (behind_weight fixed (inserted i members)) ≡ length (behind_weight fixed members) + 1))
+    (GoesLow fixed i members × (length (before_weight fixed (inserted i members)) ≡ length (before_weight fixed members) + 1) × (length (after_weight fixed (inserted i members)) ≡ length (after_weight fixed members)))
+    ⊎ (GoesHigh fixed i members × (length (before_weight fixed (inserted i members)) ≡ length (before_weight fixed members)) × (length (after_weight fixed (inserted i members)) ≡ length (after_weight fixed members) + 1))
 
 abbrev pub NewWeightsTakePlaces : Type 0
 NewWeightsTakePlaces = (fixed : DraftWeight) (i : Insertion) (members : List DraftWeight) → IsAmong members fixed → IsAmong members i.anchor → (i.new ≡ fixed → ⊥) → TakesOnePlace fixed i members
@@ -101,7 +101,7 @@ NewWeightsTakePlaces = (fixed : DraftWeight) (i : Insertion) (members : List Dra
 -- no member of the list is between an anchor's weight and the new one; and the weights that were there keep their
 -- order
 pub record StandsNext (i : Insertion) (members : List DraftWeight) : Type 0 where
-  pub none_behind : (w : DraftWeight) → StandsBefore (inserted i members) i.anchor w → StandsBefore (inserted i members) w i.new → ⊥
+  pub none_after : (w : DraftWeight) → StandsBefore (inserted i members) i.anchor w → StandsBefore (inserted i members) w i.new → ⊥
   pub none_before : (w : DraftWeight) → StandsBefore (inserted i members) i.new w → StandsBefore (inserted i members) w i.anchor → ⊥
   pub same : (v w : DraftWeight) → IsAmong members v → IsAmong members w → StandsBefore (inserted i members) v w ↔ StandsBefore members v w
 

@@ -10,8 +10,8 @@ use Rattle.uca_plans.specs.declared.drafts.Segment.{Segment}
 -- the greatest of `least` and, for each base member, its weight plus the number of members after it
 abbrev pub pushed_up : ℕ → List DraftWeight → ℕ
 pushed_up least [] = least
-pushed_up least (Base weight ∷ behind) = max (weight + length behind) (pushed_up least behind)
-pushed_up least (New _ ∷ behind) = pushed_up least behind
+pushed_up least (Base weight ∷ after) = max (weight + length after) (pushed_up least after)
+pushed_up least (New _ ∷ after) = pushed_up least after
 
 -- The position of the last of some members, if none of them is below its weight. After the weight below the segment,
 -- and after the weight of each base member, there is a position for each member that follows.
@@ -30,7 +30,7 @@ numbers_of segment members = map (number segment members) (range_with_len 1 (len
 
 -- the i-th member, counted from 1, is the base weight
 abbrev pub IsBaseAt : List DraftWeight → ℕ → ℕ → Type 0
-IsBaseAt members i weight = (before : List DraftWeight) × (behind : List DraftWeight) × (members ≡ before ++ Base weight ∷ behind) × (i ≡ length before + 1)
+IsBaseAt members i weight = (before : List DraftWeight) × (after : List DraftWeight) × (members ≡ before ++ Base weight ∷ after) × (i ≡ length before + 1)
 
 -- there is room for the i-th member at the weight: below it for those before, and above it for those after
 pub record HasRoomAt (segment : Segment) (members : List DraftWeight) (i weight : ℕ) : Type 0 where

@@ -12,4 +12,4 @@ one_further (New _) place = place + 1
 -- the numbers of members that follow a position
 abbrev pub numbers_from : ℕ → ℕ → List DraftWeight → List ℕ
 numbers_from top place [] = []
-numbers_from top place (m ∷ behind) = min (one_further m place) (top - length behind) ∷ numbers_from top (one_further m place) behind
+numbers_from top place (m ∷ after) = min (one_further m place) (top - length after) ∷ numbers_from top (one_further m place) after

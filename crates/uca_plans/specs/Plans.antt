@@ -41,15 +41,15 @@ pub record Drafted : Type 0 where
   pub insertions : List Insertion
 
 -- the elements up to the anchor's last one, which has the new weight, and then those of the expansion
-abbrev pub placed_behind : Level → Bool → DraftWeight → AnchorPart → List DraftElement → Drafted
-placed_behind level before new part expansion = record {
+abbrev pub placed_after : Level → Bool → DraftWeight → AnchorPart → List DraftElement → Drafted
+placed_after level before new part expansion = record {
   elements = part.front ++ reweighted level new part.last ∷ expansion;
   insertions = record { level = level; before = before; anchor = draft_weight level part.last; new = new } ∷ [];
 }
 
 abbrev pub placed_if_accepted : Level → Bool → DraftWeight → Option AnchorPart → List DraftElement → Option Drafted
 placed_if_accepted level before new None expansion = None
-placed_if_accepted level before new (Some part) expansion = Some (placed_behind level before new part expansion)
+placed_if_accepted level before new (Some part) expansion = Some (placed_after level before new part expansion)
 
 -- what a relation gives its target; nothing if the anchor is rejected
 abbrev pub drafted_at : Option Level → Bool → DraftWeight → List DraftElement → List DraftElement → Option Drafted

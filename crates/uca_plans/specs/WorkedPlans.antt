@@ -27,11 +27,11 @@ abbrev pub small : Basis
 small = over small_rows
 
 -- a relation without expansion: the target comes after the anchor, or before it
-abbrev pub behind : List ℕ → Strength → List ℕ → Relation
-behind anchor strength target = record { anchor = small_text anchor; before = false; strength = strength; target = small_text target; expansion = None }
+abbrev pub set_after : List ℕ → Strength → List ℕ → Relation
+set_after anchor strength target = record { anchor = small_text anchor; before = false; strength = strength; target = small_text target; expansion = None }
 
-abbrev pub ahead : List ℕ → Strength → List ℕ → Relation
-ahead anchor strength target = record { anchor = small_text anchor; before = true; strength = strength; target = small_text target; expansion = None }
+abbrev pub set_before : List ℕ → Strength → List ℕ → Relation
+set_before anchor strength target = record { anchor = small_text anchor; before = true; strength = strength; target = small_text target; expansion = None }
 
 -- one with an expansion
 abbrev pub expanded : List ℕ → Strength → List ℕ → List ℕ → Relation
@@ -94,11 +94,11 @@ space_before a = row (0x20 ∷ []) (variable 0x1C46 0x20 2) ∷ row (0x61 ∷ []
 -- `&a U+0301 < x <<< X &[before 2]b << y &U+0020 <<< z &a U+0323 U+0301 << w`
 abbrev pub five_relations : List Relation
 five_relations =
-    behind (0x61 ∷ 0x301 ∷ []) Primary (0x78 ∷ []) ∷
-    behind (0x78 ∷ []) Tertiary (0x58 ∷ []) ∷
-    ahead (0x62 ∷ []) Secondary (0x79 ∷ []) ∷
-    behind (0x20 ∷ []) Tertiary (0x7A ∷ []) ∷
-    behind (0x61 ∷ 0x323 ∷ 0x301 ∷ []) Secondary (0x77 ∷ []) ∷ []
+    set_after (0x61 ∷ 0x301 ∷ []) Primary (0x78 ∷ []) ∷
+    set_after (0x78 ∷ []) Tertiary (0x58 ∷ []) ∷
+    set_before (0x62 ∷ []) Secondary (0x79 ∷ []) ∷
+    set_after (0x20 ∷ []) Tertiary (0x7A ∷ []) ∷
+    set_after (0x61 ∷ 0x323 ∷ 0x301 ∷ []) Secondary (0x77 ∷ []) ∷ []
 
 -- two variable rows, with primaries where implicit ones are
 abbrev pub high_variables : ℕ → List Entry
@@ -106,16 +106,16 @@ high_variables primary = row (0x20 ∷ []) (variable 0xFB00 0x20 2) ∷ row (0x2
 
 -- `&U+4E00 = x`
 abbrev pub same_as_implicit : List Relation
-same_as_implicit = behind (0x4E00 ∷ []) Identical (0x78 ∷ []) ∷ []
+same_as_implicit = set_after (0x4E00 ∷ []) Identical (0x78 ∷ []) ∷ []
 
 -- the targets in turn, each with the one before it as its anchor
 abbrev pub chained : Strength → ℕ → List ℕ → List Relation
 chained strength anchor [] = []
-chained strength anchor (target ∷ targets) = behind (anchor ∷ []) strength (target ∷ []) ∷ chained strength target targets
+chained strength anchor (target ∷ targets) = set_after (anchor ∷ []) strength (target ∷ []) ∷ chained strength target targets
 
 -- `&[before 2]a << ..`
 abbrev pub chained_before : ℕ → List ℕ → List Relation
-chained_before target targets = ahead (0x61 ∷ []) Secondary (target ∷ []) ∷ chained Secondary target targets
+chained_before target targets = set_before (0x61 ∷ []) Secondary (target ∷ []) ∷ chained Secondary target targets
 
 -- `d` to `z`, and `C` to `I`
 abbrev pub thirty : List ℕ
@@ -139,9 +139,9 @@ pub record WorkedPlans : Type 0 where
   -- no rules: the table stays
   pub nothing : planned small [] ≡ with_rows []
   -- `&a < x`
-  pub letter : planned small (behind (0x61 ∷ []) Primary (0x78 ∷ []) ∷ []) ≡ with_rows (row (0x78 ∷ []) (plain 0x1C48 0x20 2) ∷ [])
+  pub letter : planned small (set_after (0x61 ∷ []) Primary (0x78 ∷ []) ∷ []) ≡ with_rows (row (0x78 ∷ []) (plain 0x1C48 0x20 2) ∷ [])
   -- the same if the next letter is directly after `a`: it moves up
-  pub pushed : planned (over (close_rows 0x1C48)) (behind (0x61 ∷ []) Primary (0x78 ∷ []) ∷ [])
+  pub pushed : planned (over (close_rows 0x1C48)) (set_after (0x61 ∷ []) Primary (0x78 ∷ []) ∷ [])
       ≡ Ok (record {
         rows = close_rows 0x1C49 ++ row (0x78 ∷ []) (plain 0x1C48 0x20 2) ∷ [];
         primary = run 0x209 0x209 1 ∷ run 0x1C47 0x1C47 1 ∷ run 0x1C48 0x1C49 1 ∷ [];
@@ -149,24 +149,24 @@ pub record WorkedPlans : Type 0 where
         tertiary = small_tertiary;
       })
   -- `&a < x &a < y`: the later one is nearer to `a`
-  pub later : planned small (behind (0x61 ∷ []) Primary (0x78 ∷ []) ∷ behind (0x61 ∷ []) Primary (0x79 ∷ []) ∷ [])
+  pub later : planned small (set_after (0x61 ∷ []) Primary (0x78 ∷ []) ∷ set_after (0x61 ∷ []) Primary (0x79 ∷ []) ∷ [])
       ≡ with_rows (row (0x78 ∷ []) (plain 0x1C49 0x20 2) ∷ row (0x79 ∷ []) (plain 0x1C48 0x20 2) ∷ [])
   -- `&[before 3]a <<< x`, and with a second `<<< y` there is no position left below 0002
-  pub ahead_of : planned small (ahead (0x61 ∷ []) Tertiary (0x78 ∷ []) ∷ [])
+  pub ahead_of : planned small (set_before (0x61 ∷ []) Tertiary (0x78 ∷ []) ∷ [])
       ≡ Ok (record {
         rows = small_rows ++ row (0x78 ∷ []) (plain 0x1C47 0x20 1) ∷ [];
         primary = same_runs;
         secondary = small_secondary;
         tertiary = small_tertiary;
       })
-  pub full : planned small (ahead (0x61 ∷ []) Tertiary (0x78 ∷ []) ∷ behind (0x78 ∷ []) Tertiary (0x79 ∷ []) ∷ []) ≡ refused 0 (kinds.NoRoom Three)
+  pub full : planned small (set_before (0x61 ∷ []) Tertiary (0x78 ∷ []) ∷ set_after (0x78 ∷ []) Tertiary (0x79 ∷ []) ∷ []) ≡ refused 0 (kinds.NoRoom Three)
   -- `&a < x / b`, `&A = x / U+0301`
   pub with_expansion : planned small (expanded (0x61 ∷ []) Primary (0x78 ∷ []) (0x62 ∷ []) ∷ [])
       ≡ with_rows (record { key = 0x78 ∷ []; elements = plain 0x1C48 0x20 2 ∷ plain 0x1C60 0x20 2 ∷ [] } ∷ [])
   pub same_with_expansion : planned small (expanded (0x41 ∷ []) Identical (0x78 ∷ []) (0x301 ∷ []) ∷ [])
       ≡ with_rows (record { key = 0x78 ∷ []; elements = plain 0x1C47 0x20 8 ∷ plain 0 0x24 2 ∷ [] } ∷ [])
   -- `&U+4E00 < x`, `&U+4E00 = x`
-  pub implicit_anchor : planned small (behind (0x4E00 ∷ []) Primary (0x78 ∷ []) ∷ []) ≡ refused 1 kinds.Anchor
+  pub implicit_anchor : planned small (set_after (0x4E00 ∷ []) Primary (0x78 ∷ []) ∷ []) ≡ refused 1 kinds.Anchor
   pub implicit_same : planned small same_as_implicit ≡ with_rows (record { key = 0x78 ∷ []; elements = plain 0xFB40 0x20 2 ∷ plain 0xCE00 0 0 ∷ [] } ∷ [])
   -- the same where the primary FB40 of U+4E00 is between two of variable elements, and where it is above all of them
   pub implicit_among_variables : planned (over (high_variables 0xFFFF)) same_as_implicit ≡ refused 1 kinds.ImplicitVariable
@@ -177,20 +177,20 @@ pub record WorkedPlans : Type 0 where
     tertiary = run 2 2 1 ∷ [];
   })
   -- `&a < b U+0301 U+0300`, and `&a < b U+0301 < b U+0301 U+0300`
-  pub lacks_prefix : planned small (behind (0x61 ∷ []) Primary (0x62 ∷ 0x301 ∷ 0x300 ∷ []) ∷ []) ≡ refused 1 kinds.NeedsPrefix
-  pub has_prefix : planned small (behind (0x61 ∷ []) Primary (0x62 ∷ 0x301 ∷ []) ∷
-      behind (0x62 ∷ 0x301 ∷ []) Primary (0x62 ∷ 0x301 ∷ 0x300 ∷ []) ∷ [])
+  pub lacks_prefix : planned small (set_after (0x61 ∷ []) Primary (0x62 ∷ 0x301 ∷ 0x300 ∷ []) ∷ []) ≡ refused 1 kinds.NeedsPrefix
+  pub has_prefix : planned small (set_after (0x61 ∷ []) Primary (0x62 ∷ 0x301 ∷ []) ∷
+      set_after (0x62 ∷ 0x301 ∷ []) Primary (0x62 ∷ 0x301 ∷ 0x300 ∷ []) ∷ [])
       ≡ with_rows (row (0x62 ∷ 0x301 ∷ []) (plain 0x1C48 0x20 2) ∷ row (0x62 ∷ 0x301 ∷ 0x300 ∷ []) (plain 0x1C49 0x20 2) ∷ [])
   -- `&d = dz / z &a < dz U+030C << q &b < z U+030C`, where U+030C has no row
   pub implicit_prefix : planned small (expanded (0x64 ∷ []) Identical (0x64 ∷ 0x7A ∷ []) (0x7A ∷ []) ∷
-      behind (0x61 ∷ []) Primary (0x64 ∷ 0x7A ∷ 0x30C ∷ []) ∷
-      behind (0x64 ∷ 0x7A ∷ 0x30C ∷ []) Secondary (0x71 ∷ []) ∷ behind (0x62 ∷ []) Primary (0x7A ∷ 0x30C ∷ []) ∷ [])
+      set_after (0x61 ∷ []) Primary (0x64 ∷ 0x7A ∷ 0x30C ∷ []) ∷
+      set_after (0x64 ∷ 0x7A ∷ 0x30C ∷ []) Secondary (0x71 ∷ []) ∷ set_after (0x62 ∷ []) Primary (0x7A ∷ 0x30C ∷ []) ∷ [])
       ≡ with_rows (
       record { key = 0x64 ∷ 0x7A ∷ []; elements = plain 0xFBC0 0x20 2 ∷ plain 0x8064 0 0 ∷ plain 0xFBC0 0x20 2 ∷ plain 0x807A 0 0 ∷ [] } ∷
       row (0x64 ∷ 0x7A ∷ 0x30C ∷ []) (plain 0x1C48 0x20 2) ∷ row (0x71 ∷ []) (plain 0x1C48 0x21 2) ∷ row (0x7A ∷ 0x30C ∷ []) (plain 0x1C61 0x20 2) ∷ [])
   -- the same without the first chain: U+0064 U+007A is no key
-  pub lacks_implicit_prefix : planned small (behind (0x61 ∷ []) Primary (0x64 ∷ 0x7A ∷ 0x30C ∷ []) ∷
-      behind (0x64 ∷ 0x7A ∷ 0x30C ∷ []) Secondary (0x71 ∷ []) ∷ behind (0x62 ∷ []) Primary (0x7A ∷ 0x30C ∷ []) ∷ [])
+  pub lacks_implicit_prefix : planned small (set_after (0x61 ∷ []) Primary (0x64 ∷ 0x7A ∷ 0x30C ∷ []) ∷
+      set_after (0x64 ∷ 0x7A ∷ 0x30C ∷ []) Secondary (0x71 ∷ []) ∷ set_after (0x62 ∷ []) Primary (0x7A ∷ 0x30C ∷ []) ∷ [])
       ≡ refused 1 kinds.NeedsPrefix
   -- 31 secondary weights below 0020, and one more
   pub below_fixed : planned small (chained_before 0x63 thirty)
@@ -216,11 +216,11 @@ pub record WorkedPlans : Type 0 where
   } ∷ [])
       ≡ refused 1 kinds.NeedsPrefix
   -- `&a < b`: the row of a base key is replaced in its position, and its weight stays listed
-  pub base_key : planned small (behind (0x61 ∷ []) Primary (0x62 ∷ []) ∷ [])
+  pub base_key : planned small (set_after (0x61 ∷ []) Primary (0x62 ∷ []) ∷ [])
       ≡ Ok (record { rows = close_rows 0x1C48; primary = same_runs; secondary = small_secondary; tertiary = small_tertiary })
   -- `&a < b &A < c &b <<< d`: the later anchor `b` is read by its new row
-  pub replaced_anchor : planned small (behind (0x61 ∷ []) Primary (0x62 ∷ []) ∷ behind (0x41 ∷ []) Primary (0x63 ∷ []) ∷
-      behind (0x62 ∷ []) Tertiary (0x64 ∷ []) ∷ [])
+  pub replaced_anchor : planned small (set_after (0x61 ∷ []) Primary (0x62 ∷ []) ∷ set_after (0x41 ∷ []) Primary (0x63 ∷ []) ∷
+      set_after (0x62 ∷ []) Tertiary (0x64 ∷ []) ∷ [])
       ≡ Ok (record {
         rows = close_rows 0x1C49 ++ row (0x63 ∷ []) (plain 0x1C48 0x20 2) ∷ row (0x64 ∷ []) (plain 0x1C49 0x20 3) ∷ [];
         primary = same_runs;
@@ -228,7 +228,7 @@ pub record WorkedPlans : Type 0 where
         tertiary = small_tertiary;
       })
   -- `&U+0301 << x`: the accent that has the next weight moves up
-  pub pushed_accent : planned small (behind (0x301 ∷ []) Secondary (0x78 ∷ []) ∷ [])
+  pub pushed_accent : planned small (set_after (0x301 ∷ []) Secondary (0x78 ∷ []) ∷ [])
       ≡ Ok (record {
         rows = weighted_rows 0x1C60 0x26 8 ++ row (0x78 ∷ []) (plain 0 0x25 2) ∷ [];
         primary = same_runs;
@@ -237,7 +237,7 @@ pub record WorkedPlans : Type 0 where
       })
   -- `&a < x &U+0301 << y &a <<< z`, where the next weight of each level is taken
   pub pushed_at_each_level : planned (over (weighted_rows 0x1C48 0x25 3))
-      (behind (0x61 ∷ []) Primary (0x78 ∷ []) ∷ behind (0x301 ∷ []) Secondary (0x79 ∷ []) ∷ behind (0x61 ∷ []) Tertiary (0x7A ∷ []) ∷ [])
+      (set_after (0x61 ∷ []) Primary (0x78 ∷ []) ∷ set_after (0x301 ∷ []) Secondary (0x79 ∷ []) ∷ set_after (0x61 ∷ []) Tertiary (0x7A ∷ []) ∷ [])
       ≡ Ok (record {
         rows = weighted_rows 0x1C49 0x26 4 ++
             row (0x78 ∷ []) (plain 0x1C48 0x20 2) ∷ row (0x79 ∷ []) (plain 0 0x25 2) ∷ row (0x7A ∷ []) (plain 0x1C47 0x20 3) ∷ [];
@@ -246,7 +246,7 @@ pub record WorkedPlans : Type 0 where
         tertiary = run 2 2 1 ∷ run 3 4 1 ∷ [];
       })
   -- `&[before 2]a << x` where `b` has the last weight below 0020: it moves down
-  pub pressed_down : planned (over (two_letters 0x1F 2)) (ahead (0x61 ∷ []) Secondary (0x78 ∷ []) ∷ [])
+  pub pressed_down : planned (over (two_letters 0x1F 2)) (set_before (0x61 ∷ []) Secondary (0x78 ∷ []) ∷ [])
       ≡ Ok (record {
         rows = two_letters 0x1E 2 ++ row (0x78 ∷ []) (plain 0x1C47 0x1F 2) ∷ [];
         primary = run 0x1C47 0x1C47 1 ∷ run 0x1C60 0x1C60 1 ∷ [];
@@ -254,9 +254,9 @@ pub record WorkedPlans : Type 0 where
         tertiary = run 2 2 1 ∷ [];
       })
   -- `&[before 3]a <<< x` where `b` has the only weight below 0002
-  pub no_room_below : planned (over (two_letters 0x20 1)) (ahead (0x61 ∷ []) Tertiary (0x78 ∷ []) ∷ []) ≡ refused 0 (kinds.NoRoom Three)
+  pub no_room_below : planned (over (two_letters 0x20 1)) (set_before (0x61 ∷ []) Tertiary (0x78 ∷ []) ∷ []) ≡ refused 0 (kinds.NoRoom Three)
   -- `&U+0020 < x` where `a` has the next weight: all variable weights stay below it
-  pub pushed_by_variable : planned (over (space_before 0x1C47)) (behind (0x20 ∷ []) Primary (0x78 ∷ []) ∷ [])
+  pub pushed_by_variable : planned (over (space_before 0x1C47)) (set_after (0x20 ∷ []) Primary (0x78 ∷ []) ∷ [])
       ≡ Ok (record {
         rows = space_before 0x1C48 ++ row (0x78 ∷ []) (variable 0x1C47 0x20 2) ∷ [];
         primary = run 0x1C46 0x1C46 1 ∷ run 0x1C47 0x1C48 1 ∷ [];
@@ -278,16 +278,16 @@ pub record WorkedPlans : Type 0 where
         tertiary = small_tertiary;
       })
   -- `&[before 1]U+0020 < x`: the new element is variable as its anchor's
-  pub variable_anchor : planned small (ahead (0x20 ∷ []) Primary (0x78 ∷ []) ∷ []) ≡ with_rows (row (0x78 ∷ []) (variable 1 0x20 2) ∷ [])
+  pub variable_anchor : planned small (set_before (0x20 ∷ []) Primary (0x78 ∷ []) ∷ []) ≡ with_rows (row (0x78 ∷ []) (variable 1 0x20 2) ∷ [])
   -- `&a < x` where `a` has the last weight of level 1, and `&U+0300 << x` where U+0300 has that of level 2
-  pub last_primary : planned (over (row (0x61 ∷ []) (plain 0x7FFF 0x20 2) ∷ [])) (behind (0x61 ∷ []) Primary (0x78 ∷ []) ∷ [])
+  pub last_primary : planned (over (row (0x61 ∷ []) (plain 0x7FFF 0x20 2) ∷ [])) (set_after (0x61 ∷ []) Primary (0x78 ∷ []) ∷ [])
       ≡ Ok (record {
         rows = row (0x61 ∷ []) (plain 0x7FFE 0x20 2) ∷ row (0x78 ∷ []) (plain 0x7FFF 0x20 2) ∷ [];
         primary = run 0x7FFF 0x7FFE 1 ∷ [];
         secondary = run 0x20 0x20 1 ∷ [];
         tertiary = run 2 2 1 ∷ [];
       })
-  pub last_secondary : planned (over (row (0x300 ∷ []) (plain 0 0xFFFF 2) ∷ [])) (behind (0x300 ∷ []) Secondary (0x78 ∷ []) ∷ [])
+  pub last_secondary : planned (over (row (0x300 ∷ []) (plain 0 0xFFFF 2) ∷ [])) (set_after (0x300 ∷ []) Secondary (0x78 ∷ []) ∷ [])
       ≡ Ok (record {
         rows = row (0x300 ∷ []) (plain 0 0xFFFE 2) ∷ row (0x78 ∷ []) (plain 0 0xFFFF 2) ∷ [];
         primary = [];

@@ -17,7 +17,7 @@ use Rattle.uca_order.specs.Levels.{key_bytes, level_count, weight_bytes}
 use Rattle.uca_order.specs.Depths.{ReadText, key_at, point_bytes, points_bytes}
 use Rattle.uca_tailorings.specs.Images.{Maps}
 use Rattle.uca_tailorings.specs.Moves.{KeyMoves, level_images, moved_from, moved_key, weight_before}
-use Rattle.uca_run_parts.specs.Print.{byte_digits, groups, keyed_line_of, print_line_at, printed_behind, printed_groups, spaced_point}
+use Rattle.uca_run_parts.specs.Print.{byte_digits, groups, keyed_line_of, print_line_at, printed_after, printed_groups, spaced_point}
 use Rattle.uca_rekey.specs.Laws.{AreBytes, LinesMoveWithKeys}
 use Rattle.uca_rekey.specs.RekeyedLines.{byte_before, bytes_of, digits_of, rekeyed, with_digits, with_key}
 use Rattle.uca_rekey.proofs.LineKeys.{with_no_digits}
@@ -179,21 +179,21 @@ parts_of depth key points = pairs key ++ points_parts depth points
 
 -- the line, without its LF
 printed : Depth → List ℕ → List ℕ → List ℕ
-printed depth key points = printed_groups key ++ printed_behind depth points
+printed depth key points = printed_groups key ++ printed_after depth points
 
-behind-spelled : (depth : Depth) (points : List ℕ) → printed_behind depth points ≡ spelled (points_parts depth points)
+after-spelled : (depth : Depth) (points : List ℕ) → printed_after depth points ≡ spelled (points_parts depth points)
 unfolding spelled points_parts
-behind-spelled Weights points = refl
-behind-spelled Identical points = ap (λ l. 32 ∷ 48 ∷ 48 ∷ 48 ∷ 48 ∷ l) (spelled-points points)
+after-spelled Weights points = refl
+after-spelled Identical points = ap (λ l. 32 ∷ 48 ∷ 48 ∷ 48 ∷ 48 ∷ l) (spelled-points points)
 
 no_key-spelled : (depth : Depth) (points : List ℕ) → printed depth [] points ≡ spelled (parts_of depth [] points)
 unfolding printed parts_of printed_groups pairs
-no_key-spelled depth points = behind-spelled depth points
+no_key-spelled depth points = after-spelled depth points
 
 some_key-spelled : (depth : Depth) (a : ℕ) (key points : List ℕ) → 32 ∷ printed depth (a ∷ key) points ≡ spelled (parts_of depth (a ∷ key) points)
 unfolding printed parts_of spelled
 some_key-spelled depth a key points =
-    ap₂ ◌++◌ (printed-spelled a key) (behind-spelled depth points)
+    ap₂ ◌++◌ (printed-spelled a key) (after-spelled depth points)
     ∙ sym (flat_map-append (λ part. 32 ∷ flat_map byte_digits part) (pairs (a ∷ key)) (points_parts depth points))
 
 digits_of-printed : (depth : Depth) (key points : List ℕ) → digits_of (printed depth key points) ≡ flat_map byte_digits (all_of (parts_of depth key points))
@@ -232,8 +232,8 @@ keyed_is key line before is =
 printed_is : (depth : Depth) (key points before : List ℕ) → ended before ≡ print_line_at depth key points → before ≡ printed depth key points
 unfolding printed
 printed_is depth key points before is =
-    append_cancel_right before (printed_groups key ++ printed_behind depth points) (10 ∷ [])
-    (is ∙ sym (append_assoc (printed_groups key) (printed_behind depth points) (10 ∷ [])))
+    append_cancel_right before (printed_groups key ++ printed_after depth points) (10 ∷ [])
+    (is ∙ sym (append_assoc (printed_groups key) (printed_after depth points) (10 ∷ [])))
 
 module _ (maps : Maps) (old new : ReadText) (moves : KeyMoves maps old new) where
   long_key : (depth : Depth) (weighting : Weighting) → length (key_at depth weighting old) ≡ length (key_at depth weighting new)

@@ -28,7 +28,7 @@ apostrophe_there starred c cs begins none other = by_quote (c.code == apostrophe
 
 pub breaks_at : (starred : Bool) (cs : List Character) (d : Character) → ¬ (EndsText starred cs) → piece_at starred cs ≡ None → (get_or cs 0 d).code ≢ backslash → BeginsAt apostrophe cs (get_or cs 0 d).place
 breaks_at starred [] d begins none other = absurd (begins tt)
-breaks_at starred (c ∷ cs) d begins none other = record { first = c; behind = cs; are = refl; is = apostrophe_there starred c cs begins none other; at = refl }
+breaks_at starred (c ∷ cs) d begins none other = record { first = c; after = cs; are = refl; is = apostrophe_there starred c cs begins none other; at = refl }
 
 -- Where a text does not end there is a character.
 pub some_character : (starred : Bool) (cs : List Character) → ¬ (EndsText starred cs) → 0 < length cs
@@ -38,7 +38,7 @@ some_character starred (c ∷ cs) begins = omega arith
 -- A first character that is a backslash is where an escape begins.
 pub escape_at : (cs : List Character) (d : Character) → 0 < length cs → (get_or cs 0 d).code ≡ backslash → BeginsAt backslash cs (get_or cs 0 d).place
 escape_at [] d within is = absurd (omega arith)
-escape_at (c ∷ cs) d within is = record { first = c; behind = cs; are = refl; is = is; at = refl }
+escape_at (c ∷ cs) d within is = record { first = c; after = cs; are = refl; is = is; at = refl }
 
 opened_there : (cs : List Character) (d : Character) → 1 < length cs → (get_or cs 0 d).code ≡ apostrophe → (get_or cs 1 d).code ≢ apostrophe → opened cs ≡ Literal (get_or cs 1 d) ∷ []
 opened_there [] d within quote other = absurd (omega arith)

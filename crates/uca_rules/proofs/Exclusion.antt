@@ -17,16 +17,16 @@ use Rattle.uca_rules.specs.declared.signs.Preceding.{Preceding}
 use Rattle.uca_rules.specs.declared.signs.Preceding.TheVariants as lasts
 use Rattle.uca_rules.specs.declared.faults.RuleFaultKind.{RuleFaultKind}
 use Rattle.uca_rules.specs.declared.faults.RuleFaultKind.TheVariants as kinds
-use Rattle.uca_rules.specs.Characters.{characters, behind_gaps, ampersand, apostrophe, backslash, hyphen, bracket, less_than}
-use Rattle.uca_rules.specs.Pieces.{Symbol, Literal, Hyphen, Piece, is_plain, inside_quotes, behind_apostrophe, number_at, numbered, behind_backslash, piece_at, ArePieces, symbols_of, BeginsText}
+use Rattle.uca_rules.specs.Characters.{characters, after_gaps, ampersand, apostrophe, backslash, hyphen, bracket, less_than}
+use Rattle.uca_rules.specs.Pieces.{Symbol, Literal, Hyphen, Piece, is_plain, inside_quotes, after_apostrophe, number_at, numbered, after_backslash, piece_at, ArePieces, symbols_of, BeginsText}
 use Rattle.uca_rules.specs.Statements.{SignAt, sign_at, count_less, bracket_at, BeginsBracket, No_start, HasRanges, targets_of, Statement, Reset, Plain, Starred, BeginsStatement, Resets, Signs, opening, MayFollow, MayEnd, AreInOrder, last_is, last_of}
 use Rattle.uca_rules.specs.Relations.{AreRules, IsLate}
-use Rattle.uca_rules.specs.Meaning.{Anchor, Taken, behind_target, one_letter, anchor_behind, starred_relations, relations_in, relations_from, no_anchor, taken, relations_of, IsShort, HasShortTexts, Means}
+use Rattle.uca_rules.specs.Meaning.{Anchor, Taken, after_target, one_letter, anchor_after, starred_relations, relations_in, relations_from, no_anchor, taken, relations_of, IsShort, HasShortTexts, Means}
 use Rattle.uca_rules.specs.Faults.{may_begin, IsMisplaced, IsWrongBracket, IsSign, IsWrongStrength, StatementCause, RelationCause, InText, InRelation, InStarred, HasCause}
 use Rattle.uca_rules.specs.Laws.{ACauseExcludesAMeaning}
 use Rattle.uca_rules.proofs.SignLaws.{BeginsSign, sign_begins, no_sign_at_ampersand, less_begins, no_sign_at_four}
 use Rattle.uca_rules.proofs.StatementLaws.{GoOn, none_begins, IsFront, front_of}
-use Rattle.uca_rules.proofs.MeaningLaws.{anchor_behind_all, relations_append, taken_more}
+use Rattle.uca_rules.proofs.MeaningLaws.{anchor_after_all, relations_append, taken_more}
 use Rattle.uca_rules.proofs.TextExclusion.{inside_first, text_stands, text_excluded}
 
 -- ---- Lists
@@ -73,13 +73,13 @@ sign_may_begin lasts.Relation code strength (inr is) follows = subst (λ code. I
 
 statement_may_begin : (last : Preceding) (c : Character) (cs rest : List Character) (s : Statement) → BeginsStatement (c ∷ cs) s rest → MayFollow last (opening s) → IsTrue (may_begin last c.code)
 statement_may_begin last c cs rest (Reset before anchor) begins follows =
-    let are : ◌≡◌ {A = List Character} (c ∷ cs) (begins.due.first ∷ begins.due.behind) = begins.due.are in
+    let are : ◌≡◌ {A = List Character} (c ∷ cs) (begins.due.first ∷ begins.due.after) = begins.due.are in
     let first : c ≡ begins.due.first = cc in
     reset_may_begin last c.code (ap (λ (c : Character). c.code) first ∙ begins.due.is) follows
 statement_may_begin last c cs rest (Plain strength target expansion) begins follows =
-    sign_may_begin last c.code strength (sign_begins c cs (record { strength = strength; starred = false; rest = begins.due.behind }) begins.due.sign) follows
+    sign_may_begin last c.code strength (sign_begins c cs (record { strength = strength; starred = false; rest = begins.due.after }) begins.due.sign) follows
 statement_may_begin last c cs rest (Starred strength targets) begins follows =
-    sign_may_begin last c.code strength (sign_begins c cs (record { strength = strength; starred = true; rest = begins.due.behind }) begins.due.sign) follows
+    sign_may_begin last c.code strength (sign_begins c cs (record { strength = strength; starred = true; rest = begins.due.after }) begins.due.sign) follows
 
 misplaced_excluded : (last : Preceding) (cs : List Character) (back : List Statement) → GoOn cs back → AreInOrder last back → MayEnd (last_of last back) → ¬ (IsMisplaced last cs)
 misplaced_excluded last [] [] on ordered ended misplaced = misplaced ended
@@ -93,9 +93,9 @@ misplaced_excluded last (c ∷ cs) (s ∷ back) on ordered ended misplaced =
 
 four_at_statement : (cs rest : List Character) (s : Statement) → BeginsStatement cs s rest → ¬ (4 ≤ count_less cs)
 four_at_statement cs rest (Reset before anchor) begins many =
-    let some : 4 ≤ count_less (begins.due.first ∷ begins.due.behind) = subst (λ cs. 4 ≤ count_less cs) begins.due.are many in
-    let one : 1 ≤ count_less (begins.due.first ∷ begins.due.behind) = omega arith in
-    let less : begins.due.first.code ≡ less_than = less_begins begins.due.first begins.due.behind one in
+    let some : 4 ≤ count_less (begins.due.first ∷ begins.due.after) = subst (λ cs. 4 ≤ count_less cs) begins.due.are many in
+    let one : 1 ≤ count_less (begins.due.first ∷ begins.due.after) = omega arith in
+    let less : begins.due.first.code ≡ less_than = less_begins begins.due.first begins.due.after one in
     let other : begins.due.first.code ≡ ampersand = begins.due.is in
     omega arith
 four_at_statement cs rest (Plain strength target expansion) begins many = let sign = begins.due.sign in let none = no_sign_at_four cs many in cc
@@ -111,17 +111,17 @@ wrong_bracket_at opens more text (Some strength) square none begins = let some =
 
 bracket_at_statement : (cs rest : List Character) (place : ℕ) (s : Statement) → BeginsStatement cs s rest → ¬ (IsWrongBracket cs place)
 bracket_at_statement cs rest place (Reset before anchor) begins wrong =
-    let same : ◌≡◌ {A = List Character} (begins.due.first ∷ begins.due.behind) (wrong.first ∷ wrong.behind) = sym begins.due.are ∙ wrong.are in
-    let behind : begins.due.behind ≡ wrong.behind = cc in
-    let gap : behind_gaps begins.due.behind ≡ wrong.opens ∷ wrong.more = ap behind_gaps behind ∙ wrong.gap in
+    let same : ◌≡◌ {A = List Character} (begins.due.first ∷ begins.due.after) (wrong.first ∷ wrong.after) = sym begins.due.are ∙ wrong.are in
+    let after : begins.due.after ≡ wrong.after = cc in
+    let gap : after_gaps begins.due.after ≡ wrong.opens ∷ wrong.more = ap after_gaps after ∙ wrong.gap in
     wrong_bracket_at wrong.opens wrong.more begins.text before wrong.square wrong.none (subst (λ cs. BeginsBracket cs before begins.text) gap begins.due.perhaps)
 bracket_at_statement cs rest place (Plain strength target expansion) begins wrong =
-    no_sign_at_ampersand wrong.first wrong.behind (record { strength = strength; starred = false; rest = begins.due.behind }) wrong.is (ap sign_at (sym wrong.are) ∙ begins.due.sign)
+    no_sign_at_ampersand wrong.first wrong.after (record { strength = strength; starred = false; rest = begins.due.after }) wrong.is (ap sign_at (sym wrong.are) ∙ begins.due.sign)
 bracket_at_statement cs rest place (Starred strength targets) begins wrong =
-    no_sign_at_ampersand wrong.first wrong.behind (record { strength = strength; starred = true; rest = begins.due.behind }) wrong.is (ap sign_at (sym wrong.are) ∙ begins.due.sign)
+    no_sign_at_ampersand wrong.first wrong.after (record { strength = strength; starred = true; rest = begins.due.after }) wrong.is (ap sign_at (sym wrong.are) ∙ begins.due.sign)
 
 bracket_excluded : (cs : List Character) (place : ℕ) (back : List Statement) → GoOn cs back → ¬ (IsWrongBracket cs place)
-bracket_excluded cs place [] on wrong = let none : ◌≡◌ {A = List Character} [] (wrong.first ∷ wrong.behind) = sym on ∙ wrong.are in cc
+bracket_excluded cs place [] on wrong = let none : ◌≡◌ {A = List Character} [] (wrong.first ∷ wrong.after) = sym on ∙ wrong.are in cc
 bracket_excluded cs place (s ∷ back) on wrong = bracket_at_statement cs on.0 place s on.1 wrong
 
 -- ---- Strengths
@@ -137,9 +137,9 @@ strength_at_statement lasts.Relation cs rest s begins follows wrong = wrong
 strength_at_statement (lasts.Reset None) cs rest s begins follows wrong = wrong
 strength_at_statement (lasts.Reset (Some asked)) cs rest (Reset before anchor) begins follows wrong = follows
 strength_at_statement (lasts.Reset (Some asked)) cs rest (Plain strength target expansion) begins follows wrong =
-    one_strength cs wrong.0 (record { strength = strength; starred = false; rest = begins.due.behind }) asked wrong.1 begins.due.sign follows wrong.2
+    one_strength cs wrong.0 (record { strength = strength; starred = false; rest = begins.due.after }) asked wrong.1 begins.due.sign follows wrong.2
 strength_at_statement (lasts.Reset (Some asked)) cs rest (Starred strength targets) begins follows wrong =
-    one_strength cs wrong.0 (record { strength = strength; starred = true; rest = begins.due.behind }) asked wrong.1 begins.due.sign follows wrong.2
+    one_strength cs wrong.0 (record { strength = strength; starred = true; rest = begins.due.after }) asked wrong.1 begins.due.sign follows wrong.2
 
 strength_at_end : (last : Preceding) → ¬ (IsWrongStrength last [])
 strength_at_end lasts.Nothing wrong = wrong
@@ -157,7 +157,7 @@ first_gives : (d : Character) (piece : Option Piece) → IfSome piece (λ piece.
 first_gives d None first = tt
 first_gives d (Some piece) first = let all = ap length first.1 in omega arith
 
-apostrophe_gives : (c : Character) (cs : List Character) → IfSome (behind_apostrophe c cs) (λ piece. 1 ≤ length piece.symbols)
+apostrophe_gives : (c : Character) (cs : List Character) → IfSome (after_apostrophe c cs) (λ piece. 1 ≤ length piece.symbols)
 apostrophe_gives c [] = tt
 apostrophe_gives c (d ∷ cs) =
     cond_both (d.code == apostrophe) (Some (record { symbols = Literal c ∷ []; rest = cs })) (inside_quotes (d ∷ cs)) (λ piece. IfSome piece (λ piece. 1 ≤ length (Piece.symbols piece)))
@@ -174,12 +174,12 @@ escape_gives c d cs true eight = code_gives c 4 cs (number_at 4 cs)
 escape_gives c d cs false true = code_gives c 8 cs (number_at 8 cs)
 escape_gives c d cs false false = omega arith
 
-backslash_gives : (c : Character) (cs : List Character) → IfSome (behind_backslash c cs) (λ piece. 1 ≤ length piece.symbols)
+backslash_gives : (c : Character) (cs : List Character) → IfSome (after_backslash c cs) (λ piece. 1 ≤ length piece.symbols)
 backslash_gives c [] = tt
 backslash_gives c (d ∷ cs) = escape_gives c d cs (d.code == byte "u") (d.code == byte "U")
 
 kind_gives : (c : Character) (cs : List Character) (quote escape plain range : Bool)
-    → IfSome (if quote then behind_apostrophe c cs else if escape then behind_backslash c cs else if plain then Some (record { symbols = Literal c ∷ []; rest = cs }) else if range then Some (record { symbols = Hyphen c.place ∷ []; rest = cs }) else None) (λ piece. 1 ≤ length (Piece.symbols piece))
+    → IfSome (if quote then after_apostrophe c cs else if escape then after_backslash c cs else if plain then Some (record { symbols = Literal c ∷ []; rest = cs }) else if range then Some (record { symbols = Hyphen c.place ∷ []; rest = cs }) else None) (λ piece. 1 ≤ length (Piece.symbols piece))
 kind_gives c cs true escape plain range = apostrophe_gives c cs
 kind_gives c cs false true plain range = backslash_gives c cs
 kind_gives c cs false false true range = omega arith
@@ -213,12 +213,12 @@ targets_some (Literal x ∷ Hyphen place ∷ Literal y ∷ symbols) some ranges 
 
 pub length-starred_relations : (properties : Properties) (anchor : Anchor) (strength : Strength) (targets : List Character) → length (starred_relations properties anchor strength targets) ≡ length targets
 length-starred_relations properties anchor strength [] = refl
-length-starred_relations properties anchor strength (c ∷ targets) = ap suc (length-starred_relations properties (behind_target (one_letter properties c)) strength targets)
+length-starred_relations properties anchor strength (c ∷ targets) = ap suc (length-starred_relations properties (after_target (one_letter properties c)) strength targets)
 
 -- if there is a sign, the statement gives a relation
 sign_gives : (properties : Properties) (anchor : Anchor) (cs rest : List Character) (s : Statement) → BeginsStatement cs s rest → IsSign cs → 1 ≤ length (relations_in properties anchor s)
 sign_gives properties anchor cs rest (Reset before text) begins sign =
-    absurd (no_sign_at_ampersand begins.due.first begins.due.behind sign.0 begins.due.is (ap sign_at (sym begins.due.are) ∙ sign.1))
+    absurd (no_sign_at_ampersand begins.due.first begins.due.after sign.0 begins.due.is (ap sign_at (sym begins.due.are) ∙ sign.1))
 sign_gives properties anchor cs rest (Plain strength target expansion) begins sign = omega arith
 sign_gives properties anchor cs rest (Starred strength targets) begins sign =
     let some : 1 ≤ length (targets_of begins.symbols) = targets_some begins.symbols (text_gives true begins.text rest begins.symbols begins.begins) begins.ranges in
@@ -230,7 +230,7 @@ count_excluded : (properties : Properties) (anchor : Anchor) (count : ℕ) (cs :
 count_excluded properties anchor count cs [] on few full sign = let none : ◌≡◌ {A = Option SignAt} None (Some sign.0) = ap sign_at (sym on) ∙ sign.1 in cc
 count_excluded properties anchor count cs (s ∷ back) on few full sign =
     let one = sign_gives properties anchor cs on.0 s on.1 sign in
-    let all = length-append (relations_in properties anchor s) (relations_from properties (anchor_behind properties anchor s) back) in
+    let all = length-append (relations_in properties anchor s) (relations_from properties (anchor_after properties anchor s) back) in
     omega arith
 
 -- ---- The sorts of causes
@@ -284,8 +284,8 @@ starred_excluded properties statements back place kind short few cause = over ca
     over (inl full) =
         let targets = cause.front ++ cause.c ∷ cause.back in
         let all = ap (λ (statements : List Statement). length (taken properties statements)) cause.are ∙ ap length (taken_more properties cause.before (Starred cause.strength targets)) in
-        let sum = length-append (taken properties cause.before) (starred_relations properties (anchor_behind_all properties no_anchor cause.before) cause.strength targets) in
-        let more = length-starred_relations properties (anchor_behind_all properties no_anchor cause.before) cause.strength targets in
+        let sum = length-append (taken properties cause.before) (starred_relations properties (anchor_after_all properties no_anchor cause.before) cause.strength targets) in
+        let more = length-starred_relations properties (anchor_after_all properties no_anchor cause.before) cause.strength targets in
         let parts = length-append cause.front (cause.c ∷ cause.back) in
         let count : length (taken properties cause.before) + length cause.front ≡ 5000 = full.0 in
         omega arith
@@ -306,7 +306,7 @@ inside_excluded properties bytes place kind relations inside means = excluded in
     front = front_of inside.statements means.statements (characters bytes) inside.rest inside.lead means.divides
 
     anchor : Anchor
-    anchor = anchor_behind_all properties no_anchor inside.statements
+    anchor = anchor_after_all properties no_anchor inside.statements
 
     all : taken properties means.statements ≡ taken properties inside.statements ++ relations_from properties anchor front.back
     all = ap (taken properties) front.parts ∙ relations_append properties no_anchor inside.statements front.back

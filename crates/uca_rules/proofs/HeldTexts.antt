@@ -19,7 +19,7 @@ pub record IsLastOf (rs : List Relation) (t : Relation) (before after : List Rel
 
 pub record IsEarlier (rs : List Relation) (t : Relation) (before after : List Relation) (r : Relation) : Type 0 where
   pub more : List Relation
-  pub behind : after ≡ more ++ t ∷ []
+  pub ends : after ≡ more ++ t ∷ []
   pub parts : rs ≡ before ++ r ∷ more
 
 pub last_or_earlier : (rs before after : List Relation) (t r : Relation) → rs ++ t ∷ [] ≡ before ++ r ∷ after → IsLastOf rs t before after r ⊎ IsEarlier rs t before after r
@@ -32,7 +32,7 @@ last_or_earlier [] (b ∷ []) after t r e = absurd (let e' : ◌≡◌ {A = List
 last_or_earlier [] (b ∷ d ∷ before) after t r e = absurd (let e' : ◌≡◌ {A = List Relation} (t ∷ []) (b ∷ d ∷ (before ++ r ∷ after)) = e in cc)
 last_or_earlier (x ∷ rs) [] after t r e = inr (record {
   more = rs;
-  behind = (let e' : ◌≡◌ {A = List Relation} (x ∷ (rs ++ t ∷ [])) (r ∷ after) = e in let same : after ≡ rs ++ t ∷ [] = cc in same);
+  ends = (let e' : ◌≡◌ {A = List Relation} (x ∷ (rs ++ t ∷ [])) (r ∷ after) = e in let same : after ≡ rs ++ t ∷ [] = cc in same);
   parts = (let e' : ◌≡◌ {A = List Relation} (x ∷ (rs ++ t ∷ [])) (r ∷ after) = e in let same : ◌≡◌ {A = List Relation} (x ∷ rs) (r ∷ rs) = cc in same);
 })
 last_or_earlier (x ∷ rs) (b ∷ before) after t r e =
@@ -41,7 +41,7 @@ last_or_earlier (x ∷ rs) (b ∷ before) after t r e =
     let others : rs ++ t ∷ [] ≡ before ++ r ∷ after = cc in
     ⊎_elim
     (λ last. inl (record { front = ap (λ (l : List Relation). b ∷ l) last.front ∙ ap (λ (y : Relation). y ∷ rs) (sym first); is = last.is; none = last.none }))
-    (λ earlier. inr (record { more = earlier.more; behind = earlier.behind; parts = ap (λ (y : Relation). y ∷ rs) first ∙ ap (λ (l : List Relation). b ∷ l) earlier.parts }))
+    (λ earlier. inr (record { more = earlier.more; ends = earlier.ends; parts = ap (λ (y : Relation). y ∷ rs) first ∙ ap (λ (l : List Relation). b ∷ l) earlier.parts }))
     (last_or_earlier rs before after t r others)
 
 -- ---- Texts that are kept
@@ -101,7 +101,7 @@ rules_more rs t rules few texts other none = record {
         let own : ¬ (OccursInOrder t.target.points text) = none text (record { before = before; after = after; r = r; parts = parts; used = used; free = free }) in
         ⊎_elim
         (λ last. subst (λ (l : List Relation). IsUntouched (r ∷ l) text) (sym last.none) (subst (λ (x : Relation). IsUntouched (x ∷ []) text) (sym last.is) (own, tt)))
-        (λ earlier. subst (λ (l : List Relation). IsUntouched (r ∷ l) text) (sym earlier.behind)
+        (λ earlier. subst (λ (l : List Relation). IsUntouched (r ∷ l) text) (sym earlier.ends)
         (untouched_more (r ∷ earlier.more) t text (rules.none_late before earlier.more r text earlier.parts used free) own))
         (last_or_earlier rs before after t r parts)
 

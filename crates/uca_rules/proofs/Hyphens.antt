@@ -3,7 +3,7 @@ use Rattle.std.proofs.Common.{◌≡◌, ◌⊎◌, inl, inr, ℕ, ◌+◌, ◌<
 use Rattle.std.proofs.lemmas.List.{append_assoc, same_from_push, take_more, take-append-drop, length_push}
 use Rattle.uca_rules.specs.declared.characters.Character.{Character}
 use Rattle.uca_rules.specs.Pieces.{Symbol, Literal, Hyphen}
-use Rattle.uca_rules.specs.Statements.{IsNoRange, No_start, Hyphen_before, Range_before, Hyphen_behind, Wrong_ends, HasRangesSoFar}
+use Rattle.uca_rules.specs.Statements.{IsNoRange, No_start, Hyphen_before, Range_before, Hyphen_after, Wrong_ends, HasRangesSoFar}
 use Rattle.uca_rules.proofs.Placing.{no_character}
 use Rattle.uca_rules.specs.Views.{EndsInHyphen, BeginsRange, ShowsWrongHyphen}
 
@@ -47,15 +47,15 @@ pub shown_longer : (front back more : List Symbol) → IsNoRange front back → 
 shown_longer front back more (No_start e) = No_start e
 shown_longer front back more (Hyphen_before before place e) = Hyphen_before before place e
 shown_longer front back more (Range_before before place x e) = Range_before before place x e
-shown_longer front back more (Hyphen_behind place behind e) = Hyphen_behind place (behind ++ more) (ap (λ zs. zs ++ more) e)
-shown_longer front back more (Wrong_ends before behind x y e k wrong) = Wrong_ends before (behind ++ more) x y e (ap (λ zs. zs ++ more) k) wrong
+shown_longer front back more (Hyphen_after place after e) = Hyphen_after place (after ++ more) (ap (λ zs. zs ++ more) e)
+shown_longer front back more (Wrong_ends before after x y e k wrong) = Wrong_ends before (after ++ more) x y e (ap (λ zs. zs ++ more) k) wrong
 
 shown_before : (front : List Symbol) (b : Symbol) (back : List Symbol) (last : Symbol) → IsNoRange front ((b ∷ back) ++ last ∷ []) → IsNoRange front (b ∷ back)
 shown_before front b back last (No_start e) = No_start e
 shown_before front b back last (Hyphen_before before place e) = Hyphen_before before place e
 shown_before front b back last (Range_before before place x e) = Range_before before place x e
-shown_before front b back last (Hyphen_behind place behind e) = let is : b ≡ Hyphen place = cc in Hyphen_behind place back (ap (λ c. c ∷ back) is)
-shown_before front b back last (Wrong_ends before behind x y e k wrong) = let is : b ≡ Literal y = cc in Wrong_ends before back x y e (ap (λ c. c ∷ back) is) wrong
+shown_before front b back last (Hyphen_after place after e) = let is : b ≡ Hyphen place = cc in Hyphen_after place back (ap (λ c. c ∷ back) is)
+shown_before front b back last (Wrong_ends before after x y e k wrong) = let is : b ≡ Literal y = cc in Wrong_ends before back x y e (ap (λ c. c ∷ back) is) wrong
 
 -- one more symbol
 ranges_more : (xs : List Symbol) (s : Symbol) → HasRangesSoFar xs → ((place : ℕ) → s ≡ Hyphen place → ¬ (IsNoRange xs [])) →
@@ -76,8 +76,8 @@ hyphen_is_no_literal : {A : Type 0} (place : ℕ) (x : Character) → Hyphen pla
 hyphen_is_no_literal place x e = let no : ⊥ = cc in absurd no
 
 -- after a hyphen a character to which there is a range
-pub behind_hyphen : (xs front : List Symbol) (place : ℕ) (s last : Symbol) → xs ≡ front ++ last ∷ [] → last ≡ Hyphen place → BeginsRange front s → HasRangesSoFar xs → HasRangesSoFar (xs ++ s ∷ [])
-behind_hyphen xs front place s last is hyphen range so_far = ranges_more xs s so_far first second
+pub after_hyphen : (xs front : List Symbol) (place : ℕ) (s last : Symbol) → xs ≡ front ++ last ∷ [] → last ≡ Hyphen place → BeginsRange front s → HasRangesSoFar xs → HasRangesSoFar (xs ++ s ∷ [])
+after_hyphen xs front place s last is hyphen range so_far = ranges_more xs s so_far first second
   where
     first : (p : ℕ) → s ≡ Hyphen p → ¬ (IsNoRange xs [])
     first p e wrong = hyphen_is_no_literal p range.y (sym e ∙ range.is)
@@ -86,7 +86,7 @@ behind_hyphen xs front place s last is hyphen range so_far = ranges_more xs s so
     inside b e (No_start k) = so_far front [] place (is ∙ ap (λ z. front ++ z ∷ []) hyphen) (No_start k)
     inside b e (Hyphen_before before p k) = so_far front [] place (is ∙ ap (λ z. front ++ z ∷ []) hyphen) (Hyphen_before before p k)
     inside b e (Range_before before p x k) = so_far front [] place (is ∙ ap (λ z. front ++ z ∷ []) hyphen) (Range_before before p x k)
-    inside b e (Hyphen_behind p more k) = let same : s ≡ Hyphen p = cc in hyphen_is_no_literal p range.y (sym same ∙ range.is)
+    inside b e (Hyphen_after p more k) = let same : s ≡ Hyphen p = cc in hyphen_is_no_literal p range.y (sym same ∙ range.is)
     inside b e (Wrong_ends before more x y k l wrong) =
         let start = same_from_push before range.front (Literal x) (Literal range.x) (sym k ∙ range.are) in
         let e1 : x ≡ range.x = cc (start.1) in
@@ -116,12 +116,12 @@ no_range_there xs front place s last is hyphen none = record {
             Wrong_ends w.front [] x y are (ap (λ z. z ∷ []) e) (λ range. none (record { front = w.front; x = x; y = y; are = are; is = e; range = range }))
 
     by_end : (t : Symbol) → s ≡ t → IsNoRange front (s ∷ [])
-    by_end (Hyphen p) e = Hyphen_behind p [] (ap (λ z. z ∷ []) e)
+    by_end (Hyphen p) e = Hyphen_after p [] (ap (λ z. z ∷ []) e)
     by_end (Literal y) e = by_front y e (last_of front)
 
 -- a hyphen after a range
-pub behind_range : (xs front : List Symbol) (x : Character) (place : ℕ) (s last : Symbol) → xs ≡ front ++ last ∷ [] → last ≡ Literal x → s ≡ Hyphen place → (p : ℕ) → EndsInHyphen front p → ShowsWrongHyphen (xs ++ s ∷ []) place
-behind_range xs front x place s last is letter hyphen p ends = record {
+pub after_range : (xs front : List Symbol) (x : Character) (place : ℕ) (s last : Symbol) → xs ≡ front ++ last ∷ [] → last ≡ Literal x → s ≡ Hyphen place → (p : ℕ) → EndsInHyphen front p → ShowsWrongHyphen (xs ++ s ∷ []) place
+after_range xs front x place s last is letter hyphen p ends = record {
   front = xs;
   back = [];
   are = ap (λ z. xs ++ z ∷ []) hyphen;
@@ -129,8 +129,8 @@ behind_range xs front x place s last is letter hyphen p ends = record {
 }
 
 -- a hyphen after another character
-pub hyphen_behind : (xs front : List Symbol) (x : Character) (s last : Symbol) → xs ≡ front ++ last ∷ [] → last ≡ Literal x → ((p : ℕ) → ¬ (EndsInHyphen front p)) → HasRangesSoFar xs → HasRangesSoFar (xs ++ s ∷ [])
-hyphen_behind xs front x s last is letter none so_far = ranges_more xs s so_far first second
+pub hyphen_after : (xs front : List Symbol) (x : Character) (s last : Symbol) → xs ≡ front ++ last ∷ [] → last ≡ Literal x → ((p : ℕ) → ¬ (EndsInHyphen front p)) → HasRangesSoFar xs → HasRangesSoFar (xs ++ s ∷ [])
+hyphen_after xs front x s last is letter none so_far = ranges_more xs s so_far first second
   where
     inside : (b : List Symbol) → b ≡ [] → ¬ (IsNoRange xs b)
     inside b e (No_start k) = none_of_push front last (sym is ∙ k)
@@ -138,7 +138,7 @@ hyphen_behind xs front x s last is letter none so_far = ranges_more xs s so_far 
     inside b e (Range_before before p y k) =
         let same = same_from_push front (before ++ Hyphen p ∷ []) last (Literal y) (sym is ∙ (k ∙ sym (append_assoc before (Hyphen p ∷ []) (Literal y ∷ [])))) in
         none p (record { front = before; are = same.0 })
-    inside b e (Hyphen_behind p more k) = let no : ⊥ = cc in no
+    inside b e (Hyphen_after p more k) = let no : ⊥ = cc in no
     inside b e (Wrong_ends before more y z k l wrong) = let no : ⊥ = cc (e, l) in no
 
     first : (p : ℕ) → s ≡ Hyphen p → ¬ (IsNoRange xs [])
@@ -148,8 +148,8 @@ hyphen_behind xs front x s last is letter none so_far = ranges_more xs s so_far 
     second f p e wrong = let same = same_from_push front f last (Hyphen p) (sym is ∙ e) in hyphen_is_no_literal p x (sym same.1 ∙ letter)
 
 -- a character after another one
-pub letter_behind : (xs front : List Symbol) (x y : Character) (s last : Symbol) → xs ≡ front ++ last ∷ [] → last ≡ Literal x → s ≡ Literal y → HasRangesSoFar xs → HasRangesSoFar (xs ++ s ∷ [])
-letter_behind xs front x y s last is letter end so_far = ranges_more xs s so_far first second
+pub letter_after : (xs front : List Symbol) (x y : Character) (s last : Symbol) → xs ≡ front ++ last ∷ [] → last ≡ Literal x → s ≡ Literal y → HasRangesSoFar xs → HasRangesSoFar (xs ++ s ∷ [])
+letter_after xs front x y s last is letter end so_far = ranges_more xs s so_far first second
   where
     first : (p : ℕ) → s ≡ Hyphen p → ¬ (IsNoRange xs [])
     first p e wrong = hyphen_is_no_literal p y (sym e ∙ end)

@@ -13,13 +13,13 @@ use Rattle.uca_rules.specs.declared.faults.RuleFault.{RuleFault}
 use Rattle.uca_rules.specs.declared.faults.RuleFaultKind.TheVariants as kinds
 use Rattle.uca_rules.specs.declared.signs.Preceding.{Preceding}
 use Rattle.uca_rules.specs.declared.signs.Preceding.TheVariants as lasts
-use Rattle.uca_rules.specs.Characters.{behind_gaps}
+use Rattle.uca_rules.specs.Characters.{after_gaps}
 use Rattle.uca_rules.specs.Statements.{Statement, Starred, AreStatements, BeginsStatement, MayFollow, MayEnd, AreInOrder, opening, last_is, last_of}
-use Rattle.uca_rules.specs.Meaning.{Anchor, Taken, HasShortTexts, no_anchor, anchor_behind, relations_in, relations_of, taken}
+use Rattle.uca_rules.specs.Meaning.{Anchor, Taken, HasShortTexts, no_anchor, anchor_after, relations_in, relations_of, taken}
 use Rattle.uca_rules.specs.Faults.{RelationCause, StatementCause, InText}
 use Rattle.uca_rules.specs.Reading.{State, start, BeginsNext, ReadsAll, IsMemoryIn, IsNextFault, In_memory, In_text, At_statement, In_relation, In_target, IsReadingFault, Keeps, properties_in}
-use Rattle.uca_rules.proofs.MeaningLaws.{anchor_behind_all, anchor_behind_more, taken_more, relations_more}
-use Rattle.uca_rules.proofs.Suffixes.{statements_end, statement_behind, behind_length, ends_length, gaps_end, ends_trans}
+use Rattle.uca_rules.proofs.MeaningLaws.{anchor_after_all, anchor_after_more, taken_more, relations_more}
+use Rattle.uca_rules.proofs.Suffixes.{statements_end, statement_after, after_length, ends_length, gaps_end, ends_trans}
 
 -- the characters begin with statements that give the state, and the rest follows after them and what comes between
 pub record HasRead (properties : Properties) (cs : List Character) (state : State) (rest : List Character) : Type 0 where
@@ -28,16 +28,16 @@ pub record HasRead (properties : Properties) (cs : List Character) (state : Stat
   pub ordered : AreInOrder lasts.Nothing statements
   pub short : AllByRecursion HasShortTexts statements
   pub relations : state.relations ≡ relations_of (taken properties statements)
-  pub anchor : state.anchor ≡ anchor_behind_all properties no_anchor statements
+  pub anchor : state.anchor ≡ anchor_after_all properties no_anchor statements
   pub last : state.last ≡ last_of lasts.Nothing statements
 
-pub reading_starts : (properties : Properties) (cs : List Character) → HasRead properties cs start (behind_gaps cs)
+pub reading_starts : (properties : Properties) (cs : List Character) → HasRead properties cs start (after_gaps cs)
 reading_starts properties cs = record { statements = []; lead = refl; ordered = tt; short = tt; relations = refl; anchor = refl; last = refl }
 
 -- ---- One more statement
 
 pub statements_more : (cs here rest : List Character) (statements : List Statement) (s : Statement) → AreStatements cs statements here → BeginsStatement here s rest
-    → AreStatements cs (statements ++ s ∷ []) (behind_gaps rest)
+    → AreStatements cs (statements ++ s ∷ []) (after_gaps rest)
 statements_more cs here rest [] s lead begins = (rest, subst (λ (l : List Character). BeginsStatement l s rest) (sym lead) begins, refl)
 statements_more cs here rest (t ∷ statements) s lead begins = (lead.0, lead.1, statements_more lead.0 here rest statements s lead.2 begins)
 
@@ -54,7 +54,7 @@ short_more [] s all one = (one, tt)
 short_more (t ∷ statements) s all one = (all.0, short_more statements s all.1 one)
 
 pub reads_more : (properties : Properties) (cs here rest : List Character) (old new : State) → HasRead properties cs old here → BeginsNext properties old new here rest
-    → HasRead properties cs new (behind_gaps rest)
+    → HasRead properties cs new (after_gaps rest)
 reads_more properties cs here rest old new read next = record {
   statements = read.statements ++ next.s ∷ [];
   lead = statements_more cs here rest read.statements next.s read.lead next.begins;
@@ -65,8 +65,8 @@ reads_more properties cs here rest old new read next = record {
       ∙ ap (λ (a : Anchor). relations_of (taken properties read.statements) ++ relations_of (relations_in properties a next.s)) read.anchor
       ∙ sym (relations_more properties read.statements next.s);
   anchor = ap (λ (s : State). s.anchor) next.is
-      ∙ ap (λ (a : Anchor). anchor_behind properties a next.s) read.anchor
-      ∙ sym (anchor_behind_more properties no_anchor read.statements next.s);
+      ∙ ap (λ (a : Anchor). anchor_after properties a next.s) read.anchor
+      ∙ sym (anchor_after_more properties no_anchor read.statements next.s);
   last = ap (λ (s : State). s.last) next.is ∙ sym (last_more lasts.Nothing read.statements next.s);
 }
 
@@ -91,8 +91,8 @@ may_end lasts.Relation other = tt
 
 -- ---- Errors
 
-pub memory_behind : (end : ℕ) (cs front here : List Character) (fault : RuleFault) → cs ≡ front ++ here → IsMemoryIn end here fault → IsMemoryIn end cs fault
-memory_behind end cs front here fault parts memory =
+pub memory_after : (end : ℕ) (cs front here : List Character) (fault : RuleFault) → cs ≡ front ++ here → IsMemoryIn end here fault → IsMemoryIn end cs fault
+memory_after end cs front here fault parts memory =
     let ends = ends_trans cs here memory.rest (front, parts) (memory.front, memory.parts) in
     record { front = ends.0; rest = memory.rest; parts = ends.1; at = memory.at }
 
@@ -107,12 +107,12 @@ over_limit count total front c same few (inl many) = inl (ap (λ (n : ℕ). n + 
     not_first none = let zero : length front ≡ 0 = ap length none in omega (arith, many, few)
 over_limit count total front c same few (inr long) = inr long
 
-pub fault_behind : (properties : Properties) (end : ℕ) (cs here : List Character) (state : State) (fault : RuleFault) → HasRead properties cs state here → IsNextFault properties end state here fault
+pub fault_after : (properties : Properties) (end : ℕ) (cs here : List Character) (state : State) (fault : RuleFault) → HasRead properties cs state here → IsNextFault properties end state here fault
     → IsReadingFault properties end cs fault
-fault_behind properties end cs here state fault read (In_memory memory) =
+fault_after properties end cs here state fault read (In_memory memory) =
     let ends = statements_end cs read.statements here read.lead in
-    inl (memory_behind end cs ends.0 here fault ends.1 memory)
-fault_behind properties end cs here state fault read (In_text text) =
+    inl (memory_after end cs ends.0 here fault ends.1 memory)
+fault_after properties end cs here state fault read (In_text text) =
     inr (record {
       statements = read.statements;
       rest = here;
@@ -120,7 +120,7 @@ fault_behind properties end cs here state fault read (In_text text) =
       ordered = read.ordered;
       cause = inl (subst (λ (l : Preceding). InText end l here fault.byte fault.kind) read.last text);
     })
-fault_behind properties end cs here state fault read (At_statement cause) =
+fault_after properties end cs here state fault read (At_statement cause) =
     inr (record {
       statements = read.statements;
       rest = here;
@@ -129,7 +129,7 @@ fault_behind properties end cs here state fault read (At_statement cause) =
       cause = inr (inl (subst (λ (n : ℕ). StatementCause end (last_of lasts.Nothing read.statements) n here fault.byte fault.kind) (counted properties cs here state read)
           (subst (λ (l : Preceding). StatementCause end l (length state.relations) here fault.byte fault.kind) read.last cause)));
     })
-fault_behind properties end cs here state fault read (In_relation next) =
+fault_after properties end cs here state fault read (In_relation next) =
     let before : List Taken = taken properties read.statements in
     let is : taken properties (read.statements ++ next.s ∷ []) ≡ (before ++ next.has.before) ++ next.has.t ∷ next.has.after =
     taken_more properties read.statements next.s
@@ -140,7 +140,7 @@ fault_behind properties end cs here state fault read (In_relation next) =
     ap (λ (l : List Relation). l ++ relations_of next.has.before) read.relations ∙ sym (map-append (λ (t : Taken). t.relation) before next.has.before) in
     inr (record {
       statements = read.statements ++ next.s ∷ [];
-      rest = behind_gaps next.rest;
+      rest = after_gaps next.rest;
       lead = statements_more cs here next.rest read.statements next.s read.lead next.begins;
       ordered = ordered_more lasts.Nothing read.statements next.s read.ordered (subst (λ (l : Preceding). MayFollow l (opening next.s)) read.last next.follows);
       cause = inr (inr (inl (record {
@@ -152,13 +152,13 @@ fault_behind properties end cs here state fault read (In_relation next) =
         cause = subst (λ (l : List Relation). RelationCause l next.has.t.relation fault.kind) relations next.has.cause;
       })));
     })
-fault_behind properties end cs here state fault read (In_target next) =
+fault_after properties end cs here state fault read (In_target next) =
     let s : Statement = Starred next.strength next.targets in
     let count : length state.relations ≡ length (taken properties read.statements) = counted properties cs here state read in
     let few : length state.relations < 5000 = next.few in
     inr (record {
       statements = read.statements ++ s ∷ [];
-      rest = behind_gaps next.rest;
+      rest = after_gaps next.rest;
       lead = statements_more cs here next.rest read.statements s read.lead next.begins;
       ordered = ordered_more lasts.Nothing read.statements s read.ordered (subst (λ (l : Preceding). MayFollow l (opening s)) read.last next.follows);
       cause = inr (inr (inr (record {
@@ -175,10 +175,10 @@ fault_behind properties end cs here state fault read (In_target next) =
     })
 
 -- the last statement is a reset
-pub ends_behind_reset : (properties : Properties) (end : ℕ) (cs : List Character) (state : State) → HasRead properties cs state [] → ¬ (MayEnd state.last)
+pub ends_after_reset : (properties : Properties) (end : ℕ) (cs : List Character) (state : State) → HasRead properties cs state [] → ¬ (MayEnd state.last)
     → IsReadingFault properties end cs (record { byte = end; kind = kinds.Syntax })
-ends_behind_reset properties end cs state read open_chain =
-    fault_behind properties end cs [] state (record { byte = end; kind = kinds.Syntax }) read (At_statement (inl (inl open_chain, refl)))
+ends_after_reset properties end cs state read open_chain =
+    fault_after properties end cs [] state (record { byte = end; kind = kinds.Syntax }) read (At_statement (inl (inl open_chain, refl)))
 
 -- ---- What a reader is for
 
@@ -199,8 +199,8 @@ pub kept_next : {A T : Type 0} (old new : TextReader A T) (before after : State)
 kept_next {A} old new before after cs rest kept h = subst (λ (p : Properties). BeginsNext p before after cs rest) (kept_properties old new kept) h
 
 -- after a statement there are fewer characters
-pub fewer_left : (properties : Properties) (old new : State) (cs rest : List Character) → BeginsNext properties old new cs rest → length (behind_gaps rest) < length cs
+pub fewer_left : (properties : Properties) (old new : State) (cs rest : List Character) → BeginsNext properties old new cs rest → length (after_gaps rest) < length cs
 fewer_left properties old new cs rest next =
-    let fewer : length rest < length cs = behind_length cs rest (statement_behind cs next.s rest next.begins) in
-    let same : length (behind_gaps rest) ≤ length rest = ends_length rest (behind_gaps rest) (gaps_end rest) in
+    let fewer : length rest < length cs = after_length cs rest (statement_after cs next.s rest next.begins) in
+    let same : length (after_gaps rest) ≤ length rest = ends_length rest (after_gaps rest) (gaps_end rest) in
     omega arith

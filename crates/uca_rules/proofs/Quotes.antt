@@ -7,26 +7,26 @@ use Rattle.uca_rules.specs.Characters.{apostrophe}
 use Rattle.uca_rules.specs.Pieces.{Symbol, Literal, Piece, with_literal, inside_quotes}
 
 -- a piece after other symbols
-abbrev pub behind : List Symbol → Option Piece → Option Piece
-behind front None = None
-behind front (Some piece) = Some (record { symbols = front ++ piece.symbols; rest = piece.rest })
+abbrev pub after : List Symbol → Option Piece → Option Piece
+after front None = None
+after front (Some piece) = Some (record { symbols = front ++ piece.symbols; rest = piece.rest })
 
-behind_none : (piece : Option Piece) → piece ≡ behind [] piece
-behind_none None = refl
-behind_none (Some piece) = refl
+after_none : (piece : Option Piece) → piece ≡ after [] piece
+after_none None = refl
+after_none (Some piece) = refl
 
-behind_one : (front : List Symbol) (c : Character) (piece : Option Piece) → behind front (with_literal c piece) ≡ behind (front ++ Literal c ∷ []) piece
-behind_one front c None = refl
-behind_one front c (Some piece) = rw append_assoc refl
+after_one : (front : List Symbol) (c : Character) (piece : Option Piece) → after front (with_literal c piece) ≡ after (front ++ Literal c ∷ []) piece
+after_one front c None = refl
+after_one front c (Some piece) = rw append_assoc refl
 
 -- `at` characters of the inside of quotes were read, and they are not its end
 pub record IsInside (old new : List Symbol) (cs : List Character) (at : ℕ) : Type 0 where
   pub front : List Symbol
   pub written : new ≡ old ++ front
-  pub whole : inside_quotes cs ≡ behind front (inside_quotes (drop at cs))
+  pub whole : inside_quotes cs ≡ after front (inside_quotes (drop at cs))
 
 pub inside_first : (old : List Symbol) (cs : List Character) → IsInside old old cs 0
-inside_first old cs = record { front = []; written = sym (append-nil old); whole = behind_none (inside_quotes cs) }
+inside_first old cs = record { front = []; written = sym (append-nil old); whole = after_none (inside_quotes cs) }
 
 -- a character that stands for itself
 pub letter : (c : Character) (cs : List Character) → c.code ≢ apostrophe → inside_quotes (c ∷ cs) ≡ with_literal c (inside_quotes cs)
@@ -43,7 +43,7 @@ further : (old new new' : List Symbol) (cs : List Character) (at next : ℕ) (c 
 further old new new' cs at next c i more step = record {
   front = i.front ++ Literal c ∷ [];
   written = more ∙ (ap (λ symbols. symbols ++ Literal c ∷ []) i.written ∙ append_assoc old i.front (Literal c ∷ []));
-  whole = i.whole ∙ (ap (behind i.front) step ∙ behind_one i.front c (inside_quotes (drop next cs)));
+  whole = i.whole ∙ (ap (after i.front) step ∙ after_one i.front c (inside_quotes (drop next cs)));
 }
 
 pub inside_letter : (old new new' : List Symbol) (cs : List Character) (at : ℕ) (d : Character) → IsInside old new cs at → at < length cs →
@@ -61,7 +61,7 @@ inside_double old new new' cs at next d i within is first second more =
 -- Where all characters are inside the quotes there is no piece, since the quotes have no end.
 pub inside_all : (old new : List Symbol) (cs : List Character) (at : ℕ) → IsInside old new cs at → length cs ≤ at → (inside_quotes cs ≡ None) × (take (length old) new ≡ old)
 inside_all old new cs at i past = (
-  i.whole ∙ ap (λ rest. behind i.front (inside_quotes rest)) (drop_all at cs past),
+  i.whole ∙ ap (λ rest. after i.front (inside_quotes rest)) (drop_all at cs past),
   ap (take (length old)) i.written ∙ take_at old i.front (length old) refl,
 )
 
@@ -82,7 +82,7 @@ inside_end old new cs at d i within is other =
     let next : 0 < length rest → (get_or rest 0 d).code ≢ apostrophe = λ some.
     subst (λ (c : Character). c.code ≢ apostrophe) (sym same) (other (omega (arith, some, length-drop (at + 1) cs))) in (
       i.front,
-      i.whole ∙ (ap (λ left. behind i.front (inside_quotes left)) (drop_more cs at d within) ∙ (ap (behind i.front) (last_one here rest d is next)
+      i.whole ∙ (ap (λ left. after i.front (inside_quotes left)) (drop_more cs at d within) ∙ (ap (after i.front) (last_one here rest d is next)
           ∙ ap (λ symbols. Some (record { symbols = symbols; rest = rest })) (append-nil i.front))),
       i.written,
     )

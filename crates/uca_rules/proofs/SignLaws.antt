@@ -9,7 +9,7 @@ use Rattle.uca_weights.specs.declared.Strength.{Strength}
 use Rattle.uca_weights.specs.declared.Strength.TheVariants.{Primary, Secondary, Tertiary, Identical}
 use Rattle.uca_rules.specs.declared.characters.Character.{Character}
 use Rattle.uca_rules.specs.Characters.{codes_of, ampersand, less_than, equals_sign, bracket}
-use Rattle.uca_rules.specs.Statements.{SignAt, perhaps_starred, count_less, behind_less, strength_of, sign_at, bracket_of, bracket_at, IsNotAt}
+use Rattle.uca_rules.specs.Statements.{SignAt, perhaps_starred, count_less, after_less, strength_of, sign_at, bracket_of, bracket_at, IsNotAt}
 use Rattle.uca_rules.proofs.Placing.{length-codes}
 
 -- ---- Signs
@@ -31,8 +31,8 @@ some_less cs code more =
 
 begins_sign : (c : Character) (cs : List Character) → IfSome (sign_at (c ∷ cs)) (λ sign. BeginsSign c.code)
 begins_sign c cs =
-    cond_both (c.code == equals_sign) (Some (perhaps_starred Identical cs)) (option_map (λ strength. perhaps_starred strength (behind_less (c ∷ cs))) (strength_of (count_less (c ∷ cs))))
-    (λ sign. IfSome sign (λ sign. BeginsSign c.code)) (λ is. inr (eqb-true c.code equals_sign is)) (λ other. some_less cs c.code (behind_less (c ∷ cs)))
+    cond_both (c.code == equals_sign) (Some (perhaps_starred Identical cs)) (option_map (λ strength. perhaps_starred strength (after_less (c ∷ cs))) (strength_of (count_less (c ∷ cs))))
+    (λ sign. IfSome sign (λ sign. BeginsSign c.code)) (λ is. inr (eqb-true c.code equals_sign is)) (λ other. some_less cs c.code (after_less (c ∷ cs)))
 
 -- a sign begins with `<` or `=`
 pub sign_begins : (c : Character) (cs : List Character) (sign : SignAt) → sign_at (c ∷ cs) ≡ Some sign → BeginsSign c.code
@@ -66,8 +66,8 @@ no_sign_at_four (c ∷ cs) many =
     let some : 1 ≤ count_less (c ∷ cs) = omega arith in
     let less : c.code ≡ less_than = less_begins c cs some in
     let other = ne_eqb c.code equals_sign (λ (is : c.code ≡ equals_sign). omega arith) in
-    cond_both (c.code == equals_sign) (Some (perhaps_starred Identical cs)) (option_map (λ strength. perhaps_starred strength (behind_less (c ∷ cs))) (strength_of (count_less (c ∷ cs))))
-    (λ sign. sign ≡ None) (λ is. absurd cc) (λ other. ap (λ strength. option_map (λ strength. perhaps_starred strength (behind_less (c ∷ cs))) strength) (strength_of_four (count_less (c ∷ cs)) many))
+    cond_both (c.code == equals_sign) (Some (perhaps_starred Identical cs)) (option_map (λ strength. perhaps_starred strength (after_less (c ∷ cs))) (strength_of (count_less (c ∷ cs))))
+    (λ sign. sign ≡ None) (λ is. absurd cc) (λ other. ap (λ strength. option_map (λ strength. perhaps_starred strength (after_less (c ∷ cs))) strength) (strength_of_four (count_less (c ∷ cs)) many))
 
 -- ---- Brackets
 

@@ -16,7 +16,7 @@ use Rattle.uca_rules.specs.declared.reader.Reader.{Reader}
 use Rattle.uca_rules.specs.Characters.{place_of}
 use Rattle.uca_rules.specs.Pieces.{Symbol, Literal, Hyphen, BeginsText}
 use Rattle.uca_rules.specs.Statements.{Statement, Starred, between, placed_at, targets_of, HasRanges, IsRange, IsNoRange}
-use Rattle.uca_rules.specs.Meaning.{Anchor, Taken, IsShort, behind_target, behind_targets, one_letter, relations_of, starred_relations}
+use Rattle.uca_rules.specs.Meaning.{Anchor, Taken, IsShort, after_target, after_targets, one_letter, relations_of, starred_relations}
 use Rattle.uca_rules.specs.Faults.{RelationCause}
 use Rattle.uca_rules.specs.Relations.{IsRuleText}
 use Rattle.uca_rules.specs.Views.{IsMemoryAt}
@@ -26,22 +26,22 @@ use Rattle.uca_rules.specs.Reading.{Adds, AddsOne, HasRelationCause, HasTargetFa
 -- ---- The relations of targets in turn
 
 pub relations_further : (properties : Properties) (anchor : Anchor) (strength : Strength) (xs ys : List Character)
-    → starred_relations properties anchor strength (xs ++ ys) ≡ starred_relations properties anchor strength xs ++ starred_relations properties (behind_targets properties anchor xs) strength ys
+    → starred_relations properties anchor strength (xs ++ ys) ≡ starred_relations properties anchor strength xs ++ starred_relations properties (after_targets properties anchor xs) strength ys
 relations_further properties anchor strength [] ys = refl
 relations_further properties anchor strength (x ∷ xs) ys =
     ap (λ (l : List Taken). record { relation = record { anchor = anchor.text; before = anchor.before; strength = strength; target = one_letter properties x; expansion = None }; place = x.place } ∷ l)
-    (relations_further properties (behind_target (one_letter properties x)) strength xs ys)
+    (relations_further properties (after_target (one_letter properties x)) strength xs ys)
 
-pub behind_further : (properties : Properties) (anchor : Anchor) (xs ys : List Character)
-    → behind_targets properties anchor (xs ++ ys) ≡ behind_targets properties (behind_targets properties anchor xs) ys
-behind_further properties anchor [] ys = refl
-behind_further properties anchor (x ∷ xs) ys = behind_further properties (behind_target (one_letter properties x)) xs ys
+pub after_further : (properties : Properties) (anchor : Anchor) (xs ys : List Character)
+    → after_targets properties anchor (xs ++ ys) ≡ after_targets properties (after_targets properties anchor xs) ys
+after_further properties anchor [] ys = refl
+after_further properties anchor (x ∷ xs) ys = after_further properties (after_target (one_letter properties x)) xs ys
 
 -- each target gives one relation
 pub relations_count : (properties : Properties) (anchor : Anchor) (strength : Strength) (xs : List Character)
     → length (relations_of (starred_relations properties anchor strength xs)) ≡ length xs
 relations_count properties anchor strength [] = refl
-relations_count properties anchor strength (x ∷ xs) = ap suc (relations_count properties (behind_target (one_letter properties x)) strength xs)
+relations_count properties anchor strength (x ∷ xs) = ap suc (relations_count properties (after_target (one_letter properties x)) strength xs)
 
 pub short_further : (xs ys : List Character) → AllByRecursion (λ c. IsShort (c.code ∷ [])) xs → AllByRecursion (λ c. IsShort (c.code ∷ [])) ys
     → AllByRecursion (λ c. IsShort (c.code ∷ [])) (xs ++ ys)
@@ -63,8 +63,8 @@ adds_none strength r ready anchored = record {
 }
 
 -- a reader that has added relations is ready for the next ones
-pub ready_behind : {A T : Type 0} {s : Statement} {old new : Reader A T} → Adds s old new → IsReady new
-ready_behind adds = record { growing = adds.growing; anchored = λ _. adds.anchored }
+pub ready_after : {A T : Type 0} {s : Statement} {old new : Reader A T} → Adds s old new → IsReady new
+ready_after adds = record { growing = adds.growing; anchored = λ _. adds.anchored }
 
 pub same_properties : {A T : Type 0} {s : Statement} {old new : Reader A T} → Adds s old new → properties_in new.texts ≡ properties_in old.texts
 same_properties adds = ap (λ p. properties_of p.now) adds.kept.properties
@@ -75,7 +75,7 @@ adds_further strength xs ys old mid new first second =
     let P : Properties = properties_in old.texts in
     let a : Anchor = anchor_of old in
     let same : properties_in mid.texts ≡ P = same_properties first in
-    let b : Anchor = behind_targets P a xs in
+    let b : Anchor = after_targets P a xs in
     let front : List Relation = relations_of (starred_relations P a strength xs) in
     let back : List Relation = relations_of (starred_relations P b strength ys) in
     let second_is : new.rules.relations.items ≡ mid.rules.relations.items ++ back =
@@ -83,9 +83,9 @@ adds_further strength xs ys old mid new first second =
     (subst (λ (c : Anchor). new.rules.relations.items ≡ mid.rules.relations.items ++ relations_of (starred_relations (properties_in mid.texts) c strength ys)) first.anchor second.relations) in
     let both : relations_of (starred_relations P a strength (xs ++ ys)) ≡ front ++ back =
     ap relations_of (relations_further P a strength xs ys) ∙ map-append (λ t. t.relation) (starred_relations P a strength xs) (starred_relations P b strength ys) in
-    let anchor_is : anchor_of new ≡ behind_targets P b ys =
-    subst (λ (q : Properties). anchor_of new ≡ behind_targets q b ys) same
-    (subst (λ (c : Anchor). anchor_of new ≡ behind_targets (properties_in mid.texts) c ys) first.anchor second.anchor) in
+    let anchor_is : anchor_of new ≡ after_targets P b ys =
+    subst (λ (q : Properties). anchor_of new ≡ after_targets q b ys) same
+    (subst (λ (c : Anchor). anchor_of new ≡ after_targets (properties_in mid.texts) c ys) first.anchor second.anchor) in
     record {
       kept = record { properties = second.kept.properties ∙ first.kept.properties; end = second.kept.end ∙ first.kept.end };
       growing = second.growing;
@@ -93,7 +93,7 @@ adds_further strength xs ys old mid new first second =
       short = short_further xs ys first.short second.short;
       relations = second_is ∙ ap (λ (l : List Relation). l ++ back) first.relations ∙ append_assoc old.rules.relations.items front back
           ∙ ap (λ (l : List Relation). old.rules.relations.items ++ l) (sym both);
-      anchor = anchor_is ∙ sym (behind_further P a xs ys);
+      anchor = anchor_is ∙ sym (after_further P a xs ys);
       last = second.last ∙ first.last;
     }
 
@@ -127,18 +127,18 @@ targets_literal (Literal x ∷ Hyphen p ∷ Literal w ∷ pre) y other =
     ∙ ap (λ (l : List Character). x ∷ l) (sym (append_assoc (between p x.code w.code) (targets_of (Literal w ∷ pre)) (y ∷ [])))
 
 -- the targets of symbols up to a character are a front of all
-pub targets_behind : (pre : List Symbol) (x : Character) (more : List Symbol) (rest : List Character) → targets_of (Literal x ∷ more) ≡ x ∷ rest
+pub targets_after : (pre : List Symbol) (x : Character) (more : List Symbol) (rest : List Character) → targets_of (Literal x ∷ more) ≡ x ∷ rest
     → targets_of (pre ++ Literal x ∷ more) ≡ targets_of (pre ++ Literal x ∷ []) ++ rest
-targets_behind [] x more rest e = e
-targets_behind (Hyphen p ∷ pre) x more rest e = targets_behind pre x more rest e
-targets_behind (Literal w ∷ []) x more rest e = ap (λ (l : List Character). w ∷ l) e
-targets_behind (Literal w ∷ Literal v ∷ pre) x more rest e = ap (λ (l : List Character). w ∷ l) (targets_behind (Literal v ∷ pre) x more rest e)
-targets_behind (Literal w ∷ Hyphen p ∷ []) x more rest e =
+targets_after [] x more rest e = e
+targets_after (Hyphen p ∷ pre) x more rest e = targets_after pre x more rest e
+targets_after (Literal w ∷ []) x more rest e = ap (λ (l : List Character). w ∷ l) e
+targets_after (Literal w ∷ Literal v ∷ pre) x more rest e = ap (λ (l : List Character). w ∷ l) (targets_after (Literal v ∷ pre) x more rest e)
+targets_after (Literal w ∷ Hyphen p ∷ []) x more rest e =
     ap (λ (l : List Character). w ∷ (between p w.code x.code ++ l)) e
     ∙ ap (λ (l : List Character). w ∷ l) (sym (append_assoc (between p w.code x.code) (x ∷ []) rest))
-targets_behind (Literal w ∷ Hyphen p ∷ Hyphen q ∷ pre) x more rest e = ap (λ (l : List Character). w ∷ l) (targets_behind pre x more rest e)
-targets_behind (Literal w ∷ Hyphen p ∷ Literal v ∷ pre) x more rest e =
-    ap (λ (l : List Character). w ∷ (between p w.code v.code ++ l)) (targets_behind (Literal v ∷ pre) x more rest e)
+targets_after (Literal w ∷ Hyphen p ∷ Hyphen q ∷ pre) x more rest e = ap (λ (l : List Character). w ∷ l) (targets_after pre x more rest e)
+targets_after (Literal w ∷ Hyphen p ∷ Literal v ∷ pre) x more rest e =
+    ap (λ (l : List Character). w ∷ (between p w.code v.code ++ l)) (targets_after (Literal v ∷ pre) x more rest e)
     ∙ ap (λ (l : List Character). w ∷ l) (sym (append_assoc (between p w.code v.code) (targets_of (Literal v ∷ (pre ++ Literal x ∷ []))) rest))
 
 -- those of a character begin with it
@@ -154,9 +154,9 @@ pub targets_range : (front : List Symbol) (x : Character) (p : ℕ) (y : Charact
     → targets_of (front ++ Literal x ∷ Hyphen p ∷ Literal y ∷ []) ≡ targets_of (front ++ Literal x ∷ Hyphen p ∷ []) ++ (between p x.code y.code ++ y ∷ [])
 targets_range front x p y =
     let long : targets_of (front ++ Literal x ∷ Hyphen p ∷ Literal y ∷ []) ≡ targets_of (front ++ Literal x ∷ []) ++ (between p x.code y.code ++ y ∷ []) =
-    targets_behind front x (Hyphen p ∷ Literal y ∷ []) (between p x.code y.code ++ y ∷ []) refl in
+    targets_after front x (Hyphen p ∷ Literal y ∷ []) (between p x.code y.code ++ y ∷ []) refl in
     let short : targets_of (front ++ Literal x ∷ Hyphen p ∷ []) ≡ targets_of (front ++ Literal x ∷ []) =
-    targets_behind front x (Hyphen p ∷ []) [] refl ∙ append-nil (targets_of (front ++ Literal x ∷ [])) in
+    targets_after front x (Hyphen p ∷ []) [] refl ∙ append-nil (targets_of (front ++ Literal x ∷ [])) in
     long ∙ ap (λ (l : List Character). l ++ (between p x.code y.code ++ y ∷ [])) (sym short)
 
 -- ---- Symbols at indices
@@ -185,7 +185,7 @@ further symbols at c gap d has is adds =
     record {
       next = ap targets_of (one_further symbols at (Literal c) d has is) ∙ so_far;
       more = first.0;
-      all = ap targets_of (around symbols at (Literal c) d has is) ∙ targets_behind pre c (drop (at + 1) symbols) first.0 first.1
+      all = ap targets_of (around symbols at (Literal c) d has is) ∙ targets_after pre c (drop (at + 1) symbols) first.0 first.1
           ∙ ap (λ (l : List Character). l ++ first.0) so_far;
     }
 
@@ -250,23 +250,23 @@ fault_within {A} strength front mid back here fault old new adds has = ⊎_elim 
     a = anchor_of old
 
     b : Anchor
-    b = behind_targets P a front
+    b = after_targets P a front
 
     of_relation : HasRelationCause (properties_in new.texts) (state_of new) (Starred strength mid) fault → HasRelationCause P (state_of old) (Starred strength (front ++ (mid ++ back))) fault
     of_relation has =
         let before : List Taken = has.before in
         let lead : List Taken = starred_relations P a strength front in
-        let behind : List Taken = starred_relations P (behind_targets P b mid) strength back in
+        let tail : List Taken = starred_relations P (after_targets P b mid) strength back in
         let mid_are : starred_relations P b strength mid ≡ before ++ has.t ∷ has.after =
         subst (λ (q : Properties). starred_relations q b strength mid ≡ before ++ has.t ∷ has.after) (same_properties adds)
         (subst (λ (c : Anchor). starred_relations (properties_in new.texts) c strength mid ≡ before ++ has.t ∷ has.after) adds.anchor has.are) in
         record {
           before = lead ++ before;
           t = has.t;
-          after = has.after ++ behind;
+          after = has.after ++ tail;
           are = relations_further P a strength front (mid ++ back)
-              ∙ ap (λ (l : List Taken). lead ++ l) (relations_further P b strength mid back ∙ ap (λ (l : List Taken). l ++ behind) mid_are ∙ append_assoc before (has.t ∷ has.after) behind)
-              ∙ sym (append_assoc lead before (has.t ∷ (has.after ++ behind)));
+              ∙ ap (λ (l : List Taken). lead ++ l) (relations_further P b strength mid back ∙ ap (λ (l : List Taken). l ++ tail) mid_are ∙ append_assoc before (has.t ∷ has.after) tail)
+              ∙ sym (append_assoc lead before (has.t ∷ (has.after ++ tail)));
           at = has.at;
           cause = subst (λ (l : List Relation). RelationCause l has.t.relation fault.kind)
               (ap (λ (l : List Relation). l ++ relations_of before) adds.relations ∙ append_assoc old.rules.relations.items (relations_of lead) (relations_of before)
@@ -302,7 +302,7 @@ adds_one strength c text texts old new kept is adds = record {
   anchored = subst IsRuleText (sym adds.anchor) is.rule;
   short = (is.short, tt);
   relations = adds.relations ∙ ap (λ (t : NfdText). old.rules.relations.items ++ relation_of old strength t None ∷ []) is.is;
-  anchor = ap (λ (b : Bool). record { text = new.anchor; before = b }) adds.before ∙ ap behind_target (adds.anchor ∙ is.is);
+  anchor = ap (λ (b : Bool). record { text = new.anchor; before = b }) adds.before ∙ ap after_target (adds.anchor ∙ is.is);
   last = adds.last;
 }
 
@@ -342,7 +342,7 @@ range_parts a (suc n) m =
 -- one more code point
 pub placed_more : (place a point : ℕ) → a ≤ point
     → placed_at place (range_with_len a (point + 1 - a)) ≡ placed_at place (range_with_len a (point - a)) ++ record { code = point; place = place } ∷ []
-placed_more place a point behind =
+placed_more place a point after =
     let f : ℕ → Character = λ code. record { code = code; place = place } in
     let count : point + 1 - a ≡ point - a + 1 = omega arith in
     let is : a + (point - a) ≡ point = omega arith in
@@ -352,7 +352,7 @@ placed_more place a point behind =
 pub placed_around : (place a point end : ℕ) → a ≤ point → point < end
     → placed_at place (range_with_len a (end - a))
     ≡ placed_at place (range_with_len a (point - a)) ++ (record { code = point; place = place } ∷ [] ++ placed_at place (range_with_len (point + 1) (end - (point + 1))))
-placed_around place a point end behind before =
+placed_around place a point end after before =
     let f : ℕ → Character = λ code. record { code = code; place = place } in
     let count : end - a ≡ point + 1 - a + (end - (point + 1)) = omega arith in
     let from : a + (point + 1 - a) ≡ point + 1 = omega arith in
@@ -361,7 +361,7 @@ placed_around place a point end behind before =
     ∙ ap (map f) (range_parts a (point + 1 - a) (end - (point + 1)))
     ∙ map-append f (range_with_len a (point + 1 - a)) (range_with_len (a + (point + 1 - a)) (end - (point + 1)))
     ∙ ap (λ (k : ℕ). placed_at place (range_with_len a (point + 1 - a)) ++ placed_at place (range_with_len k (end - (point + 1)))) from
-    ∙ ap (λ (l : List Character). l ++ back) (placed_more place a point behind)
+    ∙ ap (λ (l : List Character). l ++ back) (placed_more place a point after)
     ∙ append_assoc (placed_at place (range_with_len a (point - a))) (record { code = point; place = place } ∷ []) back
 
 -- none of them is a surrogate

@@ -2,20 +2,20 @@
 use Rattle.std.proofs.Common.{◌≡◌, ℕ, List, [], ◌∷◌, ◌++◌, Bool, true, false, Option, None, Some, refl, sym, ap, ◌∙◌, subst, arith}
 use Rattle.uca_weights.specs.declared.Strength.{Strength}
 use Rattle.uca_rules.specs.declared.characters.Character.{Character}
-use Rattle.uca_rules.specs.Characters.{behind_gaps, slash}
+use Rattle.uca_rules.specs.Characters.{after_gaps, slash}
 use Rattle.uca_rules.specs.Pieces.{Written, BeginsWritten}
 use Rattle.uca_rules.specs.Statements.{SignAt, sign_at, IsNotAt, BeginsBracket, IsAnchorDue, IsTargetDue, IsExpansionDue, targets_of, Statement, Reset, Plain, Starred, BeginsReset, BeginsExpansion, BeginsPlain, BeginsStarred, BeginsStatement, AreStatements}
 use Rattle.uca_rules.proofs.TextLaws.{one_text, one_written}
 use Rattle.uca_rules.proofs.SignLaws.{no_sign_at_ampersand, bracket_begins}
-use Rattle.uca_rules.proofs.Suffixes.{statement_behind, behind_length}
+use Rattle.uca_rules.proofs.Suffixes.{statement_after, after_length}
 
 -- ---- Where texts must come
 
 -- a front that is not this character is none of it
-at_not : (code : ℕ) (cs : List Character) (first : Character) (behind : List Character) → cs ≡ first ∷ behind → first.code ≡ code → ¬ (IsNotAt code cs)
-at_not code [] first behind are is other = absurd cc
-at_not code (c ∷ cs) first behind are is other =
-    let same : ◌≡◌ {A = List Character} (c ∷ cs) (first ∷ behind) = are in
+at_not : (code : ℕ) (cs : List Character) (first : Character) (after : List Character) → cs ≡ first ∷ after → first.code ≡ code → ¬ (IsNotAt code cs)
+at_not code [] first after are is other = absurd cc
+at_not code (c ∷ cs) first after are is other =
+    let same : ◌≡◌ {A = List Character} (c ∷ cs) (first ∷ after) = are in
     let head : c ≡ first = cc in
     other (ap (λ (c : Character). c.code) head ∙ is)
 
@@ -27,9 +27,9 @@ one_bracket cs rest rest' (Some strength) (Some strength') begins begins' = (sym
 
 pub one_anchor : (cs text text' : List Character) (before before' : Option Strength) → IsAnchorDue cs before text → IsAnchorDue cs before' text' → (before ≡ before') × (text ≡ text')
 one_anchor cs text text' before before' due due' =
-    let same : ◌≡◌ {A = List Character} (due'.first ∷ due'.behind) (due.first ∷ due.behind) = sym due'.are ∙ due.are in
-    let behind : due'.behind ≡ due.behind = cc in
-    one_bracket (behind_gaps due.behind) text text' before before' due.perhaps (subst (λ behind. BeginsBracket (behind_gaps behind) before' text') behind due'.perhaps)
+    let same : ◌≡◌ {A = List Character} (due'.first ∷ due'.after) (due.first ∷ due.after) = sym due'.are ∙ due.are in
+    let after : due'.after ≡ due.after = cc in
+    one_bracket (after_gaps due.after) text text' before before' due.perhaps (subst (λ after. BeginsBracket (after_gaps after) before' text') after due'.perhaps)
 
 -- there is at most one sign at the front
 one_sign : (cs : List Character) (sign sign' : SignAt) → sign_at cs ≡ Some sign → sign_at cs ≡ Some sign' → sign ≡ sign'
@@ -38,23 +38,23 @@ one_sign cs sign sign' is is' = cc
 pub one_target : (cs text text' : List Character) (strength strength' : Strength) (starred starred' : Bool) → IsTargetDue cs strength starred text → IsTargetDue cs strength' starred' text'
     → (strength ≡ strength') × (starred ≡ starred') × (text ≡ text')
 one_target cs text text' strength strength' starred starred' due due' =
-    let same = one_sign cs (record { strength = strength; starred = starred; rest = due.behind }) (record { strength = strength'; starred = starred'; rest = due'.behind }) due.sign due'.sign in
-    (ap (λ (sign : SignAt). sign.strength) same, ap (λ (sign : SignAt). sign.starred) same, sym due.gap ∙ ap (λ (sign : SignAt). behind_gaps sign.rest) same ∙ due'.gap)
+    let same = one_sign cs (record { strength = strength; starred = starred; rest = due.after }) (record { strength = strength'; starred = starred'; rest = due'.after }) due.sign due'.sign in
+    (ap (λ (sign : SignAt). sign.strength) same, ap (λ (sign : SignAt). sign.starred) same, sym due.gap ∙ ap (λ (sign : SignAt). after_gaps sign.rest) same ∙ due'.gap)
 
 pub one_expansion : (cs text text' : List Character) → IsExpansionDue cs text → IsExpansionDue cs text' → text ≡ text'
 one_expansion cs text text' due due' =
-    let same : ◌≡◌ {A = List Character} (due'.first ∷ due'.behind) (due.first ∷ due.behind) = sym due'.are ∙ due.are in
-    let behind : due.behind ≡ due'.behind = cc in
-    sym due.gap ∙ ap behind_gaps behind ∙ due'.gap
+    let same : ◌≡◌ {A = List Character} (due'.first ∷ due'.after) (due.first ∷ due.after) = sym due'.are ∙ due.are in
+    let after : due.after ≡ due'.after = cc in
+    sym due.gap ∙ ap after_gaps after ∙ due'.gap
 
 -- where an anchor must come no target may
 pub no_target_at_anchor : (cs text text' : List Character) (before : Option Strength) (strength : Strength) (starred : Bool) → IsAnchorDue cs before text → ¬ (IsTargetDue cs strength starred text')
 no_target_at_anchor cs text text' before strength starred due due' =
-    no_sign_at_ampersand due.first due.behind (record { strength = strength; starred = starred; rest = due'.behind }) due.is (ap sign_at (sym due.are) ∙ due'.sign)
+    no_sign_at_ampersand due.first due.after (record { strength = strength; starred = starred; rest = due'.after }) due.is (ap sign_at (sym due.are) ∙ due'.sign)
 
 -- an expansion comes only after `/`
-pub slash_at : (cs text : List Character) → IsExpansionDue cs text → ¬ (IsNotAt slash (behind_gaps cs))
-slash_at cs text due other = at_not slash (behind_gaps cs) due.first due.behind due.are due.is other
+pub slash_at : (cs text : List Character) → IsExpansionDue cs text → ¬ (IsNotAt slash (after_gaps cs))
+slash_at cs text due other = at_not slash (after_gaps cs) due.first due.after due.are due.is other
 
 -- ---- Statements
 
@@ -122,13 +122,13 @@ abbrev pub GoOn : List Character → List Statement → Type 0
 GoOn cs [] = cs ≡ []
 GoOn cs (s ∷ statements) = (more : List Character) × BeginsStatement cs s more × AreStatements more statements []
 
-pub go_on : (cs rest : List Character) (statements : List Statement) → behind_gaps cs ≡ rest → AreStatements cs statements [] → GoOn rest statements
+pub go_on : (cs rest : List Character) (statements : List Statement) → after_gaps cs ≡ rest → AreStatements cs statements [] → GoOn rest statements
 go_on cs rest [] gap are = sym gap ∙ are
 go_on cs rest (s ∷ statements) gap are = (are.0, subst (λ rest. BeginsStatement rest s are.0) gap are.1, are.2)
 
 -- no statement begins at the end
 pub none_begins : (s : Statement) (rest : List Character) → ¬ (BeginsStatement [] s rest)
-none_begins s rest begins = let less = behind_length [] rest (statement_behind [] s rest begins) in omega arith
+none_begins s rest begins = let less = after_length [] rest (statement_after [] s rest begins) in omega arith
 
 -- statements that lead somewhere are a front of all statements, and the others go on there
 pub record IsFront (statements all : List Statement) (rest : List Character) : Type 0 where
@@ -140,7 +140,7 @@ pub front_of : (statements all : List Statement) (cs rest : List Character) → 
 front_of [] all cs rest lead are = record { back = all; parts = refl; on = go_on cs rest all lead are }
 front_of (s ∷ statements) [] cs rest lead are = absurd (none_begins s lead.0 (subst (λ cs. BeginsStatement cs s lead.0) are lead.1))
 front_of (s ∷ statements) (s' ∷ all) cs rest lead are =
-    let same = one_statement (behind_gaps cs) are.0 lead.0 s' s are.1 lead.1 in
+    let same = one_statement (after_gaps cs) are.0 lead.0 s' s are.1 lead.1 in
     let front = front_of statements all lead.0 rest lead.2 (subst (λ more. AreStatements more all []) same.1 are.2) in
     record { back = front.back; parts = ap (λ s. s ∷ all) same.0 ∙ ap (λ all. s ∷ all) front.parts; on = front.on }
 
@@ -150,6 +150,6 @@ one_division cs [] [] are are' = refl
 one_division cs [] (s ∷ all) are are' = absurd (none_begins s are'.0 (subst (λ cs. BeginsStatement cs s are'.0) are are'.1))
 one_division cs (s ∷ statements) [] are are' = absurd (none_begins s are.0 (subst (λ cs. BeginsStatement cs s are.0) are' are.1))
 one_division cs (s ∷ statements) (s' ∷ all) are are' =
-    let same = one_statement (behind_gaps cs) are'.0 are.0 s' s are'.1 are.1 in
+    let same = one_statement (after_gaps cs) are'.0 are.0 s' s are'.1 are.1 in
     let later = one_division are.0 statements all are.2 (subst (λ more. AreStatements more all []) same.1 are'.2) in
     ap (λ s. s ∷ statements) (sym same.0) ∙ ap (λ all. s' ∷ all) later

@@ -13,17 +13,17 @@ use Rattle.uca_rules.specs.declared.signs.Preceding.TheVariants as lasts
 use Rattle.uca_rules.specs.declared.reader.Reader.{Reader}
 use Rattle.uca_rules.specs.declared.text_reader.TextReader.{TextReader}
 use Rattle.uca_rules.specs.Growing.{AreGrowing}
-use Rattle.uca_rules.specs.Characters.{ampersand, behind_gaps, bracket, place_of}
+use Rattle.uca_rules.specs.Characters.{ampersand, after_gaps, bracket, place_of}
 use Rattle.uca_rules.specs.Pieces.{Symbol, Written, ArePieces, BeginsWritten}
 use Rattle.uca_rules.specs.Statements.{IsNotAt, Statement, Reset, Plain, Starred, Resets, Signs, IsAnchorDue, IsTargetDue, BeginsExpansion, BeginsStatement, IsExpansionDue, bracket_at, sign_at, MayFollow, last_is, opening, targets_of}
-use Rattle.uca_rules.specs.Meaning.{Anchor, IsShort, Taken, relations_in, relations_of, anchor_behind}
+use Rattle.uca_rules.specs.Meaning.{Anchor, IsShort, Taken, relations_in, relations_of, anchor_after}
 use Rattle.uca_rules.specs.Views.{IsMemoryAt, IsTextFault}
 use Rattle.uca_rules.specs.Relations.{IsRuleText}
 use Rattle.uca_rules.specs.Faults.{IsWrongBracket, RelationCause}
 use Rattle.uca_rules.specs.Reading
 use Rattle.uca_rules.specs.Reading.{State, IsTextOf, BeginsNext, HasRelationCause, IsMemoryIn, IsPlainFault, IsStarredFault, IsNextFault, AreTextsOf, Keeps, Adds, AddsOne, AddsPlain, AddsStarred, GoesOn, first_code, relation_of, properties_in, anchor_of, state_of}
-use Rattle.uca_rules.proofs.Suffixes.{anchor_due_behind, target_due_behind, expansion_due_behind, written_behind, expands_end, behind_ends, ends_trans}
-use Rattle.uca_rules.proofs.Progress.{memory_behind, keeps_both}
+use Rattle.uca_rules.proofs.Suffixes.{anchor_due_after, target_due_after, expansion_due_after, written_after, expands_end, after_ends, ends_trans}
+use Rattle.uca_rules.proofs.Progress.{memory_after, keeps_both}
 
 -- an expansion that has been read is a text of rules
 pub rule_expansion : (properties : Properties) (written : Option Written) (expansion : Option NfdText) → AreTextsOf properties written expansion
@@ -38,7 +38,7 @@ rule_expansion properties (Some written) (Some text) are = are.rule
 pub reset_fault : (properties : Properties) (end : ℕ) (state : State) (cs text : List Character) (before : Option Strength) (fault : RuleFault)
     → IsAnchorDue cs before text → MayFollow state.last Resets → IsTextFault end false text fault → IsNextFault properties end state cs fault
 reset_fault properties end state cs text before fault due follows (inl memory) =
-    let ends = behind_ends cs text (anchor_due_behind cs before text due) in
+    let ends = after_ends cs text (anchor_due_after cs before text due) in
     Reading.IsNextFault.In_memory (record { front = ends.0; rest = text; parts = ends.1; at = memory })
 reset_fault properties end state cs text before fault due follows (inr cause) =
     Reading.IsNextFault.In_text (record { opens = Resets; starred = false; text = text; follows = follows; due = (before, due); cause = cause })
@@ -60,12 +60,12 @@ reset_next properties old cs text rest before written anchor due follows begins 
 
 memory_in_target : (end : ℕ) (cs text : List Character) (strength : Strength) (starred : Bool) (fault : RuleFault) → IsTargetDue cs strength starred text → IsMemoryIn end text fault → IsMemoryIn end cs fault
 memory_in_target end cs text strength starred fault due memory =
-    let ends = behind_ends cs text (target_due_behind cs strength starred text due) in
-    memory_behind end cs ends.0 text fault ends.1 memory
+    let ends = after_ends cs text (target_due_after cs strength starred text due) in
+    memory_after end cs ends.0 text fault ends.1 memory
 
 -- a cause does not depend on what the last statement was
-caused_behind : (properties : Properties) (state : State) (last : Preceding) (s : Statement) (fault : RuleFault) → HasRelationCause properties state s fault → HasRelationCause properties (record state { last = last }) s fault
-caused_behind properties state last s fault has = record { before = has.before; t = has.t; after = has.after; are = has.are; at = has.at; cause = has.cause }
+caused_after : (properties : Properties) (state : State) (last : Preceding) (s : Statement) (fault : RuleFault) → HasRelationCause properties state s fault → HasRelationCause properties (record state { last = last }) s fault
+caused_after properties state last s fault has = record { before = has.before; t = has.t; after = has.after; are = has.are; at = has.at; cause = has.cause }
 
 -- the reader has noted already that the last statement is a relation; `last` is the one before it
 pub plain_next_fault : (properties : Properties) (end : ℕ) (state : State) (last : Preceding) (cs text : List Character) (strength : Strength) (fault : RuleFault)
@@ -89,7 +89,7 @@ plain_next_fault properties end state last cs text strength fault due follows (R
       rest = rest;
       begins = record { text = text; due = due; more = more; begins = begins; expands = expands };
       follows = follows;
-      has = caused_behind properties state last (Plain strength target expansion) fault has;
+      has = caused_after properties state last (Plain strength target expansion) fault has;
     })
 
 pub starred_next_fault : (properties : Properties) (end : ℕ) (state : State) (last : Preceding) (cs text : List Character) (strength : Strength) (fault : RuleFault)
@@ -104,7 +104,7 @@ starred_next_fault properties end state last cs text strength fault due follows 
       rest = rest;
       begins = record { text = text; due = due; symbols = symbols; begins = begins; ranges = ranges; are = refl };
       follows = follows;
-      has = caused_behind properties state last (Starred strength (targets_of symbols)) fault has;
+      has = caused_after properties state last (Starred strength (targets_of symbols)) fault has;
     })
 starred_next_fault properties end state last cs text strength fault due follows few (Reading.IsStarredFault.In_limit symbols rest begins ranges over) =
     Reading.IsNextFault.In_target (record {
@@ -136,7 +136,7 @@ goes_on {A} s old new last cs rest begins follows is noted adds = record {
         (let at : List Relation → Anchor → Preceding → State = λ (l : List Relation) (a : Anchor) (t : Preceding). record { relations = l; anchor = a; last = t } in
         ap (λ (l : List Relation). at l (anchor_of new) new.last) adds.relations
         ∙ ap (λ (a : Anchor). at (old.rules.relations.items ++ relations_of (relations_in (properties_in old.texts) (anchor_of old) s)) a new.last) adds.anchor
-        ∙ ap (λ (t : Preceding). at (old.rules.relations.items ++ relations_of (relations_in (properties_in old.texts) (anchor_of old) s)) (anchor_behind (properties_in old.texts) (anchor_of old) s) t) (adds.last ∙ noted ∙ sym is));
+        ∙ ap (λ (t : Preceding). at (old.rules.relations.items ++ relations_of (relations_in (properties_in old.texts) (anchor_of old) s)) (anchor_after (properties_in old.texts) (anchor_of old) s) t) (adds.last ∙ noted ∙ sym is));
   };
 }
 
@@ -156,7 +156,7 @@ starred_goes_on {A} old new last strength cs text rest due follows noted h =
 pub expansion_fault : (properties : Properties) (end : ℕ) (state : State) (strength : Strength) (text more expansion : List Character) (target : Written) (fault : RuleFault)
     → BeginsWritten text target more → IsExpansionDue more expansion → IsTextFault end false expansion fault → IsPlainFault properties end state strength text fault
 expansion_fault properties end state strength text more expansion target fault begins due (inl memory) =
-    let ends = ends_trans text more expansion (behind_ends text more (written_behind text target more begins)) (behind_ends more expansion (expansion_due_behind more expansion due)) in
+    let ends = ends_trans text more expansion (after_ends text more (written_after text target more begins)) (after_ends more expansion (expansion_due_after more expansion due)) in
     Reading.IsPlainFault.In_memory (record { front = ends.0; rest = expansion; parts = ends.1; at = memory })
 expansion_fault properties end state strength text more expansion target fault begins due (inr cause) =
     Reading.IsPlainFault.In_expansion target more expansion begins due cause
@@ -192,7 +192,7 @@ pub relation_fault : (properties : Properties) (end : ℕ) (state : State) (stre
     → IsMemoryAt (place_of end rest) fault ⊎ ((fault.byte ≡ target.place) × RelationCause state.relations (record { anchor = state.anchor.text; before = state.anchor.before; strength = strength; target = t; expansion = e }) fault.kind)
     → IsPlainFault properties end state strength text fault
 relation_fault properties end state strength text more rest target expansion t e fault begins expands is are (inl memory) =
-    let ends = ends_trans text more rest (behind_ends text more (written_behind text target more begins)) (expands_end more expansion rest expands) in
+    let ends = ends_trans text more rest (after_ends text more (written_after text target more begins)) (expands_end more expansion rest expands) in
     Reading.IsPlainFault.In_memory (record { front = ends.0; rest = rest; parts = ends.1; at = memory })
 relation_fault properties end state strength text more rest target expansion t e fault begins expands is are (inr cause) =
     Reading.IsPlainFault.In_relation target more expansion rest begins expands (record {
@@ -244,11 +244,11 @@ written_place end [] text rest begins = absurd (no_text begins.begins.pieces beg
 written_place end (c ∷ cs) text rest begins = sym (ap (λ (w : Written). w.place) begins.is)
 
 -- after the sign that was found a target must come
-pub target_due : (cs : List Character) (strength : Strength) (starred is : Bool) (behind text : List Character) → sign_at cs ≡ Some (record { strength = strength; starred = starred; rest = behind })
-    → starred ≡ is → text ≡ behind_gaps behind → IsTargetDue cs strength is text
-target_due cs strength starred is behind text sign same gap = record {
-  behind = behind;
-  sign = sign ∙ ap (λ (b : Bool). Some (record { strength = strength; starred = b; rest = behind })) same;
+pub target_due : (cs : List Character) (strength : Strength) (starred is : Bool) (after text : List Character) → sign_at cs ≡ Some (record { strength = strength; starred = starred; rest = after })
+    → starred ≡ is → text ≡ after_gaps after → IsTargetDue cs strength is text
+target_due cs strength starred is after text sign same gap = record {
+  after = after;
+  sign = sign ∙ ap (λ (b : Bool). Some (record { strength = strength; starred = b; rest = after })) same;
   gap = sym gap;
 }
 
@@ -265,18 +265,18 @@ reset_goes_on {A} old texts cs text rest asked before written anchor is growing 
 }
 
 -- a bracket comes after `&`, and the anchor must come after it
-pub bracketed : (cs behind text : List Character) (strength : Strength) → first_code cs ≡ ampersand → behind ≡ behind_gaps (drop 1 cs) →
-    bracket_at behind ≡ Some strength → text ≡ behind_gaps (drop 10 behind) → IsAnchorDue cs (Some strength) text
-bracketed [] behind text strength is gap found due = absurd (let e : 0 ≡ ampersand = is in omega (arith, e))
-bracketed (first ∷ cs) behind text strength is gap found due =
+pub bracketed : (cs after text : List Character) (strength : Strength) → first_code cs ≡ ampersand → after ≡ after_gaps (drop 1 cs) →
+    bracket_at after ≡ Some strength → text ≡ after_gaps (drop 10 after) → IsAnchorDue cs (Some strength) text
+bracketed [] after text strength is gap found due = absurd (let e : 0 ≡ ampersand = is in omega (arith, e))
+bracketed (first ∷ cs) after text strength is gap found due =
     record {
       first = first;
-      behind = cs;
+      after = cs;
       are = refl;
       is = is;
       perhaps = (
         subst (λ (l : List Character). bracket_at l ≡ Some strength) gap found,
-        ap (λ (l : List Character). behind_gaps (drop 10 l)) (sym gap) ∙ sym due,
+        ap (λ (l : List Character). after_gaps (drop 10 l)) (sym gap) ∙ sym due,
       );
     }
 
@@ -294,22 +294,22 @@ nothing_at code [] at = tt
 nothing_at code (b ∷ cs) at = absurd (let e : ◌≡◌ {A = Option Character} None (Some b) = at in cc)
 
 -- no bracket comes after `&`, and the anchor must come there
-pub not_bracketed : (cs text : List Character) → first_code cs ≡ ampersand → text ≡ behind_gaps (drop 1 cs) → IsNotAt bracket text → IsAnchorDue cs None text
+pub not_bracketed : (cs text : List Character) → first_code cs ≡ ampersand → text ≡ after_gaps (drop 1 cs) → IsNotAt bracket text → IsAnchorDue cs None text
 not_bracketed [] text is gap other = absurd (let e : 0 ≡ ampersand = is in omega (arith, e))
 not_bracketed (first ∷ cs) text is gap other =
-    record { first = first; behind = cs; are = refl; is = is; perhaps = (subst (IsNotAt bracket) gap other, sym gap) }
+    record { first = first; after = cs; are = refl; is = is; perhaps = (subst (IsNotAt bracket) gap other, sym gap) }
 
 -- a bracket comes after `&` that is none of the three
-pub wrong_bracket : (cs behind : List Character) (c : Character) → first_code cs ≡ ampersand → behind ≡ behind_gaps (drop 1 cs) → Some c ≡ slice_get behind 0 → c.code ≡ bracket → bracket_at behind ≡ None
+pub wrong_bracket : (cs after : List Character) (c : Character) → first_code cs ≡ ampersand → after ≡ after_gaps (drop 1 cs) → Some c ≡ slice_get after 0 → c.code ≡ bracket → bracket_at after ≡ None
     → IsWrongBracket cs c.place
-wrong_bracket [] behind c is gap at square none = absurd (let e : 0 ≡ ampersand = is in omega (arith, e))
+wrong_bracket [] after c is gap at square none = absurd (let e : 0 ≡ ampersand = is in omega (arith, e))
 wrong_bracket (first ∷ cs) [] c is gap at square none = absurd (let e : ◌≡◌ {A = Option Character} (Some c) None = at in cc)
 wrong_bracket (first ∷ cs) (b ∷ more) c is gap at square none =
     let e : ◌≡◌ {A = Option Character} (Some c) (Some b) = at in
     let same : c ≡ b = cc in
     record {
       first = first;
-      behind = cs;
+      after = cs;
       are = refl;
       is = is;
       opens = b;

@@ -10,9 +10,9 @@ use Rattle.std.proofs.lemmas.Str.{encodes-chars, length-encode}
 use Rattle.uca_weights.specs.declared.Strength.{Strength}
 use Rattle.uca_weights.specs.declared.Strength.TheVariants.{Identical}
 use Rattle.uca_rules.specs.declared.characters.Character.{Character}
-use Rattle.uca_rules.specs.Characters.{placed_from, characters, place_of, is_white, ends_comment, behind_gaps_in, behind_gaps, number_sign, apostrophe, backslash, hyphen, asterisk, less_than, equals_sign}
-use Rattle.uca_rules.specs.Pieces.{Symbol, Literal, Hyphen, Piece, is_plain, with_literal, inside_quotes, behind_apostrophe, number_at, numbered, behind_backslash, piece_at, ArePieces, BeginsText, Written, BeginsWritten}
-use Rattle.uca_rules.specs.Statements.{SignAt, perhaps_starred, count_less, behind_less, strength_of, sign_at, BeginsBracket, IsAnchorDue, IsTargetDue, IsExpansionDue, Statement, Reset, Plain, Starred, BeginsExpansion, BeginsStatement, AreStatements}
+use Rattle.uca_rules.specs.Characters.{placed_from, characters, place_of, is_white, ends_comment, after_gaps_in, after_gaps, number_sign, apostrophe, backslash, hyphen, asterisk, less_than, equals_sign}
+use Rattle.uca_rules.specs.Pieces.{Symbol, Literal, Hyphen, Piece, is_plain, with_literal, inside_quotes, after_apostrophe, number_at, numbered, after_backslash, piece_at, ArePieces, BeginsText, Written, BeginsWritten}
+use Rattle.uca_rules.specs.Statements.{SignAt, perhaps_starred, count_less, after_less, strength_of, sign_at, BeginsBracket, IsAnchorDue, IsTargetDue, IsExpansionDue, Statement, Reset, Plain, Starred, BeginsExpansion, BeginsStatement, AreStatements}
 
 -- ---- Ends of characters
 
@@ -21,8 +21,8 @@ abbrev pub EndsWith : List Character → List Character → Type 0
 EndsWith cs rest = (front : List Character) × (cs ≡ front ++ rest)
 
 -- and one or more come before it
-abbrev pub HasBehind : List Character → List Character → Type 0
-HasBehind cs rest = (c : Character) × (front : List Character) × (cs ≡ c ∷ (front ++ rest))
+abbrev pub HasAfter : List Character → List Character → Type 0
+HasAfter cs rest = (c : Character) × (front : List Character) × (cs ≡ c ∷ (front ++ rest))
 
 pub all_ends : (cs : List Character) → EndsWith cs cs
 all_ends cs = ([], refl)
@@ -36,43 +36,43 @@ ends_trans cs more rest one other = (one.0 ++ other.0, one.1 ∙ ap (λ more. on
 pub next_ends : (c : Character) (cs rest : List Character) → EndsWith cs rest → EndsWith (c ∷ cs) rest
 next_ends c cs rest ends = (c ∷ ends.0, ap (λ cs. c ∷ cs) ends.1)
 
-pub next_behind : (c : Character) (cs rest : List Character) → EndsWith cs rest → HasBehind (c ∷ cs) rest
-next_behind c cs rest ends = (c, ends.0, ap (λ cs. c ∷ cs) ends.1)
+pub next_after : (c : Character) (cs rest : List Character) → EndsWith cs rest → HasAfter (c ∷ cs) rest
+next_after c cs rest ends = (c, ends.0, ap (λ cs. c ∷ cs) ends.1)
 
-pub behind_ends : (cs rest : List Character) → HasBehind cs rest → EndsWith cs rest
-behind_ends cs rest behind = (behind.0 ∷ behind.1, behind.2)
+pub after_ends : (cs rest : List Character) → HasAfter cs rest → EndsWith cs rest
+after_ends cs rest after = (after.0 ∷ after.1, after.2)
 
-pub behind_then : (cs more rest : List Character) → HasBehind cs more → EndsWith more rest → HasBehind cs rest
-behind_then cs more rest one other =
+pub after_then : (cs more rest : List Character) → HasAfter cs more → EndsWith more rest → HasAfter cs rest
+after_then cs more rest one other =
     (one.0, one.1 ++ other.0, one.2 ∙ ap (λ more. one.0 ∷ (one.1 ++ more)) other.1 ∙ ap (λ cs. one.0 ∷ cs) (sym (append_assoc one.1 other.0 rest)))
 
-pub then_behind : (cs more rest : List Character) → EndsWith cs more → HasBehind more rest → HasBehind cs rest
-then_behind cs more rest ([], same) other = (other.0, other.1, same ∙ other.2)
-then_behind cs more rest (c ∷ front, same) other =
+pub then_after : (cs more rest : List Character) → EndsWith cs more → HasAfter more rest → HasAfter cs rest
+then_after cs more rest ([], same) other = (other.0, other.1, same ∙ other.2)
+then_after cs more rest (c ∷ front, same) other =
     (c, front ++ (other.0 ∷ other.1), same ∙ ap (λ more. c ∷ (front ++ more)) other.2 ∙ ap (λ cs. c ∷ cs) (sym (append_assoc front (other.0 ∷ other.1) rest)))
 
 -- an end is no longer than the whole, and shorter if something comes before it
 pub ends_length : (cs rest : List Character) → EndsWith cs rest → length rest ≤ length cs
 ends_length cs rest ends = let all = ap length ends.1 ∙ length-append ends.0 rest in omega arith
 
-pub behind_length : (cs rest : List Character) → HasBehind cs rest → length rest < length cs
-behind_length cs rest behind = let all = ap length behind.2 in let more = length-append behind.1 rest in omega arith
+pub after_length : (cs rest : List Character) → HasAfter cs rest → length rest < length cs
+after_length cs rest after = let all = ap length after.2 in let more = length-append after.1 rest in omega arith
 
 -- ---- White space and comments
 
 -- what follows them, where the front is one or inside a comment
-gap_at : (c : Character) (cs : List Character) (white comments : Bool) → EndsWith cs (behind_gaps_in false cs) → EndsWith cs (behind_gaps_in true cs)
-    → EndsWith (c ∷ cs) (if white then behind_gaps_in false cs else if comments then behind_gaps_in true cs else c ∷ cs)
-gap_at c cs true comments outside within = next_ends c cs (behind_gaps_in false cs) outside
-gap_at c cs false true outside within = next_ends c cs (behind_gaps_in true cs) within
+gap_at : (c : Character) (cs : List Character) (white comments : Bool) → EndsWith cs (after_gaps_in false cs) → EndsWith cs (after_gaps_in true cs)
+    → EndsWith (c ∷ cs) (if white then after_gaps_in false cs else if comments then after_gaps_in true cs else c ∷ cs)
+gap_at c cs true comments outside within = next_ends c cs (after_gaps_in false cs) outside
+gap_at c cs false true outside within = next_ends c cs (after_gaps_in true cs) within
 gap_at c cs false false outside within = all_ends (c ∷ cs)
 
-pub gaps_in_end : (inside : Bool) (cs : List Character) → EndsWith cs (behind_gaps_in inside cs)
+pub gaps_in_end : (inside : Bool) (cs : List Character) → EndsWith cs (after_gaps_in inside cs)
 gaps_in_end inside [] = all_ends []
-gaps_in_end true (c ∷ cs) = next_ends c cs (behind_gaps_in (not (ends_comment c.code)) cs) (gaps_in_end (not (ends_comment c.code)) cs)
+gaps_in_end true (c ∷ cs) = next_ends c cs (after_gaps_in (not (ends_comment c.code)) cs) (gaps_in_end (not (ends_comment c.code)) cs)
 gaps_in_end false (c ∷ cs) = gap_at c cs (is_white c.code) (c.code == number_sign) (gaps_in_end false cs) (gaps_in_end true cs)
 
-pub gaps_end : (cs : List Character) → EndsWith cs (behind_gaps cs)
+pub gaps_end : (cs : List Character) → EndsWith cs (after_gaps cs)
 gaps_end cs = gaps_in_end false cs
 
 -- ---- Signs and brackets
@@ -86,35 +86,35 @@ star_end : (strength : Strength) (cs : List Character) → EndsWith cs (SignAt.r
 star_end strength [] = all_ends []
 star_end strength (c ∷ cs) = star_at strength c cs (c.code == asterisk)
 
-less_at : (c : Character) (cs : List Character) (less : Bool) → EndsWith cs (behind_less cs) → EndsWith (c ∷ cs) (if less then behind_less cs else c ∷ cs)
-less_at c cs true ends = next_ends c cs (behind_less cs) ends
+less_at : (c : Character) (cs : List Character) (less : Bool) → EndsWith cs (after_less cs) → EndsWith (c ∷ cs) (if less then after_less cs else c ∷ cs)
+less_at c cs true ends = next_ends c cs (after_less cs) ends
 less_at c cs false ends = all_ends (c ∷ cs)
 
-less_end : (cs : List Character) → EndsWith cs (behind_less cs)
+less_end : (cs : List Character) → EndsWith cs (after_less cs)
 less_end [] = all_ends []
 less_end (c ∷ cs) = less_at c cs (c.code == less_than) (less_end cs)
 
-some_strength : (cs more : List Character) (strength : Option Strength) → HasBehind cs more
-    → IfSome (option_map (λ strength. perhaps_starred strength more) strength) (λ sign. HasBehind cs sign.rest)
-some_strength cs more None behind = tt
-some_strength cs more (Some strength) behind = behind_then cs more (SignAt.rest (perhaps_starred strength more)) behind (star_end strength more)
+some_strength : (cs more : List Character) (strength : Option Strength) → HasAfter cs more
+    → IfSome (option_map (λ strength. perhaps_starred strength more) strength) (λ sign. HasAfter cs sign.rest)
+some_strength cs more None after = tt
+some_strength cs more (Some strength) after = after_then cs more (SignAt.rest (perhaps_starred strength more)) after (star_end strength more)
 
 sign_less : (c : Character) (cs : List Character) (less : Bool)
-    → IfSome (option_map (λ strength. perhaps_starred strength (if less then behind_less cs else c ∷ cs)) (strength_of (if less then suc (count_less cs) else 0))) (λ sign. HasBehind (c ∷ cs) sign.rest)
-sign_less c cs true = some_strength (c ∷ cs) (behind_less cs) (strength_of (suc (count_less cs))) (next_behind c cs (behind_less cs) (less_end cs))
+    → IfSome (option_map (λ strength. perhaps_starred strength (if less then after_less cs else c ∷ cs)) (strength_of (if less then suc (count_less cs) else 0))) (λ sign. HasAfter (c ∷ cs) sign.rest)
+sign_less c cs true = some_strength (c ∷ cs) (after_less cs) (strength_of (suc (count_less cs))) (next_after c cs (after_less cs) (less_end cs))
 sign_less c cs false = tt
 
 sign_equals : (c : Character) (cs : List Character) (equals : Bool)
-    → IfSome (if equals then Some (perhaps_starred Identical cs) else option_map (λ strength. perhaps_starred strength (behind_less (c ∷ cs))) (strength_of (count_less (c ∷ cs)))) (λ sign. HasBehind (c ∷ cs) sign.rest)
-sign_equals c cs true = next_behind c cs (SignAt.rest (perhaps_starred Identical cs)) (star_end Identical cs)
+    → IfSome (if equals then Some (perhaps_starred Identical cs) else option_map (λ strength. perhaps_starred strength (after_less (c ∷ cs))) (strength_of (count_less (c ∷ cs)))) (λ sign. HasAfter (c ∷ cs) sign.rest)
+sign_equals c cs true = next_after c cs (SignAt.rest (perhaps_starred Identical cs)) (star_end Identical cs)
 sign_equals c cs false = sign_less c cs (c.code == less_than)
 
-signs_behind : (cs : List Character) → IfSome (sign_at cs) (λ sign. HasBehind cs sign.rest)
-signs_behind [] = tt
-signs_behind (c ∷ cs) = sign_equals c cs (c.code == equals_sign)
+signs_after : (cs : List Character) → IfSome (sign_at cs) (λ sign. HasAfter cs sign.rest)
+signs_after [] = tt
+signs_after (c ∷ cs) = sign_equals c cs (c.code == equals_sign)
 
-pub sign_behind : (cs : List Character) (sign : SignAt) → sign_at cs ≡ Some sign → HasBehind cs sign.rest
-sign_behind cs sign is = subst (λ sign. IfSome sign (λ sign. HasBehind cs sign.rest)) is (signs_behind cs)
+pub sign_after : (cs : List Character) (sign : SignAt) → sign_at cs ≡ Some sign → HasAfter cs sign.rest
+sign_after cs sign is = subst (λ sign. IfSome sign (λ sign. HasAfter cs sign.rest)) is (signs_after cs)
 
 pub drop_ends : (n : ℕ) (cs : List Character) → EndsWith cs (drop n cs)
 drop_ends n cs = (take n cs, sym (take-append-drop n cs))
@@ -156,7 +156,7 @@ double_at : (c d : Character) (cs : List Character) (double : Bool)
 double_at c d cs true = next_ends d cs cs (all_ends cs)
 double_at c d cs false = quotes_end (d ∷ cs)
 
-apostrophe_ends : (c : Character) (cs : List Character) → IfSome (behind_apostrophe c cs) (λ piece. EndsWith cs piece.rest)
+apostrophe_ends : (c : Character) (cs : List Character) → IfSome (after_apostrophe c cs) (λ piece. EndsWith cs piece.rest)
 apostrophe_ends c [] = tt
 apostrophe_ends c (d ∷ cs) = double_at c d cs (d.code == apostrophe)
 
@@ -174,84 +174,84 @@ escape_at c d cs true eight = longer_ends d cs (numbered c 4 cs) (numbered_ends 
 escape_at c d cs false true = longer_ends d cs (numbered c 8 cs) (numbered_ends c 8 cs)
 escape_at c d cs false false = next_ends d cs cs (all_ends cs)
 
-backslash_ends : (c : Character) (cs : List Character) → IfSome (behind_backslash c cs) (λ piece. EndsWith cs piece.rest)
+backslash_ends : (c : Character) (cs : List Character) → IfSome (after_backslash c cs) (λ piece. EndsWith cs piece.rest)
 backslash_ends c [] = tt
 backslash_ends c (d ∷ cs) = escape_at c d cs (d.code == byte "u") (d.code == byte "U")
 
-further : (c : Character) (cs : List Character) (piece : Option Piece) → IfSome piece (λ piece. EndsWith cs piece.rest) → IfSome piece (λ piece. HasBehind (c ∷ cs) piece.rest)
+further : (c : Character) (cs : List Character) (piece : Option Piece) → IfSome piece (λ piece. EndsWith cs piece.rest) → IfSome piece (λ piece. HasAfter (c ∷ cs) piece.rest)
 further c cs None ends = tt
-further c cs (Some piece) ends = next_behind c cs piece.rest ends
+further c cs (Some piece) ends = next_after c cs piece.rest ends
 
 kind_at : (c : Character) (cs : List Character) (quote escape plain range : Bool)
-    → IfSome (if quote then behind_apostrophe c cs else if escape then behind_backslash c cs else if plain then Some (record { symbols = Literal c ∷ []; rest = cs }) else if range then Some (record { symbols = Hyphen c.place ∷ []; rest = cs }) else None) (λ piece. HasBehind (c ∷ cs) piece.rest)
-kind_at c cs true escape plain range = further c cs (behind_apostrophe c cs) (apostrophe_ends c cs)
-kind_at c cs false true plain range = further c cs (behind_backslash c cs) (backslash_ends c cs)
-kind_at c cs false false true range = next_behind c cs cs (all_ends cs)
-kind_at c cs false false false true = next_behind c cs cs (all_ends cs)
+    → IfSome (if quote then after_apostrophe c cs else if escape then after_backslash c cs else if plain then Some (record { symbols = Literal c ∷ []; rest = cs }) else if range then Some (record { symbols = Hyphen c.place ∷ []; rest = cs }) else None) (λ piece. HasAfter (c ∷ cs) piece.rest)
+kind_at c cs true escape plain range = further c cs (after_apostrophe c cs) (apostrophe_ends c cs)
+kind_at c cs false true plain range = further c cs (after_backslash c cs) (backslash_ends c cs)
+kind_at c cs false false true range = next_after c cs cs (all_ends cs)
+kind_at c cs false false false true = next_after c cs cs (all_ends cs)
 kind_at c cs false false false false = tt
 
-pieces_behind : (starred : Bool) (cs : List Character) → IfSome (piece_at starred cs) (λ piece. HasBehind cs piece.rest)
-pieces_behind starred [] = tt
-pieces_behind starred (c ∷ cs) = kind_at c cs (c.code == apostrophe) (c.code == backslash) (is_plain c.code) (starred && c.code == hyphen)
+pieces_after : (starred : Bool) (cs : List Character) → IfSome (piece_at starred cs) (λ piece. HasAfter cs piece.rest)
+pieces_after starred [] = tt
+pieces_after starred (c ∷ cs) = kind_at c cs (c.code == apostrophe) (c.code == backslash) (is_plain c.code) (starred && c.code == hyphen)
 
-pub piece_behind : (starred : Bool) (cs : List Character) (piece : Piece) → piece_at starred cs ≡ Some piece → HasBehind cs piece.rest
-piece_behind starred cs piece is = subst (λ piece. IfSome piece (λ piece. HasBehind cs piece.rest)) is (pieces_behind starred cs)
+pub piece_after : (starred : Bool) (cs : List Character) (piece : Piece) → piece_at starred cs ≡ Some piece → HasAfter cs piece.rest
+piece_after starred cs piece is = subst (λ piece. IfSome piece (λ piece. HasAfter cs piece.rest)) is (pieces_after starred cs)
 
 -- ---- Texts
 
 pub pieces_end : (starred : Bool) (cs : List Character) (pieces : List (List Symbol)) (rest : List Character) → ArePieces starred cs pieces rest → EndsWith cs rest
 pieces_end starred cs [] rest are = same_ends cs rest are
 pieces_end starred cs (symbols ∷ pieces) rest are =
-    ends_trans cs are.0 rest (behind_ends cs are.0 (piece_behind starred cs (record { symbols = symbols; rest = are.0 }) are.1)) (pieces_end starred are.0 pieces rest are.2)
+    ends_trans cs are.0 rest (after_ends cs are.0 (piece_after starred cs (record { symbols = symbols; rest = are.0 }) are.1)) (pieces_end starred are.0 pieces rest are.2)
 
-some_pieces : (starred : Bool) (cs : List Character) (pieces : List (List Symbol)) (rest : List Character) → pieces ≢ [] → ArePieces starred cs pieces rest → HasBehind cs rest
+some_pieces : (starred : Bool) (cs : List Character) (pieces : List (List Symbol)) (rest : List Character) → pieces ≢ [] → ArePieces starred cs pieces rest → HasAfter cs rest
 some_pieces starred cs [] rest some are = absurd (some refl)
 some_pieces starred cs (symbols ∷ pieces) rest some are =
-    behind_then cs are.0 rest (piece_behind starred cs (record { symbols = symbols; rest = are.0 }) are.1) (pieces_end starred are.0 pieces rest are.2)
+    after_then cs are.0 rest (piece_after starred cs (record { symbols = symbols; rest = are.0 }) are.1) (pieces_end starred are.0 pieces rest are.2)
 
-pub text_behind : (starred : Bool) (cs : List Character) (symbols : List Symbol) (rest : List Character) → BeginsText starred cs symbols rest → HasBehind cs rest
-text_behind starred cs symbols rest begins = some_pieces starred cs begins.pieces rest begins.some begins.are
+pub text_after : (starred : Bool) (cs : List Character) (symbols : List Symbol) (rest : List Character) → BeginsText starred cs symbols rest → HasAfter cs rest
+text_after starred cs symbols rest begins = some_pieces starred cs begins.pieces rest begins.some begins.are
 
-pub written_behind : (cs : List Character) (text : Written) (rest : List Character) → BeginsWritten cs text rest → HasBehind cs rest
-written_behind cs text rest begins = text_behind false cs begins.symbols rest begins.begins
+pub written_after : (cs : List Character) (text : Written) (rest : List Character) → BeginsWritten cs text rest → HasAfter cs rest
+written_after cs text rest begins = text_after false cs begins.symbols rest begins.begins
 
 -- ---- Statements
 
-pub anchor_due_behind : (cs : List Character) (before : Option Strength) (text : List Character) → IsAnchorDue cs before text → HasBehind cs text
-anchor_due_behind cs before text due =
-    subst (λ cs. HasBehind cs text) (sym due.are)
-    (next_behind due.first due.behind text (ends_trans due.behind (behind_gaps due.behind) text (gaps_end due.behind) (bracket_ends (behind_gaps due.behind) before text due.perhaps)))
+pub anchor_due_after : (cs : List Character) (before : Option Strength) (text : List Character) → IsAnchorDue cs before text → HasAfter cs text
+anchor_due_after cs before text due =
+    subst (λ cs. HasAfter cs text) (sym due.are)
+    (next_after due.first due.after text (ends_trans due.after (after_gaps due.after) text (gaps_end due.after) (bracket_ends (after_gaps due.after) before text due.perhaps)))
 
-gap_then : (cs rest : List Character) → behind_gaps cs ≡ rest → EndsWith cs rest
+gap_then : (cs rest : List Character) → after_gaps cs ≡ rest → EndsWith cs rest
 gap_then cs rest gap = subst (λ rest. EndsWith cs rest) gap (gaps_end cs)
 
-pub target_due_behind : (cs : List Character) (strength : Strength) (starred : Bool) (text : List Character) → IsTargetDue cs strength starred text → HasBehind cs text
-target_due_behind cs strength starred text due =
-    behind_then cs due.behind text (sign_behind cs (record { strength = strength; starred = starred; rest = due.behind }) due.sign) (gap_then due.behind text due.gap)
+pub target_due_after : (cs : List Character) (strength : Strength) (starred : Bool) (text : List Character) → IsTargetDue cs strength starred text → HasAfter cs text
+target_due_after cs strength starred text due =
+    after_then cs due.after text (sign_after cs (record { strength = strength; starred = starred; rest = due.after }) due.sign) (gap_then due.after text due.gap)
 
-pub expansion_due_behind : (cs text : List Character) → IsExpansionDue cs text → HasBehind cs text
-expansion_due_behind cs text due =
-    then_behind cs (behind_gaps cs) text (gaps_end cs) (subst (λ cs. HasBehind cs text) (sym due.are) (next_behind due.first due.behind text (gap_then due.behind text due.gap)))
+pub expansion_due_after : (cs text : List Character) → IsExpansionDue cs text → HasAfter cs text
+expansion_due_after cs text due =
+    then_after cs (after_gaps cs) text (gaps_end cs) (subst (λ cs. HasAfter cs text) (sym due.are) (next_after due.first due.after text (gap_then due.after text due.gap)))
 
 pub expands_end : (cs : List Character) (expansion : Option Written) (rest : List Character) → BeginsExpansion cs expansion rest → EndsWith cs rest
 expands_end cs None rest begins = same_ends cs rest begins.1
 expands_end cs (Some expansion) rest begins =
-    behind_ends cs rest (behind_then cs begins.0 rest (expansion_due_behind cs begins.0 begins.1) (behind_ends begins.0 rest (written_behind begins.0 expansion rest begins.2)))
+    after_ends cs rest (after_then cs begins.0 rest (expansion_due_after cs begins.0 begins.1) (after_ends begins.0 rest (written_after begins.0 expansion rest begins.2)))
 
-pub statement_behind : (cs : List Character) (s : Statement) (rest : List Character) → BeginsStatement cs s rest → HasBehind cs rest
-statement_behind cs (Reset before anchor) rest begins =
-    behind_then cs begins.text rest (anchor_due_behind cs before begins.text begins.due) (behind_ends begins.text rest (written_behind begins.text anchor rest begins.begins))
-statement_behind cs (Plain strength target expansion) rest begins =
-    behind_then cs begins.text rest (target_due_behind cs strength false begins.text begins.due)
-    (ends_trans begins.text begins.more rest (behind_ends begins.text begins.more (written_behind begins.text target begins.more begins.begins)) (expands_end begins.more expansion rest begins.expands))
-statement_behind cs (Starred strength targets) rest begins =
-    behind_then cs begins.text rest (target_due_behind cs strength true begins.text begins.due) (behind_ends begins.text rest (text_behind true begins.text begins.symbols rest begins.begins))
+pub statement_after : (cs : List Character) (s : Statement) (rest : List Character) → BeginsStatement cs s rest → HasAfter cs rest
+statement_after cs (Reset before anchor) rest begins =
+    after_then cs begins.text rest (anchor_due_after cs before begins.text begins.due) (after_ends begins.text rest (written_after begins.text anchor rest begins.begins))
+statement_after cs (Plain strength target expansion) rest begins =
+    after_then cs begins.text rest (target_due_after cs strength false begins.text begins.due)
+    (ends_trans begins.text begins.more rest (after_ends begins.text begins.more (written_after begins.text target begins.more begins.begins)) (expands_end begins.more expansion rest begins.expands))
+statement_after cs (Starred strength targets) rest begins =
+    after_then cs begins.text rest (target_due_after cs strength true begins.text begins.due) (after_ends begins.text rest (text_after true begins.text begins.symbols rest begins.begins))
 
 pub statements_end : (cs : List Character) (statements : List Statement) (rest : List Character) → AreStatements cs statements rest → EndsWith cs rest
 statements_end cs [] rest are = gap_then cs rest are
 statements_end cs (s ∷ statements) rest are =
     ends_trans cs are.0 rest
-    (ends_trans cs (behind_gaps cs) are.0 (gaps_end cs) (behind_ends (behind_gaps cs) are.0 (statement_behind (behind_gaps cs) s are.0 are.1)))
+    (ends_trans cs (after_gaps cs) are.0 (gaps_end cs) (after_ends (after_gaps cs) are.0 (statement_after (after_gaps cs) s are.0 are.1)))
     (statements_end are.0 statements rest are.2)
 
 -- ---- Positions

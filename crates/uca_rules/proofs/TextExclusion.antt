@@ -12,13 +12,13 @@ use Rattle.uca_rules.specs.declared.characters.Character.{Character}
 use Rattle.uca_rules.specs.declared.faults.RuleFaultKind.{RuleFaultKind}
 use Rattle.uca_rules.specs.declared.faults.RuleFaultKind.TheVariants as kinds
 use Rattle.uca_rules.specs.Characters.{ampersand, apostrophe, backslash, equals_sign, less_than, slash}
-use Rattle.uca_rules.specs.Pieces.{Symbol, Literal, Hyphen, Piece, with_literal, inside_quotes, behind_apostrophe, piece_at, begins_piece, ArePieces, EndsText, symbols_of, BeginsText, points_of, Written, BeginsWritten}
-use Rattle.uca_rules.specs.Statements.{IsTargetDue, IsExpansionDue, IsNoRange, No_start, Hyphen_before, Range_before, Hyphen_behind, Wrong_ends, HasRanges, Statement, Reset, Plain, Starred, BeginsPlain, BeginsExpansion, BeginsStatement, Opening, Resets, Signs}
+use Rattle.uca_rules.specs.Pieces.{Symbol, Literal, Hyphen, Piece, with_literal, inside_quotes, after_apostrophe, piece_at, begins_piece, ArePieces, EndsText, symbols_of, BeginsText, points_of, Written, BeginsWritten}
+use Rattle.uca_rules.specs.Statements.{IsTargetDue, IsExpansionDue, IsNoRange, No_start, Hyphen_before, Range_before, Hyphen_after, Wrong_ends, HasRanges, Statement, Reset, Plain, Starred, BeginsPlain, BeginsExpansion, BeginsStatement, Opening, Resets, Signs}
 use Rattle.uca_rules.specs.Meaning.{IsShort, HasShortTexts}
-use Rattle.uca_rules.specs.Faults.{is_part, IsEmptyText, IsNoText, IsBroken, IsLong, opened, IsWrongHyphen, TextCause, IsSlashBehind, IsTextDue}
-use Rattle.uca_rules.proofs.TextLaws.{StandBehind, pieces_prefix, no_pieces, one_text, one_written}
+use Rattle.uca_rules.specs.Faults.{is_part, IsEmptyText, IsNoText, IsBroken, IsLong, opened, IsWrongHyphen, TextCause, IsSlashAfter, IsTextDue}
+use Rattle.uca_rules.proofs.TextLaws.{StandAfter, pieces_prefix, no_pieces, one_text, one_written}
 use Rattle.uca_rules.proofs.StatementLaws.{one_anchor, one_target, one_expansion, no_target_at_anchor, slash_at, GoOn}
-use Rattle.uca_rules.proofs.Suffixes.{HasBehind, behind_length, anchor_due_behind, target_due_behind}
+use Rattle.uca_rules.proofs.Suffixes.{HasAfter, after_length, anchor_due_after, target_due_after}
 
 -- ---- Where a text must come there is one
 
@@ -45,11 +45,11 @@ expansion_stands cs rest text (Some expansion) begins short due =
     subst (TextStands false) (one_expansion cs begins.0 text begins.1 due) (written_stands begins.0 rest expansion begins.2 short)
 
 slashed_stands : (cs rest text : List Character) (strength strength' : Strength) (target : Written) (expansion : Option Written)
-    → BeginsPlain cs strength target expansion rest → IfSome expansion (λ text. IsShort text.points) → IsSlashBehind cs strength' text → TextStands false text
-slashed_stands cs rest text strength strength' target expansion begins short behind =
-    let due = one_target cs behind.first begins.text strength' strength false false behind.due begins.due in
-    let more = one_written begins.text behind.more begins.more behind.target target (subst (λ text. BeginsWritten text behind.target behind.more) due.2 behind.begins) begins.begins in
-    expansion_stands begins.more rest text expansion begins.expands short (subst (λ more. IsExpansionDue more text) more.1 behind.slashed)
+    → BeginsPlain cs strength target expansion rest → IfSome expansion (λ text. IsShort text.points) → IsSlashAfter cs strength' text → TextStands false text
+slashed_stands cs rest text strength strength' target expansion begins short after =
+    let due = one_target cs after.first begins.text strength' strength false false after.due begins.due in
+    let more = one_written begins.text after.more begins.more after.target target (subst (λ text. BeginsWritten text after.target after.more) due.2 after.begins) begins.begins in
+    expansion_stands begins.more rest text expansion begins.expands short (subst (λ more. IsExpansionDue more text) more.1 after.slashed)
 
 -- a sign has a star or none
 one_star : (cs text text' : List Character) (strength strength' : Strength) → IsTargetDue cs strength false text → ¬ (IsTargetDue cs strength' true text')
@@ -69,23 +69,23 @@ statement_text_stands cs rest text (Plain strength' target expansion) (Signs str
 statement_text_stands cs rest text (Starred strength' targets) (Signs strength) true begins short due =
     subst (TextStands true) (one_target cs begins.text text strength' strength true true begins.due due).2 (record { symbols = begins.symbols; rest = rest; begins = begins.begins; fit = begins.ranges })
 statement_text_stands cs rest text (Reset before anchor) (Signs strength) false begins short (inl due) = absurd (no_target_at_anchor cs begins.text text before strength false begins.due due)
-statement_text_stands cs rest text (Reset before anchor) (Signs strength) false begins short (inr behind) = absurd (no_target_at_anchor cs begins.text behind.first before strength false begins.due behind.due)
+statement_text_stands cs rest text (Reset before anchor) (Signs strength) false begins short (inr after) = absurd (no_target_at_anchor cs begins.text after.first before strength false begins.due after.due)
 statement_text_stands cs rest text (Plain strength' target expansion) (Signs strength) false begins short (inl due) =
     subst (TextStands false) (one_target cs begins.text text strength' strength false false begins.due due).2 (written_stands begins.text begins.more target begins.begins short.0)
-statement_text_stands cs rest text (Plain strength' target expansion) (Signs strength) false begins short (inr behind) = slashed_stands cs rest text strength' strength target expansion begins short.1 behind
+statement_text_stands cs rest text (Plain strength' target expansion) (Signs strength) false begins short (inr after) = slashed_stands cs rest text strength' strength target expansion begins short.1 after
 statement_text_stands cs rest text (Starred strength' targets) (Signs strength) false begins short (inl due) = absurd (one_star cs text begins.text strength strength' due begins.due)
-statement_text_stands cs rest text (Starred strength' targets) (Signs strength) false begins short (inr behind) = absurd (one_star cs behind.first begins.text strength strength' behind.due begins.due)
+statement_text_stands cs rest text (Starred strength' targets) (Signs strength) false begins short (inr after) = absurd (one_star cs after.first begins.text strength strength' after.due begins.due)
 
 -- at the end there is no text
-nothing_behind : (text : List Character) → ¬ (HasBehind [] text)
-nothing_behind text behind = let less = behind_length [] text behind in omega arith
+nothing_after : (text : List Character) → ¬ (HasAfter [] text)
+nothing_after text after = let less = after_length [] text after in omega arith
 
 no_text_due : (text : List Character) (opens : Opening) (starred : Bool) → ¬ (IsTextDue [] opens starred text)
 no_text_due text Resets true due = due
-no_text_due text Resets false due = nothing_behind text (anchor_due_behind [] due.0 text due.1)
-no_text_due text (Signs strength) true due = nothing_behind text (target_due_behind [] strength true text due)
-no_text_due text (Signs strength) false (inl due) = nothing_behind text (target_due_behind [] strength false text due)
-no_text_due text (Signs strength) false (inr behind) = nothing_behind behind.first (target_due_behind [] strength false behind.first behind.due)
+no_text_due text Resets false due = nothing_after text (anchor_due_after [] due.0 text due.1)
+no_text_due text (Signs strength) true due = nothing_after text (target_due_after [] strength true text due)
+no_text_due text (Signs strength) false (inl due) = nothing_after text (target_due_after [] strength false text due)
+no_text_due text (Signs strength) false (inr after) = nothing_after after.first (target_due_after [] strength false after.first after.due)
 
 -- where a text must come in the statement that is there, there is a text
 pub text_stands : (cs text : List Character) (statements : List Statement) (opens : Opening) (starred : Bool) → GoOn cs statements → AllByRecursion HasShortTexts statements → IsTextDue cs opens starred text → TextStands starred text
@@ -141,21 +141,21 @@ no_text_ends starred [] none = absurd none
 no_text_ends starred (c ∷ text) none = none.1
 
 -- a piece that begins after others of the text is one
-broken_behind : (starred : Bool) (code : ℕ) (first : Character) (behind rest : List Character) (pieces : List (List Symbol))
-    → IsTrue (begins_piece starred code) → first.code ≡ code → EndsText starred rest → piece_at starred (first ∷ behind) ≡ None → ¬ (ArePieces starred (first ∷ behind) pieces rest)
-broken_behind starred code first behind rest [] begin is ends none are =
-    let end : EndsText starred (first ∷ behind) = subst (EndsText starred) (sym are) ends in
+broken_after : (starred : Bool) (code : ℕ) (first : Character) (after rest : List Character) (pieces : List (List Symbol))
+    → IsTrue (begins_piece starred code) → first.code ≡ code → EndsText starred rest → piece_at starred (first ∷ after) ≡ None → ¬ (ArePieces starred (first ∷ after) pieces rest)
+broken_after starred code first after rest [] begin is ends none are =
+    let end : EndsText starred (first ∷ after) = subst (EndsText starred) (sym are) ends in
     let no : begins_piece starred code ≡ false = subst (λ code. IsFalse (begins_piece starred code)) is end in
     let yes : begins_piece starred code ≡ true = begin in
     let both : true ≡ false = sym yes ∙ no in
     cc
-broken_behind starred code first behind rest (symbols ∷ pieces) begin is ends none are = let some = are.1 in cc
+broken_after starred code first after rest (symbols ∷ pieces) begin is ends none are = let some = are.1 in cc
 
 broken_excluded : (starred : Bool) (text : List Character) (code place : ℕ) (symbols : List Symbol) (rest : List Character)
     → IsTrue (begins_piece starred code) → BeginsText starred text symbols rest → ¬ (IsBroken starred text code place)
 broken_excluded starred text code place symbols rest begin begins broken =
-    let behind = pieces_prefix starred broken.pieces begins.pieces text (broken.first ∷ broken.behind) rest broken.are begins.are begins.ends in
-    broken_behind starred code broken.first broken.behind rest behind.back begin broken.begins begins.ends broken.none behind.are
+    let after = pieces_prefix starred broken.pieces begins.pieces text (broken.first ∷ broken.after) rest broken.are begins.are begins.ends in
+    broken_after starred code broken.first broken.after rest after.back begin broken.begins begins.ends broken.none after.are
 
 long_excluded : (text : List Character) (symbols : List Symbol) (rest : List Character) → BeginsText false text symbols rest → IsShort (points_of symbols) → ¬ (IsLong text)
 long_excluded text symbols rest begins short long =
@@ -171,7 +171,7 @@ no_range_more : (front back more : List Symbol) → IsNoRange front back → IsN
 no_range_more front back more (No_start none) = No_start none
 no_range_more front back more (Hyphen_before before place is) = Hyphen_before before place is
 no_range_more front back more (Range_before before place x is) = Range_before before place x is
-no_range_more front back more (Hyphen_behind place later is) = Hyphen_behind place (later ++ more) (ap (λ back. back ++ more) is)
+no_range_more front back more (Hyphen_after place later is) = Hyphen_after place (later ++ more) (ap (λ back. back ++ more) is)
 no_range_more front back more (Wrong_ends before later x y is other wrong) = Wrong_ends before (later ++ more) x y is (ap (λ back. back ++ more) other) wrong
 
 -- the inside of quotes begins with its first character
@@ -185,7 +185,7 @@ inside_first d (e ∷ cs) other = rw other (with_first d (inside_quotes (e ∷ c
 
 piece_opened : (c d : Character) (cs : List Character) → IsTrue (c.code == apostrophe) → IsFalse (d.code == apostrophe) → IfSome (piece_at true (c ∷ d ∷ cs)) (λ piece. (more : List Symbol) × (piece.symbols ≡ Literal d ∷ more))
 piece_opened c d cs quote other =
-    let inside : IfSome (behind_apostrophe c (d ∷ cs)) (λ piece. (more : List Symbol) × (piece.symbols ≡ Literal d ∷ more)) = rw other (inside_first d cs other) in
+    let inside : IfSome (after_apostrophe c (d ∷ cs)) (λ piece. (more : List Symbol) × (piece.symbols ≡ Literal d ∷ more)) = rw other (inside_first d cs other) in
     rw quote inside
 
 -- the first character of an open quote is the next symbol
@@ -220,15 +220,15 @@ opened_none (c ∷ d ∷ cs) ends =
 hyphen_excluded : (text : List Character) (place : ℕ) (symbols : List Symbol) (rest : List Character) → BeginsText true text symbols rest → HasRanges symbols → ¬ (IsWrongHyphen text place)
 hyphen_excluded text place symbols rest begins ranges hyphen = wrong_excluded hyphen.wrong
   where
-    behind : StandBehind true hyphen.pieces begins.pieces hyphen.rest rest
-    behind = pieces_prefix true hyphen.pieces begins.pieces text hyphen.rest rest hyphen.are begins.are begins.ends
+    after : StandAfter true hyphen.pieces begins.pieces hyphen.rest rest
+    after = pieces_prefix true hyphen.pieces begins.pieces text hyphen.rest rest hyphen.are begins.are begins.ends
 
-    all : symbols ≡ symbols_of hyphen.pieces ++ symbols_of behind.back
-    all = begins.give ∙ ap symbols_of behind.parts ∙ flat_map-append (λ (symbols : List Symbol). symbols) hyphen.pieces behind.back
+    all : symbols ≡ symbols_of hyphen.pieces ++ symbols_of after.back
+    all = begins.give ∙ ap symbols_of after.parts ∙ flat_map-append (λ (symbols : List Symbol). symbols) hyphen.pieces after.back
 
     wrong_excluded : IsNoRange hyphen.front hyphen.back ⊎ (EndsText true hyphen.rest × (hyphen.back ≡ [])) → ⊥
     wrong_excluded (inl wrong) =
-        let next = opened_front hyphen.rest rest behind.back behind.are begins.ends in
+        let next = opened_front hyphen.rest rest after.back after.are begins.ends in
         let whole : symbols ≡ hyphen.front ++ Hyphen place ∷ (hyphen.back ++ next.0) =
         all
         ∙ ap (λ later. symbols_of hyphen.pieces ++ later) next.1
@@ -237,7 +237,7 @@ hyphen_excluded text place symbols rest begins ranges hyphen = wrong_excluded hy
         ∙ append_assoc hyphen.front (Hyphen place ∷ hyphen.back) next.0 in
         (ranges hyphen.front (hyphen.back ++ next.0) place whole).1 (no_range_more hyphen.front hyphen.back next.0 wrong)
     wrong_excluded (inr last) =
-        let none = no_pieces true hyphen.rest rest behind.back last.0 behind.are in
+        let none = no_pieces true hyphen.rest rest after.back last.0 after.are in
         let whole : symbols ≡ hyphen.front ++ Hyphen place ∷ hyphen.back =
         all
         ∙ ap (λ back. symbols_of hyphen.pieces ++ symbols_of back) none.0

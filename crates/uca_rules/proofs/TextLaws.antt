@@ -4,7 +4,7 @@ use Rattle.std.specs.Prelude.{if◌then◌else◌, ◌==◌, IsFalse}
 use Rattle.std.proofs.lemmas.List.{append-nil}
 use Rattle.uca_rules.specs.declared.characters.Character.{Character}
 use Rattle.uca_rules.specs.Characters.{place_of, apostrophe, backslash, hyphen}
-use Rattle.uca_rules.specs.Pieces.{BeginsText, Symbol, Literal, Hyphen, Piece, is_plain, piece_at, behind_apostrophe, behind_backslash, ArePieces, EndsText, symbols_of, Written, BeginsWritten, points_of}
+use Rattle.uca_rules.specs.Pieces.{BeginsText, Symbol, Literal, Hyphen, Piece, is_plain, piece_at, after_apostrophe, after_backslash, ArePieces, EndsText, symbols_of, Written, BeginsWritten, points_of}
 
 -- ---- Where a text ends there is no piece
 
@@ -20,19 +20,19 @@ pub none_at_end : (starred : Bool) (cs : List Character) → EndsText starred cs
 none_at_end starred [] ends = refl
 none_at_end starred (c ∷ cs) ends =
     no_test (c.code == apostrophe) (c.code == backslash) (is_plain c.code) (starred && c.code == hyphen)
-    (behind_apostrophe c cs) (behind_backslash c cs) (Some (record { symbols = Literal c ∷ []; rest = cs })) (Some (record { symbols = Hyphen c.place ∷ []; rest = cs })) ends
+    (after_apostrophe c cs) (after_backslash c cs) (Some (record { symbols = Literal c ∷ []; rest = cs })) (Some (record { symbols = Hyphen c.place ∷ []; rest = cs })) ends
 
 -- ---- Pieces
 
 -- after some of the pieces the rest of the pieces follow
-pub record StandBehind (starred : Bool) (front pieces : List (List Symbol)) (more rest : List Character) : Type 0 where
+pub record StandAfter (starred : Bool) (front pieces : List (List Symbol)) (more rest : List Character) : Type 0 where
   pub back : List (List Symbol)
   pub parts : pieces ≡ front ++ back
   pub are : ArePieces starred more back rest
 
 -- pieces that lead somewhere are a front of those of the whole text
 pub pieces_prefix : (starred : Bool) (front pieces : List (List Symbol)) (cs more rest : List Character)
-    → ArePieces starred cs front more → ArePieces starred cs pieces rest → EndsText starred rest → StandBehind starred front pieces more rest
+    → ArePieces starred cs front more → ArePieces starred cs pieces rest → EndsText starred rest → StandAfter starred front pieces more rest
 pieces_prefix starred [] pieces cs more rest at are ends = record { back = pieces; parts = refl; are = subst (λ cs. ArePieces starred cs pieces rest) at are }
 pieces_prefix starred (symbols ∷ front) [] cs more rest at are ends =
     let none : piece_at starred cs ≡ None = subst (λ cs. piece_at starred cs ≡ None) (sym are) (none_at_end starred rest ends) in
@@ -45,9 +45,9 @@ pieces_prefix starred (symbols ∷ front) (symbols' ∷ pieces) cs more rest at 
     let same_piece : other ≡ one = cc in
     let same_rest = ap (λ (piece : Piece). piece.rest) same_piece in
     let same_symbols = ap (λ (piece : Piece). piece.symbols) same_piece in
-    let behind = pieces_prefix starred front pieces at.0 more rest at.2 (subst (λ cs. ArePieces starred cs pieces rest) same_rest are.2) ends in
-    let parts = behind.parts in
-    record { back = behind.back; parts = cc; are = behind.are }
+    let after = pieces_prefix starred front pieces at.0 more rest at.2 (subst (λ cs. ArePieces starred cs pieces rest) same_rest are.2) ends in
+    let parts = after.parts in
+    record { back = after.back; parts = cc; are = after.are }
 
 -- pieces at the end of a text are none
 pub no_pieces : (starred : Bool) (cs rest : List Character) (pieces : List (List Symbol)) → EndsText starred cs → ArePieces starred cs pieces rest → (pieces ≡ []) × (cs ≡ rest)
@@ -65,9 +65,9 @@ OneText = (starred : Bool) (cs rest rest' : List Character) (symbols symbols' : 
 
 pub one_text : OneText
 one_text starred cs rest rest' symbols symbols' begins begins' =
-    let behind = pieces_prefix starred begins.pieces begins'.pieces cs rest rest' begins.are begins'.are begins'.ends in
-    let last = no_pieces starred rest rest' behind.back begins.ends behind.are in
-    let same : begins'.pieces ≡ begins.pieces = behind.parts ∙ ap (λ back. begins.pieces ++ back) last.0 ∙ append-nil begins.pieces in
+    let after = pieces_prefix starred begins.pieces begins'.pieces cs rest rest' begins.are begins'.are begins'.ends in
+    let last = no_pieces starred rest rest' after.back begins.ends after.are in
+    let same : begins'.pieces ≡ begins.pieces = after.parts ∙ ap (λ back. begins.pieces ++ back) last.0 ∙ append-nil begins.pieces in
     (begins.give ∙ ap symbols_of (sym same) ∙ sym begins'.give, last.1)
 
 pub one_written : (cs rest rest' : List Character) (text text' : Written)

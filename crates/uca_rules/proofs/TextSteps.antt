@@ -7,7 +7,7 @@ use Rattle.uca_rules.specs.declared.characters.Character.{Character}
 use Rattle.uca_rules.specs.declared.faults.RuleFaultKind.{RuleFaultKind}
 use Rattle.uca_rules.specs.declared.faults.RuleFaultKind.TheVariants as kinds
 use Rattle.uca_rules.specs.Characters.{apostrophe, backslash, hyphen}
-use Rattle.uca_rules.specs.Pieces.{Symbol, Literal, Hyphen, Piece, with_literal, inside_quotes, behind_apostrophe, behind_backslash, numbered, number_at, is_plain, piece_at, ArePieces, symbols_of, EndsText, BeginsText, points_of}
+use Rattle.uca_rules.specs.Pieces.{Symbol, Literal, Hyphen, Piece, with_literal, inside_quotes, after_apostrophe, after_backslash, numbered, number_at, is_plain, piece_at, ArePieces, symbols_of, EndsText, BeginsText, points_of}
 use Rattle.uca_rules.specs.Statements.{HasRangesSoFar, HasRanges}
 use Rattle.uca_rules.specs.Faults.{opened, IsBroken, IsWrongHyphen, TextCause}
 use Rattle.uca_rules.specs.Views.{Takes, BeginsAt, BreaksOff, EndsInHyphen, ShowsWrongHyphen}
@@ -42,13 +42,13 @@ numbered_shorter c n cs = cases (number_at n cs) refl
     cases None e = rw e tt
     cases (Some code) e = rw e (omega (arith, length-drop n cs))
 
-backslash_shorter : (c : Character) (cs : List Character) → IsShorter (behind_backslash c cs) (length cs)
+backslash_shorter : (c : Character) (cs : List Character) → IsShorter (after_backslash c cs) (length cs)
 backslash_shorter c [] = tt
 backslash_shorter c (d ∷ cs) =
     let one : IsShorter (Some (record { symbols = Literal (record { code = d.code; place = c.place }) ∷ []; rest = cs })) (suc (length cs)) = omega arith in
     shorter_if (d.code == byte "u") (numbered c 4 cs) _ (suc (length cs)) (numbered_shorter c 4 cs) (shorter_if (d.code == byte "U") (numbered c 8 cs) _ (suc (length cs)) (numbered_shorter c 8 cs) one)
 
-apostrophe_shorter : (c : Character) (cs : List Character) → IsShorter (behind_apostrophe c cs) (length cs)
+apostrophe_shorter : (c : Character) (cs : List Character) → IsShorter (after_apostrophe c cs) (length cs)
 apostrophe_shorter c [] = tt
 apostrophe_shorter c (d ∷ cs) =
     let one : IsShorter (Some (record { symbols = Literal c ∷ []; rest = cs })) (suc (length cs)) = omega arith in
@@ -63,8 +63,8 @@ piece_shorter starred [] = tt
 piece_shorter starred (c ∷ cs) =
     let plain : IsShorter (Some (record { symbols = Literal c ∷ []; rest = cs })) (suc (length cs)) = omega arith in
     let range : IsShorter (Some (record { symbols = Hyphen c.place ∷ []; rest = cs })) (suc (length cs)) = omega arith in
-    shorter_if (c.code == apostrophe) (behind_apostrophe c cs) _ (suc (length cs)) (longer (behind_apostrophe c cs) (length cs) (apostrophe_shorter c cs))
-    (shorter_if (c.code == backslash) (behind_backslash c cs) _ (suc (length cs)) (longer (behind_backslash c cs) (length cs) (backslash_shorter c cs))
+    shorter_if (c.code == apostrophe) (after_apostrophe c cs) _ (suc (length cs)) (longer (after_apostrophe c cs) (length cs) (apostrophe_shorter c cs))
+    (shorter_if (c.code == backslash) (after_backslash c cs) _ (suc (length cs)) (longer (after_backslash c cs) (length cs) (backslash_shorter c cs))
     (shorter_if (is_plain c.code) _ _ (suc (length cs)) plain
     (shorter_if (starred && c.code == hyphen) _ None (suc (length cs)) range tt)))
 
@@ -84,16 +84,16 @@ pub record AreRead (starred : Bool) (text rest : List Character) (symbols : List
 pub read_none : (starred : Bool) (text : List Character) (symbols : List Symbol) → symbols ≡ [] → AreRead starred text text symbols
 read_none starred text symbols none = record { pieces = []; are = refl; give = none }
 
-pub read_more : (starred : Bool) (text rest behind : List Character) (old new : List Symbol) → AreRead starred text rest old → Takes old new (Some behind) (piece_at starred rest) →
-    AreRead starred text behind new
-read_more starred text rest behind old new read takes = record {
+pub read_more : (starred : Bool) (text rest after : List Character) (old new : List Symbol) → AreRead starred text rest old → Takes old new (Some after) (piece_at starred rest) →
+    AreRead starred text after new
+read_more starred text rest after old new read takes = record {
   pieces = read.pieces ++ takes.0 ∷ [];
-  are = pieces_more starred text read.pieces rest takes.0 behind read.are takes.1;
+  are = pieces_more starred text read.pieces rest takes.0 after read.are takes.1;
   give = takes.2 ∙ (ap (λ zs. zs ++ takes.0) read.give ∙ flat_map_more (λ symbols. symbols) [] read.pieces takes.0);
 }
 
-pub takes_shorter : (starred : Bool) (rest behind : List Character) (old new : List Symbol) → Takes old new (Some behind) (piece_at starred rest) → length behind < length rest
-takes_shorter starred rest behind old new takes =
+pub takes_shorter : (starred : Bool) (rest after : List Character) (old new : List Symbol) → Takes old new (Some after) (piece_at starred rest) → length after < length rest
+takes_shorter starred rest after old new takes =
     let P : Option Piece → Type 0 = λ piece. IsShorter piece (length rest) in
     subst P takes.1 (piece_shorter starred rest)
 
@@ -170,7 +170,7 @@ broken_so : (starred : Bool) (text rest : List Character) (symbols : List Symbol
 broken_so starred text rest symbols code place read none at = record {
   pieces = read.pieces;
   first = at.first;
-  behind = at.behind;
+  after = at.after;
   are = subst (ArePieces starred text read.pieces) at.are read.are;
   begins = at.is;
   none = rw at.are at none;
@@ -197,15 +197,15 @@ end_cause end false text rest symbols place star read ends hyphen = absurd (fals
 end_cause end true text rest symbols place star read ends hyphen = inr (inr (ends_in_hyphen text rest symbols place read ends hyphen))
 
 -- the old symbols are no more than those that a piece leaves
-pub within_some : (old new now : List Symbol) (behind : List Character) (piece : Option Piece) (count : ℕ) → Takes old new (Some behind) piece → count ≡ length old → now ≡ new → count ≤ length now
-within_some old new now behind piece count takes is same = omega (arith, is, ap length same, ap length takes.2, length-append old takes.0)
+pub within_some : (old new now : List Symbol) (after : List Character) (piece : Option Piece) (count : ℕ) → Takes old new (Some after) piece → count ≡ length old → now ≡ new → count ≤ length now
+within_some old new now after piece count takes is same = omega (arith, is, ap length same, ap length takes.2, length-append old takes.0)
 
 -- the symbols of the pieces before one that is none, or that is just read
 pub front_of_none : (old new now : List Symbol) (piece : Option Piece) (count : ℕ) → Takes old new None piece → count ≡ length old → now ≡ new → take count now ≡ old
 front_of_none old new now piece count takes is same = rw (is, same) takes.1
 
-pub front_of_some : (old new now : List Symbol) (behind : List Character) (piece : Option Piece) (count : ℕ) → Takes old new (Some behind) piece → count ≡ length old → now ≡ new → take count now ≡ old
-front_of_some old new now behind piece count takes is same = rw (is, same, takes.2) (take_at old takes.0 (length old) refl)
+pub front_of_some : (old new now : List Symbol) (after : List Character) (piece : Option Piece) (count : ℕ) → Takes old new (Some after) piece → count ≡ length old → now ≡ new → take count now ≡ old
+front_of_some old new now after piece count takes is same = rw (is, same, takes.2) (take_at old takes.0 (length old) refl)
 
 -- ---- A text that is not starred has a character
 
@@ -220,11 +220,11 @@ literal_with : (c : Character) (piece : Option Piece) → BeginsLiteral (with_li
 literal_with c None = tt
 literal_with c (Some piece) = (c, piece.symbols, refl)
 
-apostrophe_literal : (c : Character) (cs : List Character) → BeginsLiteral (behind_apostrophe c cs)
+apostrophe_literal : (c : Character) (cs : List Character) → BeginsLiteral (after_apostrophe c cs)
 apostrophe_literal c [] = tt
 apostrophe_literal c (d ∷ cs) = cases (d.code == apostrophe) refl
   where
-    cases : (b : Bool) → (d.code == apostrophe) ≡ b → BeginsLiteral (behind_apostrophe c (d ∷ cs))
+    cases : (b : Bool) → (d.code == apostrophe) ≡ b → BeginsLiteral (after_apostrophe c (d ∷ cs))
     cases true e = rw e (c, [], refl)
     cases false e = rw (e, letter d cs (eqb-false d.code apostrophe e)) (literal_with d (inside_quotes cs))
 
@@ -235,7 +235,7 @@ numbered_literal c n cs = cases (number_at n cs) refl
     cases None e = rw e tt
     cases (Some code) e = rw e (record { code = code; place = c.place }, [], refl)
 
-backslash_literal : (c : Character) (cs : List Character) → BeginsLiteral (behind_backslash c cs)
+backslash_literal : (c : Character) (cs : List Character) → BeginsLiteral (after_backslash c cs)
 backslash_literal c [] = tt
 backslash_literal c (d ∷ cs) =
     let one : BeginsLiteral (Some (record { symbols = Literal (record { code = d.code; place = c.place }) ∷ []; rest = cs })) = (record { code = d.code; place = c.place }, [], refl) in
@@ -245,8 +245,8 @@ piece_literal : (cs : List Character) → BeginsLiteral (piece_at false cs)
 piece_literal [] = tt
 piece_literal (c ∷ cs) =
     let one : BeginsLiteral (Some (record { symbols = Literal c ∷ []; rest = cs })) = (c, [], refl) in
-    literal_if (c.code == apostrophe) (behind_apostrophe c cs) _ (apostrophe_literal c cs)
-    (literal_if (c.code == backslash) (behind_backslash c cs) _ (backslash_literal c cs) (literal_if (is_plain c.code) _ None one tt))
+    literal_if (c.code == apostrophe) (after_apostrophe c cs) _ (apostrophe_literal c cs)
+    (literal_if (c.code == backslash) (after_backslash c cs) _ (backslash_literal c cs) (literal_if (is_plain c.code) _ None one tt))
 
 pub some_points : (starred : Bool) (cs : List Character) (symbols : List Symbol) (rest : List Character) → IsFalse starred → BeginsText starred cs symbols rest → points_of symbols ≢ []
 some_points true cs symbols rest plain text = absurd (false≢true (sym plain))
@@ -262,27 +262,27 @@ some_points false cs symbols rest plain text = cases text.pieces text.are text.g
 
 -- ---- Pieces by their first character
 
--- At an apostrophe the piece is what `behind_apostrophe` gives.
-pub quoted_piece : (starred : Bool) (cs : List Character) (first : Character) (behind : List Character) → cs ≡ first ∷ behind → first.code ≡ apostrophe →
-    piece_at starred cs ≡ behind_apostrophe first behind
-quoted_piece starred cs first behind is code = rw (is, code) refl
+-- At an apostrophe the piece is what `after_apostrophe` gives.
+pub quoted_piece : (starred : Bool) (cs : List Character) (first : Character) (after : List Character) → cs ≡ first ∷ after → first.code ≡ apostrophe →
+    piece_at starred cs ≡ after_apostrophe first after
+quoted_piece starred cs first after is code = rw (is, code) refl
 
--- At a backslash the piece is what `behind_backslash` gives.
-pub escaped_piece : (starred : Bool) (cs : List Character) (first : Character) (behind : List Character) → cs ≡ first ∷ behind → first.code ≡ backslash →
-    piece_at starred cs ≡ behind_backslash first behind
-escaped_piece starred cs first behind is code = rw (is, code) refl
+-- At a backslash the piece is what `after_backslash` gives.
+pub escaped_piece : (starred : Bool) (cs : List Character) (first : Character) (after : List Character) → cs ≡ first ∷ after → first.code ≡ backslash →
+    piece_at starred cs ≡ after_backslash first after
+escaped_piece starred cs first after is code = rw (is, code) refl
 
 -- Another character that may begin a piece is its only symbol.
-pub plain_piece : (starred : Bool) (cs : List Character) (first : Character) (behind : List Character) → cs ≡ first ∷ behind → first.code ≢ apostrophe → first.code ≢ backslash → is_plain first.code ≡ true →
-    piece_at starred cs ≡ Some (record { symbols = Literal first ∷ []; rest = behind })
-plain_piece starred cs first behind is quote slash plain = rw (is, ne_eqb first.code apostrophe quote, ne_eqb first.code backslash slash, plain) refl
+pub plain_piece : (starred : Bool) (cs : List Character) (first : Character) (after : List Character) → cs ≡ first ∷ after → first.code ≢ apostrophe → first.code ≢ backslash → is_plain first.code ≡ true →
+    piece_at starred cs ≡ Some (record { symbols = Literal first ∷ []; rest = after })
+plain_piece starred cs first after is quote slash plain = rw (is, ne_eqb first.code apostrophe quote, ne_eqb first.code backslash slash, plain) refl
 
 -- So is the hyphen of a starred text.
-pub hyphen_piece : (starred : Bool) (cs : List Character) (first : Character) (behind : List Character) → cs ≡ first ∷ behind → starred ≡ true → first.code ≡ hyphen →
-    piece_at starred cs ≡ Some (record { symbols = Hyphen first.place ∷ []; rest = behind })
-hyphen_piece starred cs first behind is star code = rw (is, star, code) refl
+pub hyphen_piece : (starred : Bool) (cs : List Character) (first : Character) (after : List Character) → cs ≡ first ∷ after → starred ≡ true → first.code ≡ hyphen →
+    piece_at starred cs ≡ Some (record { symbols = Hyphen first.place ∷ []; rest = after })
+hyphen_piece starred cs first after is star code = rw (is, star, code) refl
 
 -- At any other character there is no piece.
-pub no_piece : (starred : Bool) (cs : List Character) (first : Character) (behind : List Character) → cs ≡ first ∷ behind → first.code ≢ apostrophe → first.code ≢ backslash → is_plain first.code ≡ false → (starred && first.code == hyphen) ≡ false →
+pub no_piece : (starred : Bool) (cs : List Character) (first : Character) (after : List Character) → cs ≡ first ∷ after → first.code ≢ apostrophe → first.code ≢ backslash → is_plain first.code ≡ false → (starred && first.code == hyphen) ≡ false →
     piece_at starred cs ≡ None
-no_piece starred cs first behind is quote slash plain other = rw (is, ne_eqb first.code apostrophe quote, ne_eqb first.code backslash slash, plain, other) refl
+no_piece starred cs first after is quote slash plain other = rw (is, ne_eqb first.code apostrophe quote, ne_eqb first.code backslash slash, plain, other) refl

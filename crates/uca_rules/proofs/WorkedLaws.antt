@@ -11,25 +11,25 @@ use Rattle.uca_rules.specs.Worked.{from, less, WorkedRules}
 -- ---- A chain
 
 -- a text of one plain character
-written : (first : Character) (behind : List Character) → piece_at false (first ∷ behind) ≡ Some (record { symbols = Literal first ∷ []; rest = behind }) → EndsText false behind
-    → BeginsWritten (first ∷ behind) (record { place = first.place; points = first.code ∷ [] }) behind
-written first behind is ends = record {
+written : (first : Character) (after : List Character) → piece_at false (first ∷ after) ≡ Some (record { symbols = Literal first ∷ []; rest = after }) → EndsText false after
+    → BeginsWritten (first ∷ after) (record { place = first.place; points = first.code ∷ [] }) after
+written first after is ends = record {
   symbols = Literal first ∷ [];
-  begins = record { pieces = (Literal first ∷ []) ∷ []; some = λ none. cc; are = (behind, is, refl); give = refl; ends = ends };
+  begins = record { pieces = (Literal first ∷ []) ∷ []; some = λ none. cc; are = (after, is, refl); give = refl; ends = ends };
   is = refl;
 }
 
 anchor : BeginsReset (from 0 (codes "&[before 1]a < x = y/z")) (Some Primary) (record { place = 11; points = codes "a" }) (from 12 (codes " < x = y/z"))
 anchor = record {
   text = from 11 (codes "a < x = y/z");
-  due = record { first = record { code = 38; place = 0 }; behind = from 1 (codes "[before 1]a < x = y/z"); are = refl; is = refl; perhaps = (refl, refl) };
+  due = record { first = record { code = 38; place = 0 }; after = from 1 (codes "[before 1]a < x = y/z"); are = refl; is = refl; perhaps = (refl, refl) };
   begins = written (record { code = 97; place = 11 }) (from 12 (codes " < x = y/z")) refl refl;
 }
 
 first_target : BeginsPlain (from 13 (codes "< x = y/z")) Primary (record { place = 15; points = codes "x" }) None (from 16 (codes " = y/z"))
 first_target = record {
   text = from 15 (codes "x = y/z");
-  due = record { behind = from 14 (codes " x = y/z"); sign = refl; gap = refl };
+  due = record { after = from 14 (codes " x = y/z"); sign = refl; gap = refl };
   more = from 16 (codes " = y/z");
   begins = written (record { code = 120; place = 15 }) (from 16 (codes " = y/z")) refl refl;
   expands = (λ is. omega arith, refl);
@@ -38,10 +38,10 @@ first_target = record {
 second_target : BeginsPlain (from 17 (codes "= y/z")) Identical (record { place = 19; points = codes "y" }) (Some (record { place = 21; points = codes "z" })) []
 second_target = record {
   text = from 19 (codes "y/z");
-  due = record { behind = from 18 (codes " y/z"); sign = refl; gap = refl };
+  due = record { after = from 18 (codes " y/z"); sign = refl; gap = refl };
   more = from 20 (codes "/z");
   begins = written (record { code = 121; place = 19 }) (from 20 (codes "/z")) refl refl;
-  expands = (from 21 (codes "z"), record { first = record { code = 47; place = 20 }; behind = from 21 (codes "z"); are = refl; is = refl; gap = refl }, written (record { code = 122; place = 21 }) [] refl tt);
+  expands = (from 21 (codes "z"), record { first = record { code = 47; place = 20 }; after = from 21 (codes "z"); are = refl; is = refl; gap = refl }, written (record { code = 122; place = 21 }) [] refl tt);
 }
 
 -- ---- Late targets

@@ -69,13 +69,13 @@ ends_comment c = c == 10 || c == 12 || c == 13 || c == 0x85 || c == 0x2028 || c 
 
 -- What follows the white space and the comments at the front, or inside a comment. A comment runs from
 -- `#` to the next character that ends one, or to the end of the rules.
-abbrev pub behind_gaps_in : Bool → List Character → List Character
-behind_gaps_in inside [] = []
-behind_gaps_in true (c ∷ cs) = behind_gaps_in (not (ends_comment c.code)) cs
-behind_gaps_in false (c ∷ cs) =
-    if is_white c.code then behind_gaps_in false cs else
-    if c.code == number_sign then behind_gaps_in true cs else
+abbrev pub after_gaps_in : Bool → List Character → List Character
+after_gaps_in inside [] = []
+after_gaps_in true (c ∷ cs) = after_gaps_in (not (ends_comment c.code)) cs
+after_gaps_in false (c ∷ cs) =
+    if is_white c.code then after_gaps_in false cs else
+    if c.code == number_sign then after_gaps_in true cs else
     c ∷ cs
 
-abbrev pub behind_gaps : List Character → List Character
-behind_gaps cs = behind_gaps_in false cs
+abbrev pub after_gaps : List Character → List Character
+after_gaps cs = after_gaps_in false cs

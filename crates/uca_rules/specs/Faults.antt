@@ -10,7 +10,7 @@ use Rattle.uca_rules.specs.declared.signs.Preceding.{Preceding}
 use Rattle.uca_rules.specs.declared.signs.Preceding.TheVariants as lasts
 use Rattle.uca_rules.specs.declared.faults.RuleFaultKind.{RuleFaultKind}
 use Rattle.uca_rules.specs.declared.faults.RuleFaultKind.TheVariants as kinds
-use Rattle.uca_rules.specs.Characters.{characters, place_of, behind_gaps, ampersand, apostrophe, backslash, bracket, equals_sign, less_than, slash}
+use Rattle.uca_rules.specs.Characters.{characters, place_of, after_gaps, ampersand, apostrophe, backslash, bracket, equals_sign, less_than, slash}
 use Rattle.uca_rules.specs.Pieces.{Symbol, Literal, Hyphen, piece_at, begins_piece, ArePieces, symbols_of, EndsText, BeginsText, points_of, Written, BeginsWritten}
 use Rattle.uca_rules.specs.Statements.{Statement, Starred, Opening, Resets, Signs, SignAt, sign_at, count_less, bracket_at, IsAnchorDue, IsTargetDue, IsExpansionDue, IsNoRange, AreStatements, MayFollow, AreInOrder, last_of, MayEnd}
 use Rattle.uca_rules.specs.Relations.{IsTarget, IsLate}
@@ -37,10 +37,10 @@ IsNoText starred (c ∷ rest) = IsFalse (is_part c.code) × IsFalse (begins_piec
 pub record IsBroken (starred : Bool) (text : List Character) (code place : ℕ) : Type 0 where
   pub pieces : List (List Symbol)
   pub first : Character
-  pub behind : List Character
-  pub are : ArePieces starred text pieces (first ∷ behind)
+  pub after : List Character
+  pub are : ArePieces starred text pieces (first ∷ after)
   pub begins : first.code ≡ code
-  pub none : piece_at starred (first ∷ behind) ≡ None
+  pub none : piece_at starred (first ∷ after) ≡ None
   pub at : place ≡ first.place
 
 -- a text has more than 16 code points in Normalization Form D
@@ -76,7 +76,7 @@ TextCause end false text place kinds.Limit = IsLong text × (place ≡ place_of 
 TextCause end starred text place _ = ⊥
 
 -- after a target that is not starred, and `/`, an expansion must come
-pub record IsSlashBehind (cs : List Character) (strength : Strength) (text : List Character) : Type 0 where
+pub record IsSlashAfter (cs : List Character) (strength : Strength) (text : List Character) : Type 0 where
   pub first : List Character
   pub due : IsTargetDue cs strength false first
   pub target : Written
@@ -89,7 +89,7 @@ abbrev pub IsTextDue : List Character → Opening → Bool → List Character �
 IsTextDue cs Resets true text = ⊥
 IsTextDue cs Resets false text = (before : Option Strength) × IsAnchorDue cs before text
 IsTextDue cs (Signs strength) true text = IsTargetDue cs strength true text
-IsTextDue cs (Signs strength) false text = IsTargetDue cs strength false text ⊎ IsSlashBehind cs strength text
+IsTextDue cs (Signs strength) false text = IsTargetDue cs strength false text ⊎ IsSlashAfter cs strength text
 
 -- in the statement that begins there, and may follow the last one, a text must come, and it has a cause
 pub record InText (end : ℕ) (last : Preceding) (cs : List Character) (place : ℕ) (kind : RuleFaultKind) : Type 0 where
@@ -115,12 +115,12 @@ IsMisplaced last (c ∷ cs) = IsFalse (may_begin last c.code)
 -- after `&` a bracket that is none of the three
 pub record IsWrongBracket (cs : List Character) (place : ℕ) : Type 0 where
   pub first : Character
-  pub behind : List Character
-  pub are : cs ≡ first ∷ behind
+  pub after : List Character
+  pub are : cs ≡ first ∷ after
   pub is : first.code ≡ ampersand
   pub opens : Character
   pub more : List Character
-  pub gap : behind_gaps behind ≡ opens ∷ more
+  pub gap : after_gaps after ≡ opens ∷ more
   pub square : opens.code ≡ bracket
   pub none : bracket_at (opens ∷ more) ≡ None
   pub at : place ≡ opens.place

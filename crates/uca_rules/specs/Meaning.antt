@@ -22,8 +22,8 @@ pub record Anchor : Type 0 where
   pub before : Bool
 
 -- after a target: what the next relation is placed by, also within a starred text
-abbrev pub behind_target : NfdText → Anchor
-behind_target text = record { text = text; before = false }
+abbrev pub after_target : NfdText → Anchor
+after_target text = record { text = text; before = false }
 
 -- the text of one character
 abbrev pub one_letter : Properties → Character → NfdText
@@ -34,11 +34,11 @@ abbrev pub starred_relations : Properties → Anchor → Strength → List Chara
 starred_relations properties anchor strength [] = []
 starred_relations properties anchor strength (c ∷ targets) =
     record { relation = record { anchor = anchor.text; before = anchor.before; strength = strength; target = one_letter properties c; expansion = None }; place = c.place }
-    ∷ starred_relations properties (behind_target (one_letter properties c)) strength targets
+    ∷ starred_relations properties (after_target (one_letter properties c)) strength targets
 
-abbrev pub behind_targets : Properties → Anchor → List Character → Anchor
-behind_targets properties anchor [] = anchor
-behind_targets properties anchor (c ∷ targets) = behind_targets properties (behind_target (one_letter properties c)) targets
+abbrev pub after_targets : Properties → Anchor → List Character → Anchor
+after_targets properties anchor [] = anchor
+after_targets properties anchor (c ∷ targets) = after_targets properties (after_target (one_letter properties c)) targets
 
 -- the relations of a statement, given the anchor before it
 abbrev pub relations_in : Properties → Anchor → Statement → List Taken
@@ -48,18 +48,18 @@ relations_in properties anchor (Plain strength target expansion) =
 relations_in properties anchor (Starred strength targets) = starred_relations properties anchor strength targets
 
 -- the anchor of the relation after a statement
-abbrev pub anchor_behind : Properties → Anchor → Statement → Anchor
-anchor_behind properties anchor (Reset before text) = record { text = nfd_text properties text.points; before = is_some before }
-anchor_behind properties anchor (Plain strength target expansion) = behind_target (nfd_text properties target.points)
-anchor_behind properties anchor (Starred strength targets) = behind_targets properties anchor targets
+abbrev pub anchor_after : Properties → Anchor → Statement → Anchor
+anchor_after properties anchor (Reset before text) = record { text = nfd_text properties text.points; before = is_some before }
+anchor_after properties anchor (Plain strength target expansion) = after_target (nfd_text properties target.points)
+anchor_after properties anchor (Starred strength targets) = after_targets properties anchor targets
 
 abbrev pub relations_from : Properties → Anchor → List Statement → List Taken
 relations_from properties anchor [] = []
-relations_from properties anchor (s ∷ statements) = relations_in properties anchor s ++ relations_from properties (anchor_behind properties anchor s) statements
+relations_from properties anchor (s ∷ statements) = relations_in properties anchor s ++ relations_from properties (anchor_after properties anchor s) statements
 
 -- rules begin with a reset: what would be an anchor before it says nothing
 abbrev pub no_anchor : Anchor
-no_anchor = behind_target (record { points = []; classes = [] })
+no_anchor = after_target (record { points = []; classes = [] })
 
 -- the relations of statements, each with the position of its target
 abbrev pub taken : Properties → List Statement → List Taken

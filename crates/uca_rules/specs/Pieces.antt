@@ -35,9 +35,9 @@ inside_quotes (c ∷ d ∷ cs) =
     else with_literal c (inside_quotes (d ∷ cs))
 
 -- after an apostrophe: another one, and both stand for an apostrophe; or one or more characters in quotes
-abbrev pub behind_apostrophe : Character → List Character → Option Piece
-behind_apostrophe c [] = None
-behind_apostrophe c (d ∷ cs) = if d.code == apostrophe then Some (record { symbols = Literal c ∷ []; rest = cs }) else inside_quotes (d ∷ cs)
+abbrev pub after_apostrophe : Character → List Character → Option Piece
+after_apostrophe c [] = None
+after_apostrophe c (d ∷ cs) = if d.code == apostrophe then Some (record { symbols = Literal c ∷ []; rest = cs }) else inside_quotes (d ∷ cs)
 
 -- n hexadecimal digits, of either case, that give a code point which is no surrogate
 abbrev pub are_digits : ℕ → List ℕ → Bool
@@ -51,9 +51,9 @@ abbrev pub numbered : Character → ℕ → List Character → Option Piece
 numbered c n cs = option_map (λ code. record { symbols = Literal (record { code = code; place = c.place }) ∷ []; rest = drop n cs }) (number_at n cs)
 
 -- after a backslash: `u` and four digits, `U` and eight, or another character, which stands for itself
-abbrev pub behind_backslash : Character → List Character → Option Piece
-behind_backslash c [] = None
-behind_backslash c (d ∷ cs) =
+abbrev pub after_backslash : Character → List Character → Option Piece
+after_backslash c [] = None
+after_backslash c (d ∷ cs) =
     if d.code == byte "u" then numbered c 4 cs else
     if d.code == byte "U" then numbered c 8 cs else
     Some (record { symbols = Literal (record { code = d.code; place = c.place }) ∷ []; rest = cs })
@@ -66,8 +66,8 @@ begins_piece starred c = c == apostrophe || c == backslash || is_plain c || (sta
 abbrev pub piece_at : Bool → List Character → Option Piece
 piece_at starred [] = None
 piece_at starred (c ∷ cs) =
-    if c.code == apostrophe then behind_apostrophe c cs else
-    if c.code == backslash then behind_backslash c cs else
+    if c.code == apostrophe then after_apostrophe c cs else
+    if c.code == backslash then after_backslash c cs else
     if is_plain c.code then Some (record { symbols = Literal c ∷ []; rest = cs }) else
     if starred && c.code == hyphen then Some (record { symbols = Hyphen c.place ∷ []; rest = cs }) else
     None

@@ -19,7 +19,7 @@ use Rattle.uca_rules.specs.Characters.{place_of}
 use Rattle.uca_rules.specs.Pieces.{Symbol, Written, BeginsText, BeginsWritten}
 use Rattle.uca_rules.specs.Statements.{Statement, Plain, Starred, AreStatements, BeginsStatement, BeginsExpansion, IsExpansionDue, HasRanges, targets_of, MayFollow, AreChains, opening, last_is}
 use Rattle.uca_rules.specs.Relations.{IsRuleText}
-use Rattle.uca_rules.specs.Meaning.{Anchor, Taken, HasShortTexts, IsShort, anchor_behind, no_anchor, relations_in, relations_of, taken}
+use Rattle.uca_rules.specs.Meaning.{Anchor, Taken, HasShortTexts, IsShort, anchor_after, no_anchor, relations_in, relations_of, taken}
 use Rattle.uca_rules.specs.Faults.{InText, StatementCause, RelationCause, TextCause, HasCause}
 use Rattle.uca_rules.specs.Views.{IsMemoryAt}
 use Rattle.uca_rules.specs.Growing.{AreGrowing}
@@ -63,10 +63,10 @@ abbrev pub start : State
 start = record { relations = []; anchor = no_anchor; last = lasts.Nothing }
 
 -- after one more statement
-abbrev pub behind_statement : Properties → State → Statement → State
-behind_statement properties state s = record {
+abbrev pub after_statement : Properties → State → Statement → State
+after_statement properties state s = record {
   relations = state.relations ++ relations_of (relations_in properties state.anchor s);
-  anchor = anchor_behind properties state.anchor s;
+  anchor = anchor_after properties state.anchor s;
   last = last_is s;
 }
 
@@ -76,7 +76,7 @@ pub record BeginsNext (properties : Properties) (old new : State) (cs rest : Lis
   pub begins : BeginsStatement cs s rest
   pub follows : MayFollow old.last (opening s)
   pub short : HasShortTexts s
-  pub is : new ≡ behind_statement properties old s
+  pub is : new ≡ after_statement properties old s
 
 -- the characters are statements that give these relations
 pub record ReadsAll (properties : Properties) (cs : List Character) (relations : List Relation) : Type 0 where
@@ -193,7 +193,7 @@ pub record Adds {A T : Type 0} (s : Statement) (old new : Reader A T) : Type 0 w
   pub anchored : IsRuleText new.anchor
   pub short : HasShortTexts s
   pub relations : new.rules.relations.items ≡ old.rules.relations.items ++ relations_of (relations_in (properties_in old.texts) (anchor_of old) s)
-  pub anchor : anchor_of new ≡ anchor_behind (properties_in old.texts) (anchor_of old) s
+  pub anchor : anchor_of new ≡ anchor_after (properties_in old.texts) (anchor_of old) s
   pub last : new.last ≡ old.last
 
 -- the relation of a target and an expansion, with the anchor of the reader

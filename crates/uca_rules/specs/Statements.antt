@@ -7,7 +7,7 @@ use Rattle.uca_weights.specs.declared.Strength.TheVariants.{Primary, Secondary, 
 use Rattle.uca_rules.specs.declared.characters.Character.{Character}
 use Rattle.uca_rules.specs.declared.signs.Preceding.{Preceding}
 use Rattle.uca_rules.specs.declared.signs.Preceding.TheVariants as lasts
-use Rattle.uca_rules.specs.Characters.{codes_of, behind_gaps, ampersand, asterisk, slash, less_than, equals_sign, bracket}
+use Rattle.uca_rules.specs.Characters.{codes_of, after_gaps, ampersand, asterisk, slash, less_than, equals_sign, bracket}
 use Rattle.uca_rules.specs.Pieces.{Symbol, Literal, Hyphen, BeginsText, Written, BeginsWritten}
 
 -- ---- Signs and brackets
@@ -30,9 +30,9 @@ abbrev pub count_less : List Character → ℕ
 count_less [] = 0
 count_less (c ∷ cs) = if c.code == less_than then suc (count_less cs) else 0
 
-abbrev pub behind_less : List Character → List Character
-behind_less [] = []
-behind_less (c ∷ cs) = if c.code == less_than then behind_less cs else c ∷ cs
+abbrev pub after_less : List Character → List Character
+after_less [] = []
+after_less (c ∷ cs) = if c.code == less_than then after_less cs else c ∷ cs
 
 abbrev pub strength_of : ℕ → Option Strength
 strength_of n = if n == 1 then Some Primary else if n == 2 then Some Secondary else if n == 3 then Some Tertiary else None
@@ -43,7 +43,7 @@ sign_at [] = None
 sign_at (c ∷ cs) =
     if c.code == equals_sign
     then Some (perhaps_starred Identical cs)
-    else option_map (λ strength. perhaps_starred strength (behind_less (c ∷ cs))) (strength_of (count_less (c ∷ cs)))
+    else option_map (λ strength. perhaps_starred strength (after_less (c ∷ cs))) (strength_of (count_less (c ∷ cs)))
 
 -- the strength that `[before 1]`, `[before 2]` or `[before 3]` asks for
 abbrev pub bracket_of : List ℕ → Option Strength
@@ -65,31 +65,31 @@ IsNotAt code (c ∷ cs) = c.code ≢ code
 -- perhaps a bracket, and after it and white space and comments the rest
 abbrev pub BeginsBracket : List Character → Option Strength → List Character → Type 0
 BeginsBracket cs None rest = IsNotAt bracket cs × (cs ≡ rest)
-BeginsBracket cs (Some strength) rest = (bracket_at cs ≡ Some strength) × (behind_gaps (drop 10 cs) ≡ rest)
+BeginsBracket cs (Some strength) rest = (bracket_at cs ≡ Some strength) × (after_gaps (drop 10 cs) ≡ rest)
 
 -- ---- Where a text must come
 
 -- an anchor: after `&` and perhaps a bracket
 pub record IsAnchorDue (cs : List Character) (before : Option Strength) (text : List Character) : Type 0 where
   pub first : Character
-  pub behind : List Character
-  pub are : cs ≡ first ∷ behind
+  pub after : List Character
+  pub are : cs ≡ first ∷ after
   pub is : first.code ≡ ampersand
-  pub perhaps : BeginsBracket (behind_gaps behind) before text
+  pub perhaps : BeginsBracket (after_gaps after) before text
 
 -- a target: after a sign
 pub record IsTargetDue (cs : List Character) (strength : Strength) (starred : Bool) (text : List Character) : Type 0 where
-  pub behind : List Character
-  pub sign : sign_at cs ≡ Some (record { strength = strength; starred = starred; rest = behind })
-  pub gap : behind_gaps behind ≡ text
+  pub after : List Character
+  pub sign : sign_at cs ≡ Some (record { strength = strength; starred = starred; rest = after })
+  pub gap : after_gaps after ≡ text
 
 -- an expansion: after a target and `/`
 pub record IsExpansionDue (cs text : List Character) : Type 0 where
   pub first : Character
-  pub behind : List Character
-  pub are : behind_gaps cs ≡ first ∷ behind
+  pub after : List Character
+  pub are : after_gaps cs ≡ first ∷ after
   pub is : first.code ≡ slash
-  pub gap : behind_gaps behind ≡ text
+  pub gap : after_gaps after ≡ text
 
 -- ---- Starred texts
 
@@ -104,7 +104,7 @@ pub data IsNoRange (front back : List Symbol) : Type 0 where
   No_start : front ≡ [] → IsNoRange front back
   Hyphen_before : (before : List Symbol) (place : ℕ) → front ≡ before ++ Hyphen place ∷ [] → IsNoRange front back
   Range_before : (before : List Symbol) (place : ℕ) (x : Character) → front ≡ before ++ Hyphen place ∷ Literal x ∷ [] → IsNoRange front back
-  Hyphen_behind : (place : ℕ) (more : List Symbol) → back ≡ Hyphen place ∷ more → IsNoRange front back
+  Hyphen_after : (place : ℕ) (more : List Symbol) → back ≡ Hyphen place ∷ more → IsNoRange front back
   Wrong_ends : (before more : List Symbol) (x y : Character) → front ≡ before ++ Literal x ∷ [] → back ≡ Literal y ∷ more → ¬ (IsRange x.code y.code) → IsNoRange front back
 
 -- no `-` of the symbols is known to stand for no range; what follows the symbols is not considered
@@ -149,7 +149,7 @@ pub record BeginsReset (cs : List Character) (before : Option Strength) (anchor 
 
 -- after a target: `/` and a text, or anything but `/`
 abbrev pub BeginsExpansion : List Character → Option Written → List Character → Type 0
-BeginsExpansion cs None rest = IsNotAt slash (behind_gaps cs) × (cs ≡ rest)
+BeginsExpansion cs None rest = IsNotAt slash (after_gaps cs) × (cs ≡ rest)
 BeginsExpansion cs (Some expansion) rest = (text : List Character) × IsExpansionDue cs text × BeginsWritten text expansion rest
 
 pub record BeginsPlain (cs : List Character) (strength : Strength) (target : Written) (expansion : Option Written) (rest : List Character) : Type 0 where
@@ -176,8 +176,8 @@ BeginsStatement cs (Starred strength targets) rest = BeginsStarred cs strength t
 -- The characters are these statements, with white space and comments before each and after the last one; after
 -- them the rest follows.
 abbrev pub AreStatements : List Character → List Statement → List Character → Type 0
-AreStatements cs [] rest = behind_gaps cs ≡ rest
-AreStatements cs (s ∷ statements) rest = (more : List Character) × BeginsStatement (behind_gaps cs) s more × AreStatements more statements rest
+AreStatements cs [] rest = after_gaps cs ≡ rest
+AreStatements cs (s ∷ statements) rest = (more : List Character) × BeginsStatement (after_gaps cs) s more × AreStatements more statements rest
 
 -- ---- Chains
 

@@ -64,8 +64,8 @@ pub record BeginsRange (symbols : List Symbol) (last : Symbol) : Type 0 where
 -- the first character is this one, at this position
 pub record BeginsAt (code : ℕ) (characters : List Character) (place : ℕ) : Type 0 where
   pub first : Character
-  pub behind : List Character
-  pub are : characters ≡ first ∷ behind
+  pub after : List Character
+  pub are : characters ≡ first ∷ after
   pub is : first.code ≡ code
   pub at : place ≡ first.place
 

@@ -2,7 +2,7 @@
 use Rattle.std.specs.Prelude.{◌≡◌, ℕ, true, false, List, [], ◌∷◌, ◌++◌, codes, Some, None}
 use Rattle.uca_weights.specs.declared.Strength.TheVariants.{Primary, Secondary, Tertiary, Identical}
 use Rattle.uca_rules.specs.declared.characters.Character.{Character}
-use Rattle.uca_rules.specs.Characters.{placed_from, codes_of, behind_gaps}
+use Rattle.uca_rules.specs.Characters.{placed_from, codes_of, after_gaps}
 use Rattle.uca_rules.specs.Pieces.{Symbol, Literal, Hyphen, piece_at}
 use Rattle.uca_rules.specs.declared.relations.Relation.{Relation}
 use Rattle.uca_rules.specs.Relations.{IsHeld, IsLate}
@@ -36,8 +36,8 @@ pub record WorkedRules : Type 0 where
   pub no_hyphen : piece_at false (from 0 (codes "-b")) ≡ None
   pub hyphen : piece_at true (from 7 (codes "-b")) ≡ Some (record { symbols = Hyphen 7 ∷ []; rest = from 8 (codes "b") })
   -- white space and comments, signs, brackets
-  pub gaps : behind_gaps (from 0 (codes " #&a" ++ 10 ∷ codes "&b")) ≡ from 5 (codes "&b")
-  pub last_comment : behind_gaps (from 0 (codes "#&a")) ≡ []
+  pub gaps : after_gaps (from 0 (codes " #&a" ++ 10 ∷ codes "&b")) ≡ from 5 (codes "&b")
+  pub last_comment : after_gaps (from 0 (codes "#&a")) ≡ []
   pub tertiary : sign_at (from 0 (codes "<<<x")) ≡ Some (record { strength = Tertiary; starred = false; rest = from 3 (codes "x") })
   pub starred_sign : sign_at (from 0 (codes "=*x")) ≡ Some (record { strength = Identical; starred = true; rest = from 2 (codes "x") })
   pub four : sign_at (from 3 (codes "<<<< x")) ≡ None

@@ -62,8 +62,8 @@ fn ends_comment(c: char) -> bool
 }
 
 /// What follows the white space and the comments at the front.
-pub(crate) fn behind_gaps(characters: &[Character]) -> &[Character]
-    ensures { result.now ≡ Characters.behind_gaps characters.now }
+pub(crate) fn after_gaps(characters: &[Character]) -> &[Character]
+    ensures { result.now ≡ Characters.after_gaps characters.now }
 {
     let mut inside = false;
     for (at, c) in characters.iter().enumerate() {

@@ -46,37 +46,37 @@ pub(crate) fn take_piece<'a, A: Allocator>(
 ) -> Result<Option<&'a [Character]>, AllocError>
     ensures { IfOk result (λ found. Takes symbols.old.items symbols.new.items (slice_view found) (Pieces.piece_at starred characters.now)) }
 {
-    let Some((first, behind)) = characters.split_first() else {
+    let Some((first, after)) = characters.split_first() else {
         return Ok(None);
     };
     if first.code == '\'' {
-        return behind_apostrophe(symbols, *first, behind);
+        return after_apostrophe(symbols, *first, after);
     }
     if first.code == '\\' {
-        return behind_backslash(symbols, *first, behind);
+        return after_backslash(symbols, *first, after);
     }
     if is_plain(first.code) {
-        return push_symbol(symbols, Symbol::Literal(*first), behind);
+        return push_symbol(symbols, Symbol::Literal(*first), after);
     }
     if starred && first.code == '-' {
-        return push_symbol(symbols, Symbol::Hyphen(first.place), behind);
+        return push_symbol(symbols, Symbol::Hyphen(first.place), after);
     }
     Ok(None)
 }
 
 /// After an apostrophe: another one, and both stand for an apostrophe, or the inside of quotes.
-fn behind_apostrophe<'a, A: Allocator>(
+fn after_apostrophe<'a, A: Allocator>(
     symbols: &mut Vec<Symbol, A>,
     first: Character,
     characters: &'a [Character],
 ) -> Result<Option<&'a [Character]>, AllocError>
-    ensures { IfOk result (λ found. Takes symbols.old.items symbols.new.items (slice_view found) (Pieces.behind_apostrophe first characters.now)) }
+    ensures { IfOk result (λ found. Takes symbols.old.items symbols.new.items (slice_view found) (Pieces.after_apostrophe first characters.now)) }
 {
-    let Some((second, behind)) = characters.split_first() else {
+    let Some((second, after)) = characters.split_first() else {
         return Ok(None);
     };
     if second.code == '\'' {
-        return push_symbol(symbols, Symbol::Literal(first), behind);
+        return push_symbol(symbols, Symbol::Literal(first), after);
     }
     inside_quotes(symbols, characters)
 }
@@ -104,12 +104,12 @@ fn inside_quotes<'a, A: Allocator>(
 }
 
 /// After a backslash: the character that the escape stands for is one symbol.
-fn behind_backslash<'a, A: Allocator>(
+fn after_backslash<'a, A: Allocator>(
     symbols: &mut Vec<Symbol, A>,
     first: Character,
     characters: &'a [Character],
 ) -> Result<Option<&'a [Character]>, AllocError>
-    ensures { IfOk result (λ found. Takes symbols.old.items symbols.new.items (slice_view found) (Pieces.behind_backslash first characters.now)) }
+    ensures { IfOk result (λ found. Takes symbols.old.items symbols.new.items (slice_view found) (Pieces.after_backslash first characters.now)) }
 {
     let Some((code, rest)) = escaped(characters) else {
         return Ok(None);
@@ -121,13 +121,13 @@ fn behind_backslash<'a, A: Allocator>(
 /// What an escape stands for: `u` and four digits, `U` and eight, or another character, which stands for itself. The
 /// characters after it are returned too.
 fn escaped(characters: &[Character]) -> Option<(char, &[Character])>
-    ensures { (first : Character) → escaped_piece first result ≡ Pieces.behind_backslash first characters.now }
+    ensures { (first : Character) → escaped_piece first result ≡ Pieces.after_backslash first characters.now }
 {
-    let (second, behind) = characters.split_first()?;
+    let (second, after) = characters.split_first()?;
     match second.code {
-        'u' => escaped_number(behind, 4),
-        'U' => escaped_number(behind, 8),
-        code => Some((code, behind)),
+        'u' => escaped_number(after, 4),
+        'U' => escaped_number(after, 8),
+        code => Some((code, after)),
     }
 }
 

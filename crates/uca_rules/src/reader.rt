@@ -16,7 +16,7 @@ ghost use Rattle.uca_rules.specs.Statements.{IsAnchorDue, MayFollow, Resets, Sig
 ghost use Rattle.uca_rules.specs.Views.{IsMemoryAt, sign_view};
 ghost use Rattle.uca_rules.specs.Reading.{AddsOne, AddsPlain, GoesOn, IsNextFault, IsPlainFault, IsReadingFault, IsReady, PassesOn, ReadsAll, first_code, properties_in, relation_of, start, state_of};
 
-use crate::characters::{Character, behind_gaps, characters};
+use crate::characters::{Character, after_gaps, characters};
 use crate::faults::{RuleFault, RuleFaultKind};
 use crate::growing::RulesBuilder;
 use crate::relations::{Relation, Rules};
@@ -180,9 +180,9 @@ impl<'a, A: Allocator + Copy, T: Allocator> Reader<'a, A, T> {
         ensures found { OnOk result (ReadsAll (properties_in self.old.texts) characters.now self.new.rules.relations.items) }
         ensures fault { IfErr result (IsReadingFault (properties_in self.old.texts) self.old.texts.end characters.now) }
     {
-        let mut rest = behind_gaps(characters);
+        let mut rest = after_gaps(characters);
         while !rest.is_empty() {
-            rest = behind_gaps(self.read_statement(rest)?);
+            rest = after_gaps(self.read_statement(rest)?);
         }
         if let Preceding::Reset(_) = self.last {
             return Err(RuleFault {
@@ -223,7 +223,7 @@ impl<'a, A: Allocator + Copy, T: Allocator> Reader<'a, A, T> {
         ensures found { IfOk result (λ rest. GoesOn self.old self.new characters.now rest.now) }
         ensures fault { IfErr result (IsNextFault (properties_in self.old.texts) self.old.texts.end (state_of self.old) characters.now) }
     {
-        let (asked, text) = behind_ampersand(characters)?;
+        let (asked, text) = after_ampersand(characters)?;
         match self.texts.read_plain(text) {
             Ok((anchor, rest)) => {
                 self.anchor = anchor;
@@ -242,12 +242,12 @@ impl<'a, A: Allocator + Copy, T: Allocator> Reader<'a, A, T> {
     ) -> Result<&'c [Character], RuleFault>
         requires ready { IsReady self.old }
         requires sign { (first_code characters.now ≡ Characters.less_than) ⊎ (first_code characters.now ≡ Characters.equals_sign) }
-        requires behind { self.old.last ≢ Preceding.Nothing }
+        requires after { self.old.last ≢ Preceding.Nothing }
         ensures found { IfOk result (λ rest. GoesOn self.old self.new characters.now rest.now) }
         ensures fault { IfErr result (IsNextFault (properties_in self.old.texts) self.old.texts.end (state_of self.old) characters.now) }
     {
         let sign = sign_of_relation(self.last, self.rules.count(), characters)?;
-        let text = behind_gaps(sign.rest);
+        let text = after_gaps(sign.rest);
         self.last = Preceding::Relation;
         if sign.starred {
             self.read_starred(sign.strength, text)
@@ -268,8 +268,8 @@ impl<'a, A: Allocator + Copy, T: Allocator> Reader<'a, A, T> {
         ensures found { IfOk result (λ rest. AddsPlain self.old self.new strength text.now rest.now) }
         ensures fault { IfErr result (IsPlainFault (properties_in self.old.texts) self.old.texts.end (state_of self.old) strength text.now) }
     {
-        let (target, behind) = self.texts.read_plain(text)?;
-        match self.texts.read_expansion(behind) {
+        let (target, tail) = self.texts.read_plain(text)?;
+        match self.texts.read_expansion(tail) {
             Ok((expansion, rest)) => {
                 let here = place_of(self.texts.end, rest);
                 let place = place_of(self.texts.end, text);
@@ -347,23 +347,23 @@ impl<'a, A: Allocator + Copy, T: Allocator> Reader<'a, A, T> {
 }
 
 /// The strength that a bracket after `&` asks for, if there is one, and the characters where the anchor begins.
-fn behind_ampersand<'c>(
+fn after_ampersand<'c>(
     characters: &'c [Character],
 ) -> Result<(Option<Strength>, &'c [Character]), RuleFault>
     requires { first_code characters.now ≡ Characters.ampersand }
     ensures found { IfOk result (λ found. IsAnchorDue characters.now found.0 found.1.now) }
     ensures fault { IfErr result (λ fault. (fault.kind ≡ RuleFaultKind.Syntax) × IsWrongBracket characters.now fault.byte) }
 {
-    let behind = behind_gaps(&characters[1..]);
-    match behind.first() {
-        Some(c) if c.code == '[' => match bracket_at(behind) {
-            Some(strength) => Ok((Some(strength), behind_gaps(&behind[BRACKET_LENGTH..]))),
+    let after = after_gaps(&characters[1..]);
+    match after.first() {
+        Some(c) if c.code == '[' => match bracket_at(after) {
+            Some(strength) => Ok((Some(strength), after_gaps(&after[BRACKET_LENGTH..]))),
             None => Err(RuleFault {
                 byte: c.place,
                 kind: RuleFaultKind::Syntax,
             }),
         },
-        _ => Ok((None, behind)),
+        _ => Ok((None, after)),
     }
 }
 
@@ -379,7 +379,7 @@ fn sign_of_relation<'c>(
     characters: &'c [Character],
 ) -> Result<Sign<'c>, RuleFault>
     requires sign { (first_code characters.now ≡ Characters.less_than) ⊎ (first_code characters.now ≡ Characters.equals_sign) }
-    requires behind { last ≢ Preceding.Nothing }
+    requires after { last ≢ Preceding.Nothing }
     ensures found { IfOk result (λ sign. (Statements.sign_at characters.now ≡ Some (sign_view sign)) × MayFollow last (Signs sign.strength) × (count ≢ 5000)) }
     ensures fault { IfErr result (λ fault. (end : ℕ) → StatementCause end last count characters.now fault.byte fault.kind) }
 {

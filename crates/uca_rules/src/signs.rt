@@ -52,7 +52,7 @@ pub(crate) fn sign_at<'a>(characters: &'a [Character]) -> Option<Sign<'a>>
 /// How many `<` come at the front.
 fn count_less(characters: &[Character]) -> usize
     ensures count { result ≡ Statements.count_less characters.now }
-    ensures behind { drop result characters.now ≡ Statements.behind_less characters.now }
+    ensures after { drop result characters.now ≡ Statements.after_less characters.now }
     ensures within { result ≤ length characters.now }
 {
     let mut count = 0;

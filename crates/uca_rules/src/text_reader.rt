@@ -9,7 +9,7 @@ ghost use Rattle.uca_rules.specs.Statements.{BeginsExpansion, IsExpansionDue, Is
 ghost use Rattle.uca_rules.specs.Views.{IsTextFault};
 ghost use Rattle.uca_rules.specs.Reading.{AreTextsOf, IsNoRuleText, IsTextOf, Keeps, properties_in};
 
-use crate::characters::{Character, Symbol, behind_gaps};
+use crate::characters::{Character, Symbol, after_gaps};
 use crate::faults::{RuleFault, RuleFaultKind};
 use crate::texts::{place_of, read_text, rule_text};
 use std::alloc::{Allocator, Global};
@@ -86,7 +86,7 @@ impl<'a, A: Allocator + Copy, T: Allocator> TextReader<'a, A, T> {
         ensures found { IfOk result (λ found. (written : Option Written) × BeginsExpansion characters.now written found.1.now × AreTextsOf (properties_in self.old) written found.0) }
         ensures fault { IfErr result (λ fault. (text : List Character) × IsExpansionDue characters.now text × IsTextFault self.old.end false text fault) }
     {
-        let Some(text) = behind_slash(characters) else {
+        let Some(text) = after_slash(characters) else {
             return Ok((None, characters));
         };
         match self.read_plain(text) {
@@ -115,12 +115,12 @@ impl<'a, A: Allocator + Copy, T: Allocator> TextReader<'a, A, T> {
 }
 
 /// The characters where an expansion begins: those after a target and `/`, if there is a `/`.
-fn behind_slash(characters: &[Character]) -> Option<&[Character]>
-    ensures { MatchOption result (IsNotAt Characters.slash (Characters.behind_gaps characters.now)) (λ text. IsExpansionDue characters.now text.now) }
+fn after_slash(characters: &[Character]) -> Option<&[Character]>
+    ensures { MatchOption result (IsNotAt Characters.slash (Characters.after_gaps characters.now)) (λ text. IsExpansionDue characters.now text.now) }
 {
-    let behind = behind_gaps(characters);
-    match behind.first() {
-        Some(c) if c.code == '/' => Some(behind_gaps(&behind[1..])),
+    let after = after_gaps(characters);
+    match after.first() {
+        Some(c) if c.code == '/' => Some(after_gaps(&after[1..])),
         _ => None,
     }
 }

@@ -58,7 +58,7 @@ pub(crate) fn read_text<'a, A: Allocator>(
                 kind: RuleFaultKind::Memory,
             }),
             Ok(None) => return Err(broken(&symbols[..count], rest, starred)),
-            Ok(Some(behind)) => rest = behind,
+            Ok(Some(after)) => rest = after,
         }
         if starred {
             test_hyphens(symbols, count)?;

@@ -20,8 +20,8 @@ pub record FirstLine (bytes : List ℕ) : Type 0 where
   pub lines : lines_of bytes ≡ line ∷ later
   pub long : length line ≡ position_or_len is_lf bytes
 
-behind_lf : (b : ℕ) (bytes : List ℕ) → is_lf b ≡ true → FirstLine (b ∷ bytes)
-behind_lf b bytes h = record { line = []; later = lines_of bytes; lines = rw h refl; long = rw h refl }
+after_lf : (b : ℕ) (bytes : List ℕ) → is_lf b ≡ true → FirstLine (b ∷ bytes)
+after_lf b bytes h = record { line = []; later = lines_of bytes; lines = rw h refl; long = rw h refl }
 
 onto_line : (b : ℕ) (bytes : List ℕ) → is_lf b ≡ false → FirstLine bytes → FirstLine (b ∷ bytes)
 onto_line b bytes h f = record {
@@ -35,10 +35,10 @@ alone : (b : ℕ) → is_lf b ≡ false → FirstLine (b ∷ [])
 alone b h = record { line = b ∷ []; later = []; lines = rw h refl; long = rw h refl }
 
 pub first_line : (b : ℕ) (bytes : List ℕ) → FirstLine (b ∷ bytes)
-first_line b [] = elim (is_lf b) as (λ v. is_lf b ≡ v → FirstLine (b ∷ [])) [ true ↦ behind_lf b [] | false ↦ alone b ] refl
+first_line b [] = elim (is_lf b) as (λ v. is_lf b ≡ v → FirstLine (b ∷ [])) [ true ↦ after_lf b [] | false ↦ alone b ] refl
 first_line b (c ∷ bytes) =
     let later = first_line c bytes in
-    elim (is_lf b) as (λ v. is_lf b ≡ v → FirstLine (b ∷ c ∷ bytes)) [ true ↦ behind_lf b (c ∷ bytes) | false ↦ λ h. onto_line b (c ∷ bytes) h later ] refl
+    elim (is_lf b) as (λ v. is_lf b ≡ v → FirstLine (b ∷ c ∷ bytes)) [ true ↦ after_lf b (c ∷ bytes) | false ↦ λ h. onto_line b (c ∷ bytes) h later ] refl
 
 -- bytes are at least one line
 pub some_line : (bytes : List ℕ) → 0 < length bytes → lines_of bytes ≡ [] → ⊥

@@ -12,7 +12,7 @@ use Rattle.uca_run_parts.specs.declared.faults.InputKind.{InputKind}
 use Rattle.uca_run_parts.specs.declared.faults.InputKind.TheVariants.{Utf8, TooLong, LongRun, Read, Limit, Memory}
 use Rattle.uca_run_parts.specs.Input.{cause_of, clean_from}
 use Rattle.uca_run_parts.specs.LinesSoFar.{IsAfter, IsNext, OnKnown}
-use Rattle.uca_run_parts.specs.Runs.{FailsBehind, HasLineCause, HasCause, IsInputFault}
+use Rattle.uca_run_parts.specs.Runs.{FailsAfter, HasLineCause, HasCause, IsInputFault}
 use Rattle.uca_run_parts.specs.Texts.{HasTextCause, line_kind}
 use Rattle.uca_run_parts.proofs.Causes.{beyond_limit, too_many_bytes}
 use Rattle.uca_run_parts.proofs.LineCuts.{first_line, lines_of-ended, lines_of-last, some_line}
@@ -106,7 +106,7 @@ longer_some (b ∷ bytes) n long = omega arith
 -- reading failed in the middle of a line
 read_failed : (properties : Properties) (bytes xs : List ℕ) (before : List (List ℕ)) (line : List ℕ) (unread : Option (List ℕ))
     → IsAfter properties bytes xs false before → Consumes (Some xs) (prepend_known [] unread) line → Lacks is_lf line → length line ≤ 4194304
-    → IsSomeAnd unread (λ rest. FailsBehind bytes rest before)
+    → IsSomeAnd unread (λ rest. FailsAfter bytes rest before)
 read_failed properties bytes xs before line None a takes lacks short = absurd takes
 read_failed properties bytes xs before line (Some ys) a takes lacks short = record {
   part = line;

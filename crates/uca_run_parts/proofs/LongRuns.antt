@@ -60,8 +60,8 @@ run_earlier class classes place run = record {
 run_here : (class : ℕ) (classes : List ℕ) → begins_with_marks 65 (class ∷ classes) ≡ true → first_long_run (class ∷ classes) ≡ Some 0
 run_here class classes h = rw h refl
 
-run_behind : (class : ℕ) (classes : List ℕ) → begins_with_marks 65 (class ∷ classes) ≡ false → first_long_run (class ∷ classes) ≡ option_map suc (first_long_run classes)
-run_behind class classes h = rw h refl
+run_after : (class : ℕ) (classes : List ℕ) → begins_with_marks 65 (class ∷ classes) ≡ false → first_long_run (class ∷ classes) ≡ option_map suc (first_long_run classes)
+run_after class classes h = rw h refl
 
 not_here : (classes : List ℕ) → (IsLongRun classes 0 → ⊥) → (b : Bool) → begins_with_marks 65 classes ≡ b → b ≡ false
 not_here classes none true h = absurd (none (front_stands classes h))
@@ -76,24 +76,24 @@ first_long_run_is (class ∷ classes) (suc place) first =
       run = run_earlier class classes place first.run;
       first = λ earlier below run. first.first (suc earlier) (omega arith) (run_later class classes earlier run);
     }) in
-    run_behind class classes (not_here (class ∷ classes) (first.first 0 (omega arith)) _ refl) ∙ ap (option_map suc) later
+    run_after class classes (not_here (class ∷ classes) (first.first 0 (omega arith)) _ refl) ∙ ap (option_map suc) later
 
 -- and none where there is none
 pub no_long_run_is : (classes : List ℕ) → HasNoLongRun classes → first_long_run classes ≡ None
 no_long_run_is [] none = refl
 no_long_run_is (class ∷ classes) none =
     let later = no_long_run_is classes (λ place run. none (suc place) (run_later class classes place run)) in
-    run_behind class classes (not_here (class ∷ classes) (none 0) _ refl) ∙ ap (option_map suc) later
+    run_after class classes (not_here (class ∷ classes) (none 0) _ refl) ∙ ap (option_map suc) later
 
 -- where none is found
-none_behind : (found : Option ℕ) → option_map suc found ≡ None → found ≡ None
-none_behind None none = refl
-none_behind (Some place) none = let never : Some (suc place) ≡ None = none in cc
+none_after : (found : Option ℕ) → option_map suc found ≡ None → found ≡ None
+none_after None none = refl
+none_after (Some place) none = let never : Some (suc place) ≡ None = none in cc
 
 none_found : (class : ℕ) (classes : List ℕ) (here : Bool) → begins_with_marks 65 (class ∷ classes) ≡ here → first_long_run (class ∷ classes) ≡ None →
     (here ≡ false) × (first_long_run classes ≡ None)
 none_found class classes true is none = let place : ℕ = 0 in let never : Some place ≡ None = sym (run_here class classes is) ∙ none in cc
-none_found class classes false is none = (refl, none_behind (first_long_run classes) (sym (run_behind class classes is) ∙ none))
+none_found class classes false is none = (refl, none_after (first_long_run classes) (sym (run_after class classes is) ∙ none))
 
 -- there is none
 none_at : (classes : List ℕ) → first_long_run classes ≡ None → (place : ℕ) → IsLongRun classes place → ⊥

@@ -11,7 +11,7 @@ use Rattle.uca_lines.specs.Lines.{ended}
 use Rattle.uca_lines.specs.OutputBuffer.{BufferState}
 use Rattle.uca_lines.specs.Buffered.{HasRoom, HasWrittenThrough}
 use Rattle.uca_lines.proofs.BufferedLemmas.{part, written_none, written_then}
-use Rattle.uca_run_parts.specs.Print.{byte_digits, groups, printed_groups, spaced_groups, spaced_point, identical_level, printed_behind, print_line_at, keyed_line_of}
+use Rattle.uca_run_parts.specs.Print.{byte_digits, groups, printed_groups, spaced_groups, spaced_point, identical_level, printed_after, print_line_at, keyed_line_of}
 
 -- ---- The groups
 
@@ -260,13 +260,13 @@ length-points : (points : List ℕ) → length (flat_map spaced_point points) �
 length-points [] = refl
 length-points (p ∷ points) = omega (arith, length-points points)
 
-length-level : (depth : Depth) (points : List ℕ) → length (printed_behind depth points) ≤ 7 * length points + 5
+length-level : (depth : Depth) (points : List ℕ) → length (printed_after depth points) ≤ 7 * length points + 5
 length-level Weights points = omega arith
 length-level Identical points = omega (arith, length-points points)
 
 pub line_is_short : (depth : Depth) (key points : List ℕ) → length key < 2 ^ 40 → length points ≤ 1048576 → length (print_line_at depth key points) < 2 ^ 42
 line_is_short depth key points short few =
-    let level = printed_behind depth points in
+    let level = printed_after depth points in
     omega (arith, short, few, length-append (printed_groups key) (level ++ 10 ∷ []), length-append level (10 ∷ []), length-groups key, length-level depth points)
 
 -- all groups of a key were written when nothing is left
@@ -279,7 +279,7 @@ all_groups key (a ∷ rest) begin out now buffer held upto none = absurd (omega 
 -- ---- The parts of a line
 
 abbrev pub line_parts : Depth → List ℕ → List ℕ → List (List ℕ)
-line_parts depth key points = printed_groups key ∷ printed_behind depth points ∷ (10 ∷ []) ∷ []
+line_parts depth key points = printed_groups key ∷ printed_after depth points ∷ (10 ∷ []) ∷ []
 
 pub line_is : (depth : Depth) (key points : List ℕ) → print_line_at depth key points ≡ flat_map part (line_parts depth key points)
 line_is depth key points = refl

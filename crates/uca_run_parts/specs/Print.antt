@@ -36,13 +36,13 @@ abbrev pub identical_level : List ℕ → List ℕ
 identical_level points = 32 ∷ 48 ∷ 48 ∷ 48 ∷ 48 ∷ flat_map spaced_point points
 
 -- what is printed after the weights
-abbrev pub printed_behind : Depth → List ℕ → List ℕ
-printed_behind Weights points = []
-printed_behind Identical points = identical_level points
+abbrev pub printed_after : Depth → List ℕ → List ℕ
+printed_after Weights points = []
+printed_after Identical points = identical_level points
 
 -- the line of a text whose weights have this key, and whose code points in Normalization Form D are these
 abbrev pub print_line_at : Depth → List ℕ → List ℕ → List ℕ
-print_line_at depth key points = printed_groups key ++ (printed_behind depth points ++ 10 ∷ [])
+print_line_at depth key points = printed_groups key ++ (printed_after depth points ++ 10 ∷ [])
 
 -- a key before a line: the digits of the key without spaces, a tab, the line, and LF
 abbrev pub keyed_line_of : List ℕ → List ℕ → List ℕ

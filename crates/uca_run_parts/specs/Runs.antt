@@ -13,7 +13,7 @@ use Rattle.uca_run_parts.specs.Input.{cause_of, clean_lines, is_input_read_kind,
 -- ---- The input
 
 -- Reading failed: the bytes are these lines, each ended by an LF, then a part without LF, and what the source has left.
-pub record FailsBehind (bytes left : List ℕ) (before : List (List ℕ)) : Type 0 where
+pub record FailsAfter (bytes left : List ℕ) (before : List (List ℕ)) : Type 0 where
   pub part : List ℕ
   pub parts : bytes ≡ flat_map ended before ++ (part ++ left)
   pub lacks : Lacks is_lf part
@@ -32,7 +32,7 @@ HasCause properties bytes left before rest Utf8 = HasLineCause properties before
 HasCause properties bytes left before rest TooLong = HasLineCause properties before rest TooLong
 HasCause properties bytes left before rest (LongRun place) = HasLineCause properties before rest (LongRun place)
 HasCause properties bytes left before rest Limit = HasLineCause properties before rest Limit
-HasCause properties bytes left before rest Read = IsSomeAnd left (λ unread. FailsBehind bytes unread before)
+HasCause properties bytes left before rest Read = IsSomeAnd left (λ unread. FailsAfter bytes unread before)
 HasCause properties bytes left before rest InputMemory = rest ≢ []
 
 -- An error at line `number`: the lines before it have no error, and it has this cause.

@@ -4,7 +4,7 @@ ghost use Rattle.std.specs.Prelude.{◌≡◌, ◌≤◌, length};
 ghost use Rattle.std.specs.List.{flat_map};
 ghost use Rattle.uca_lines.specs.Buffered.{HasRoom, WritesThrough};
 ghost use Rattle.uca_run_parts.specs.Print;
-ghost use Rattle.uca_run_parts.specs.Print.{byte_digits, printed_groups, spaced_groups, printed_behind, print_line_at, keyed_line_of};
+ghost use Rattle.uca_run_parts.specs.Print.{byte_digits, printed_groups, spaced_groups, printed_after, print_line_at, keyed_line_of};
 
 use crate::output::write_line;
 use std::io::Write;
@@ -108,8 +108,8 @@ fn write_level<W: Write>(
     depth: Depth,
     points: &[char],
 ) -> Result<(), WriteFault>
-    requires { HasRoom buffer.old (length (printed_behind depth points.now)) }
-    ensures { WritesThrough (printed_behind depth points.now) buffer.old buffer.new out.old out.new result }
+    requires { HasRoom buffer.old (length (printed_after depth points.now)) }
+    ensures { WritesThrough (printed_after depth points.now) buffer.old buffer.new out.old out.new result }
 {
     match depth {
         Depth::Weights => Ok(()),

@@ -9,7 +9,7 @@ use Rattle.uca_weights.specs.declared.Weighting.{Weighting}
 use Rattle.uca_weights.specs.declared.Weighting.TheVariants.{NonIgnorable, Shifted}
 use Rattle.uca_weights.specs.Levels.{weight, level_of}
 use Rattle.uca_values.specs.Implicit.{implicit}
-use Rattle.uca_text.specs.Texts.{NfdText, code_points, letters_of}
+use Rattle.uca_text.specs.Texts.{NfdText, code_points, classed}
 use Rattle.uca_rules.specs.declared.relations.Relation.{Relation}
 use Rattle.uca_rules.specs.Relations.{IsRuleText, HasRuleTexts}
 use Rattle.uca_elements.specs.Rows.{rows_of}
@@ -34,8 +34,8 @@ use Rattle.uca_tailorings.proofs.Shifting.{placed_not_variable, shifted_stands}
 pub key_reads : (tailoring : Tailoring) (text : NfdText) (row : List Element) → IsRuleText text → rows_of tailoring.tailored.rows text.points ≡ Some row →
     elements_of (tailored_reading tailoring) text ≡ row
 key_reads tailoring text row is found =
-    let points : code_points (letters_of text) ≡ text.points = points_of_text text is.normal in
-    key_reads_as_row (implicit tailoring.tailored.header.ranges tailoring.properties) (rows_of tailoring.tailored.rows) (letters_of text) row
+    let points : code_points (classed text) ≡ text.points = points_of_text text is.normal in
+    key_reads_as_row (implicit tailoring.tailored.header.ranges tailoring.properties) (rows_of tailoring.tailored.rows) (classed text) row
     (λ empty. is.some (sym points ∙ ap code_points empty)) (ap (rows_of tailoring.tailored.rows) points ∙ found)
 
 -- so does the target of each relation

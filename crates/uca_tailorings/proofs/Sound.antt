@@ -12,7 +12,7 @@ use Rattle.uca_values.specs.Content.{Entry}
 use Rattle.uca_values.specs.Implicit.{implicit_pair, implicit}
 use Rattle.uca_check.specs.WellFormed.{HasGap, MeetsWF1, MeetsWF2, IsWellFormed}
 use Rattle.uca_weights.proofs.Lists.{each_weaker}
-use Rattle.uca_text.specs.Texts.{NfdText, letters_of}
+use Rattle.uca_text.specs.Texts.{NfdText, classed}
 use Rattle.uca_text.specs.Limits.{IsNormal}
 use Rattle.uca_elements.specs.Rows.{rows_of}
 use Rattle.uca_elements.specs.Collations.{elements_of}
@@ -74,7 +74,7 @@ sound_elements tailoring is well text normal =
     (λ c scalar. each_pair (AllByRecursion IsSound) sound_pair tailoring.tailored.header.ranges tailoring.properties is.tailored.header.ranges c
     (scalar_below c scalar))
     text.points normal.scalars in
-    read_each IsSound of_point (rows_of tailoring.tailored.rows) (letters_of text)
+    read_each IsSound of_point (rows_of tailoring.tailored.rows) (classed text)
     (λ key row occurs found. sound_row tailoring.properties.class tailoring.tailored.rows well key row found)
     (subst (AllByRecursion (λ c. AllByRecursion IsSound (of_point c))) (sym (points_of_text text normal)) points)
 

@@ -7,7 +7,7 @@ use Rattle.std.specs.Char.{IsScalar}
 use Rattle.uca_weights.specs.declared.Element.{Element}
 use Rattle.uca_values.specs.Implicit.{implicit}
 use Rattle.uca_weights.proofs.Lists.{each_weaker}
-use Rattle.uca_text.specs.Texts.{NfdText, code_points, letters_of}
+use Rattle.uca_text.specs.Texts.{NfdText, code_points, classed}
 use Rattle.uca_text.specs.Occurring.{OccursInOrder}
 use Rattle.uca_rules.specs.declared.relations.Relation.{Relation}
 use Rattle.uca_rules.specs.Relations.{IsTarget, IsUntouched, IsRuleText, HasRuleTexts}
@@ -66,7 +66,7 @@ module _ (P : Element → Type 0) (tailoring : Tailoring) (is : IsTailoring tail
       (¬ (IsTarget earlier text.points) → IsUntouched later text.points) → AllByRecursion P (elements_of (tailored_reading tailoring) text)
   each_of_text earlier later whole known text rule_text untouched =
       let of_point = implicit tailoring.tailored.header.ranges tailoring.properties in
-      let points : code_points (letters_of text) ≡ text.points = points_of_text text rule_text.normal in
+      let points : code_points (classed text) ≡ text.points = points_of_text text rule_text.normal in
       let implicit_hold = each_weaker IsScalar (λ c. AllByRecursion P (of_point c)) (λ c scalar. at_points c (scalar_below c scalar))
       text.points rule_text.normal.scalars in
       ⊎_elim
@@ -77,7 +77,7 @@ module _ (P : Element → Type 0) (tailoring : Tailoring) (is : IsTailoring tail
       (target_is_key tailoring tailoring.relations text.points (accepted RowMissing).1 whole_target) in
       subst (AllByRecursion P) (sym (key_reads tailoring text found.0 rule_text found.1)) (known text.points found.0 target found.1))
       (λ free.
-      read_each P of_point (rows_of tailoring.tailored.rows) (letters_of text)
+      read_each P of_point (rows_of tailoring.tailored.rows) (classed text)
       (λ key row occurs found.
       let within : OccursInOrder key text.points = subst (OccursInOrder key) points occurs in
       ⊎_elim

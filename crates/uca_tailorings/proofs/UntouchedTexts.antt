@@ -9,7 +9,7 @@ use Rattle.uca_weights.specs.declared.Weighting.TheVariants.{NonIgnorable, Shift
 use Rattle.uca_values.specs.Content.{HeaderContent}
 use Rattle.uca_values.specs.Implicit.{implicit}
 use Rattle.uca_weights.proofs.Lists.{each_weaker}
-use Rattle.uca_text.specs.Texts.{NfdText, letters, letters_of, code_points}
+use Rattle.uca_text.specs.Texts.{NfdText, with_classes, classed, code_points}
 use Rattle.uca_text.specs.Limits.{IsNormal}
 use Rattle.uca_text.specs.Occurring.{OccursInOrder}
 use Rattle.uca_text.proofs.Occurring.{occurs_trans, each_occurring}
@@ -42,7 +42,7 @@ no_target (r ∷ relations) key text untouched occurs target =
     target
 
 -- the code points of a text's letters
-pub letters_occur : (points classes : List ℕ) → OccursInOrder (code_points (letters points classes)) points
+pub letters_occur : (points classes : List ℕ) → OccursInOrder (code_points (with_classes points classes)) points
 letters_occur [] classes = tt
 letters_occur (c ∷ points) [] = tt
 letters_occur (c ∷ points) (k ∷ classes) = inl (refl, letters_occur points classes)
@@ -53,13 +53,13 @@ pub images_read : (tailoring : Tailoring) → IsTailoring tailoring → IsAccept
     AreImages tailoring.maps (elements_of (base_reading tailoring) text) (elements_of (tailored_reading tailoring) text)
 images_read tailoring is accepted text normal untouched =
     read_related (AreImages tailoring.maps) tt (images-append tailoring.maps) old (new tailoring.tailored.header) (rows_of tailoring.base.rows)
-    (rows_of tailoring.tailored.rows) (letters_of text)
+    (rows_of tailoring.tailored.rows) (classed text)
     (record {
       at_keys = λ key occurs.
           row_kept tailoring accepted key
-          (no_target tailoring.relations key text.points untouched (occurs_trans key (code_points (letters_of text)) text.points occurs points));
+          (no_target tailoring.relations key text.points untouched (occurs_trans key (code_points (classed text)) text.points occurs points));
       at_points =
-          each_occurring (λ c. AreImages tailoring.maps (old c) (new tailoring.tailored.header c)) (code_points (letters_of text)) text.points points
+          each_occurring (λ c. AreImages tailoring.maps (old c) (new tailoring.tailored.header c)) (code_points (classed text)) text.points points
           (each_weaker IsScalar (λ c. AreImages tailoring.maps (old c) (new tailoring.tailored.header c)) own text.points normal.scalars);
     })
   where
@@ -72,7 +72,7 @@ images_read tailoring is accepted text normal untouched =
     new header = implicit header.ranges tailoring.properties
 
     -- the code points of its letters occur in the text
-    points : OccursInOrder (code_points (letters_of text)) text.points
+    points : OccursInOrder (code_points (classed text)) text.points
     points = letters_occur text.points text.classes
 
     -- they are images of each other

@@ -18,7 +18,7 @@ use Rattle.uca_tailorings.specs.Tailorings.{Meets, IsAccepted}
 use Rattle.uca_tailorings.specs.declared.conditions.Condition.TheVariants.{BaseIllFormed, TailoredIllFormed, Header, Uncovered, RowChanged, RowMissing}
 use Rattle.uca_tailorings.specs.declared.conditions.Condition.TheVariants.{RowExtra, Anchor, NotPlaced, NotFresh, NotNearest}
 use Rattle.uca_tailorings.specs.Inputs.{maps_of}
-use Rattle.uca_tailorings.specs.Worked.{a_and_b, x_behind_a, kept_runs, with_x, WorkedTailorings}
+use Rattle.uca_tailorings.specs.Worked.{a_and_b, x_after_a, kept_runs, with_x, WorkedTailorings}
 use Rattle.uca_tailorings.proofs.Members.{only_one}
 use Rattle.uca_tailorings.proofs.WorkedTables.{IsLetterRow, letter_row, letters_table, letters_well_formed}
 use Rattle.uca_tailorings.proofs.WorkedRuns.{kept, moving, maps_rise}
@@ -44,7 +44,7 @@ abbrev key : ℕ → List ℕ
 key point = point ∷ []
 
 -- the rule leaves its own anchor as it is
-anchor_untouched : (text : List ℕ) → IsUsedBy x_behind_a text → IsUntouched (x_behind_a ∷ []) text
+anchor_untouched : (text : List ℕ) → IsUsedBy x_after_a text → IsUntouched (x_after_a ∷ []) text
 anchor_untouched text used = (⊎_elim (λ is. subst (λ t. ¬ (OccursInOrder (key 0x78) t)) (sym is) apart) (λ none. absurd none) used, tt)
   where
     -- the target does not occur in the anchor
@@ -52,14 +52,14 @@ anchor_untouched text used = (⊎_elim (λ is. subst (λ t. ¬ (OccursInOrder (k
     apart occurs = ⊎_elim (λ here. omega (arith, here.0)) (λ later. later) occurs
 
 -- the one rule
-rules : AreRules (x_behind_a ∷ [])
+rules : AreRules (x_after_a ∷ [])
 rules =
     record {
       few = omega arith;
       texts = (record { anchors = letter_text 0x61 refl; targets = letter_text 0x78 refl; expands = tt }, tt);
-      distinct = λ before after r split target. subst (λ relations. IsTarget relations r.target.points) (only_one x_behind_a before r after split).0 target;
+      distinct = λ before after r split target. subst (λ relations. IsTarget relations r.target.points) (only_one x_after_a before r after split).0 target;
       none_late = λ before after r text split used free.
-          let parts = only_one x_behind_a before r after split in
+          let parts = only_one x_after_a before r after split in
           subst₂ (λ (s : Relation) later. IsUntouched (s ∷ later) text) parts.1 (sym parts.2)
           (anchor_untouched text (subst (λ (s : Relation). IsUsedBy s text) (sym parts.1) used));
     }
@@ -95,7 +95,7 @@ a_is_anchor =
     }
 
 -- a greater one puts the target after it
-x_is_placed : (new : ℕ) → 0x1C47 < new → IsPlacedAt (with_x (plain new 0x20 2)) x_behind_a One 0x1C47 new
+x_is_placed : (new : ℕ) → 0x1C47 < new → IsPlacedAt (with_x (plain new 0x20 2)) x_after_a One 0x1C47 new
 x_is_placed new above =
     record {
       strength = refl;
@@ -109,7 +109,7 @@ x_is_placed new above =
     }
 
 -- the row of `x` where it is placed
-placed_row : (e : Element) (level : Level) (old new : ℕ) → IsPlacedAt (with_x e) x_behind_a level old new →
+placed_row : (e : Element) (level : Level) (old new : ℕ) → IsPlacedAt (with_x e) x_after_a level old new →
     (level ≡ One) × (old ≡ 0x1C47) × (e ≡ plain new 0x20 2)
 placed_row e One old new placed =
     let parts = only_one (plain 0x1C47 0x20 2) placed.before placed.last placed.trailing placed.anchor.whole in
@@ -140,14 +140,14 @@ b_weighs e =
 -- ---- Conditions
 
 -- what is placed has the weight 1C48
-placed_weight : (level : Level) (old new : ℕ) → IsPlacedAt (with_x accepted_element) x_behind_a level old new → new ≡ 0x1C48
+placed_weight : (level : Level) (old new : ℕ) → IsPlacedAt (with_x accepted_element) x_after_a level old new → new ≡ 0x1C48
 placed_weight level old new placed = sym (ap (λ (e : Element). e.primary) (placed_row accepted_element level old new placed).2)
 
 -- its weight is new
 fresh : Meets (with_x accepted_element) NotFresh
 fresh before r after split level old new placed =
-    let parts = only_one x_behind_a before r after split in
-    let at_x : IsPlacedAt (with_x accepted_element) x_behind_a level old new =
+    let parts = only_one x_after_a before r after split in
+    let at_x : IsPlacedAt (with_x accepted_element) x_after_a level old new =
     subst (λ (s : Relation). IsPlacedAt (with_x accepted_element) s level old new) (sym parts.1) placed in
     let is_one : level ≡ One = (placed_row accepted_element level old new at_x).0 in
     let is_new : new ≡ 0x1C48 = placed_weight level old new at_x in
@@ -163,8 +163,8 @@ fresh before r after split level old new placed =
 -- and no weight lies between
 nearest : Meets (with_x accepted_element) NotNearest
 nearest before r after split level old new placed =
-    let parts = only_one x_behind_a before r after split in
-    let at_x : IsPlacedAt (with_x accepted_element) x_behind_a level old new =
+    let parts = only_one x_after_a before r after split in
+    let at_x : IsPlacedAt (with_x accepted_element) x_after_a level old new =
     subst (λ (s : Relation). IsPlacedAt (with_x accepted_element) s level old new) (sym parts.1) placed in
     let is_old : old ≡ 0x1C47 = (placed_row accepted_element level old new at_x).1 in
     let is_new : new ≡ 0x1C48 = placed_weight level old new at_x in
@@ -209,9 +209,9 @@ worked =
       is_tailoring = is_tailoring;
       accepted = accepted;
       not_fresh = λ met.
-          (met [] x_behind_a [] refl One 0x1C47 0x1C60 (x_is_placed 0x1C60 (omega arith))).unknown (b_weighs (plain 0x1C60 0x20 2));
+          (met [] x_after_a [] refl One 0x1C47 0x1C60 (x_is_placed 0x1C60 (omega arith))).unknown (b_weighs (plain 0x1C60 0x20 2));
       not_nearest = λ met.
-          (met [] x_behind_a [] refl One 0x1C47 0x1C61 (x_is_placed 0x1C61 (omega arith))).known 0x1C60 (b_weighs (plain 0x1C61 0x20 2))
+          (met [] x_after_a [] refl One 0x1C47 0x1C61 (x_is_placed 0x1C61 (omega arith))).known 0x1C60 (b_weighs (plain 0x1C61 0x20 2))
           (inl (omega arith, omega arith));
       not_placed = λ met.
           let same = (placed_row (plain 0x1C48 0x20 8) One met.0.0 met.0.1 met.0.2).2 in

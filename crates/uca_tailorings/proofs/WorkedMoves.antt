@@ -17,7 +17,7 @@ use Rattle.uca_tailorings.specs.Tailorings.{IsTailoring, IsPlacedAt, IsKnownWeig
 use Rattle.uca_tailorings.specs.declared.conditions.Condition.TheVariants.{BaseIllFormed, TailoredIllFormed, Header, Uncovered, RowChanged, RowMissing}
 use Rattle.uca_tailorings.specs.declared.conditions.Condition.TheVariants.{RowExtra, Anchor, NotPlaced, NotFresh, NotNearest}
 use Rattle.uca_tailorings.specs.Inputs.{maps_of}
-use Rattle.uca_tailorings.specs.Worked.{x_behind_a, four_letters, eight_letters, z_behind_capital_a, y_before_c, w_as_a_and_b}
+use Rattle.uca_tailorings.specs.Worked.{x_after_a, four_letters, eight_letters, z_after_capital_a, y_before_c, w_as_a_and_b}
 use Rattle.uca_tailorings.specs.Worked.{moving_runs, with_moved_b}
 use Rattle.uca_weights.proofs.Lists.{each_parts}
 use Rattle.uca_tailorings.proofs.Parts.{of_part}
@@ -219,7 +219,7 @@ abbrev y_place : Place
 y_place = record { level = One; old = 0x1C60; new = 0x1C5F }
 
 -- each is there
-x_is_placed : IsPlacedAt with_moved_b x_behind_a One 0x1C47 0x1C48
+x_is_placed : IsPlacedAt with_moved_b x_after_a One 0x1C47 0x1C48
 x_is_placed =
     record {
       strength = refl;
@@ -232,7 +232,7 @@ x_is_placed =
       row = refl;
     }
 
-z_is_placed : IsPlacedAt with_moved_b z_behind_capital_a Two 0x20 0x21
+z_is_placed : IsPlacedAt with_moved_b z_after_capital_a Two 0x20 0x21
 z_is_placed =
     record {
       strength = refl;
@@ -281,22 +281,22 @@ known_secondary = known_is with_moved_b (λ v. v ≡ 0x20) Two ((refl, tt), ((re
 -- each new weight is new and nearest
 fresh_and_nearest : AtEachPart (IsFreshAndNearest with_moved_b) [] relations
 fresh_and_nearest = (
-  at_place with_moved_b [] x_behind_a (z_behind_capital_a ∷ y_before_c ∷ w_as_a_and_b ∷ []) [] x_place (Some z_place ∷ Some y_place ∷ None ∷ [])
+  at_place with_moved_b [] x_after_a (z_after_capital_a ∷ y_before_c ∷ w_as_a_and_b ∷ []) [] x_place (Some z_place ∷ Some y_place ∷ None ∷ [])
       tt x_is_placed (z_is_placed, (y_is_placed, (refl, tt))) (λ known. other_primary 0x1C48 refl (known_primary 0x1C48 known))
       (λ none. none)
       (λ new. ⊎_elim (λ z. let no : Two ≡ One = z.0 in absurd cc) (λ later. ⊎_elim (λ y. omega (arith, y.1)) (λ none. none) later) new)
       (omega arith) (inl refl),
   (
-    at_place with_moved_b (x_behind_a ∷ []) z_behind_capital_a (y_before_c ∷ w_as_a_and_b ∷ []) (Some x_place ∷ []) z_place
+    at_place with_moved_b (x_after_a ∷ []) z_after_capital_a (y_before_c ∷ w_as_a_and_b ∷ []) (Some x_place ∷ []) z_place
         (Some y_place ∷ None ∷ []) (x_is_placed, tt) z_is_placed (y_is_placed, (refl, tt)) (λ known. omega (arith, known_secondary 0x21 known))
         (λ new. ⊎_elim (λ x. let no : One ≡ Two = x.0 in absurd cc) (λ none. none) new)
         (λ new. ⊎_elim (λ y. let no : One ≡ Two = y.0 in absurd cc) (λ none. none) new) tt (inl refl),
     (
-      at_place with_moved_b (x_behind_a ∷ z_behind_capital_a ∷ []) y_before_c (w_as_a_and_b ∷ []) (Some x_place ∷ Some z_place ∷ []) y_place
+      at_place with_moved_b (x_after_a ∷ z_after_capital_a ∷ []) y_before_c (w_as_a_and_b ∷ []) (Some x_place ∷ Some z_place ∷ []) y_place
           (None ∷ []) (x_is_placed, (z_is_placed, tt)) y_is_placed (refl, tt) (λ known. other_primary 0x1C5F refl (known_primary 0x1C5F known))
           (λ new. ⊎_elim (λ x. omega (arith, x.1)) (λ later. ⊎_elim (λ z. let no : Two ≡ One = z.0 in absurd cc) (λ none. none) later) new)
           (λ none. none) (omega arith) (inr refl),
-      (at_no_place with_moved_b (x_behind_a ∷ z_behind_capital_a ∷ y_before_c ∷ []) w_as_a_and_b [] refl, tt),
+      (at_no_place with_moved_b (x_after_a ∷ z_after_capital_a ∷ y_before_c ∷ []) w_as_a_and_b [] refl, tt),
     ),
   ),
 )

@@ -68,8 +68,8 @@ abbrev pub a_and_b : List Entry
 a_and_b = row (0x61 ∷ []) (plain 0x1C47 0x20 2) ∷ row (0x62 ∷ []) (plain 0x1C60 0x20 2) ∷ []
 
 -- `&a < x`
-abbrev pub x_behind_a : Relation
-x_behind_a = record { anchor = letter 0x61; before = false; strength = Primary; target = letter 0x78; expansion = None }
+abbrev pub x_after_a : Relation
+x_after_a = record { anchor = letter 0x61; before = false; strength = Primary; target = letter 0x78; expansion = None }
 
 -- no weight moves
 abbrev pub kept_runs : CertificateContent
@@ -85,7 +85,7 @@ with_rows more = record {
   base = record { header = small_header; rows = a_and_b };
   tailored = record { header = small_header; rows = a_and_b ++ more };
   properties = small_properties;
-  relations = x_behind_a ∷ [];
+  relations = x_after_a ∷ [];
   maps = maps_of kept_runs;
 }
 
@@ -114,8 +114,8 @@ eight_letters =
     row (0x7A ∷ []) (plain 0x1C47 0x21 2) ∷ []
 
 -- `&A << z`, whose weight at level 3 becomes that of small letters
-abbrev pub z_behind_capital_a : Relation
-z_behind_capital_a = record { anchor = letter 0x41; before = false; strength = Secondary; target = letter 0x7A; expansion = None }
+abbrev pub z_after_capital_a : Relation
+z_after_capital_a = record { anchor = letter 0x41; before = false; strength = Secondary; target = letter 0x7A; expansion = None }
 
 -- `&[before 1] c < y`
 abbrev pub y_before_c : Relation
@@ -138,7 +138,7 @@ with_moved_b = record {
   base = record { header = small_header; rows = four_letters };
   tailored = record { header = small_header; rows = eight_letters };
   properties = small_properties;
-  relations = x_behind_a ∷ z_behind_capital_a ∷ y_before_c ∷ w_as_a_and_b ∷ [];
+  relations = x_after_a ∷ z_after_capital_a ∷ y_before_c ∷ w_as_a_and_b ∷ [];
   maps = maps_of moving_runs;
 }
 

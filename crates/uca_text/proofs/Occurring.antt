@@ -44,7 +44,7 @@ occurs_take zero xs = tt
 occurs_take (suc n) [] = tt
 occurs_take (suc n) (x ∷ xs) = inl (refl, occurs_take n xs)
 
--- where letters occur, their code points do
+-- where code points with classes occur, the code points occur
 pub occurs_code_points : (s t : Text) → OccursInOrder s t → OccursInOrder (code_points s) (code_points t)
 occurs_code_points [] t h = tt
 occurs_code_points (c ∷ s) [] h = absurd h

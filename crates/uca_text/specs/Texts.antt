@@ -4,26 +4,26 @@ use Rattle.unicode_normalization.specs.Forms.{nfd}
 use Rattle.uca_values.specs.Content.{Properties}
 
 -- a code point and its combining class
-pub record Letter : Type 0 where
+pub record ClassedCodePoint : Type 0 where
   pub code : ℕ
   pub class : ℕ
 
 abbrev pub Text : Type 0
-Text = List Letter
+Text = List ClassedCodePoint
 
 abbrev pub code_points : Text → List ℕ
 code_points [] = []
 code_points (c ∷ t) = c.code ∷ code_points t
 
 -- a starter has class 0; the others are non-starters
-abbrev pub is_starter : Letter → Bool
+abbrev pub is_starter : ClassedCodePoint → Bool
 is_starter c = nat_eq c.class 0
 
 -- code points with their classes
-abbrev pub letters : List ℕ → List ℕ → Text
-letters [] classes = []
-letters (c ∷ points) [] = []
-letters (c ∷ points) (k ∷ classes) = record { code = c; class = k } ∷ letters points classes
+abbrev pub with_classes : List ℕ → List ℕ → Text
+with_classes [] classes = []
+with_classes (c ∷ points) [] = []
+with_classes (c ∷ points) (k ∷ classes) = record { code = c; class = k } ∷ with_classes points classes
 
 -- what a clause sees of a `Normal`: code points, and beside them the class of each (`nfd_text` says that they are in Form D)
 pub record NfdText : Type 0 where
@@ -38,5 +38,5 @@ nfd_text properties points = record { points = nfd points; classes = map propert
 abbrev pub AreCanonicallyEquivalent : List ℕ → List ℕ → Type 0
 AreCanonicallyEquivalent s t = nfd s ≡ nfd t
 
-abbrev pub letters_of : NfdText → Text
-letters_of s = letters s.points s.classes
+abbrev pub classed : NfdText → Text
+classed s = with_classes s.points s.classes

@@ -13,7 +13,7 @@ use Rattle.uca_values.specs.declared.ImplicitRange.{ImplicitRange}
 use Rattle.uca_values.specs.Content.{Entry, TableContent, Properties, Fits, IsEntry, IsTable, AreImplicitRanges}
 use Rattle.uca_values.specs.Implicit.{implicit}
 use Rattle.uca_values.proofs.ImplicitPairs.{each_pair}
-use Rattle.uca_text.specs.Texts.{NfdText, code_points, letters}
+use Rattle.uca_text.specs.Texts.{NfdText, code_points, with_classes}
 use Rattle.uca_text.proofs.Occurring.{each_occurring}
 use Rattle.uca_elements.specs.Rows.{rows_of, same_key}
 use Rattle.uca_elements.specs.Collations.{elements_of}
@@ -52,9 +52,9 @@ implicit_fits ranges properties are c scalar =
 elements_fit : (table : TableContent) (properties : Properties) → IsTable table → (text : NfdText) → AllByRecursion IsScalar text.points →
     AllByRecursion Fits (elements_of (reading_by table properties) text)
 elements_fit table properties is text scalars =
-    read_each Fits (implicit table.header.ranges properties) (rows_of table.rows) (letters text.points text.classes)
+    read_each Fits (implicit table.header.ranges properties) (rows_of table.rows) (with_classes text.points text.classes)
     (λ key row occurs found. row_fits table.rows key row is.rows.entries found)
-    (each_occurring (λ c. AllByRecursion Fits (implicit table.header.ranges properties c)) (code_points (letters text.points text.classes)) text.points
+    (each_occurring (λ c. AllByRecursion Fits (implicit table.header.ranges properties c)) (code_points (with_classes text.points text.classes)) text.points
     (letters_occur text.points text.classes) (each_implicit text.points scalars))
   where
     each_implicit : (points : List ℕ) → AllByRecursion IsScalar points → AllByRecursion (λ c. AllByRecursion Fits (implicit table.header.ranges properties c)) points

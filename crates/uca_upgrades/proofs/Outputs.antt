@@ -11,7 +11,7 @@ use Rattle.uca_text.specs.Texts.{nfd_text}
 use Rattle.uca_elements.specs.Collations.{elements_of}
 use Rattle.uca_order.specs.Levels.{key_bytes}
 use Rattle.uca_order.specs.Depths.{point_bytes}
-use Rattle.uca_run_parts.specs.Print.{byte_digits, groups, printed_behind, printed_groups, spaced_point}
+use Rattle.uca_run_parts.specs.Print.{byte_digits, groups, printed_after, printed_groups, spaced_point}
 use Rattle.uca_run_parts.proofs.LineCuts.{lines_of-ended}
 use Rattle.uca_rekey.specs.RekeyRun.{AreRekeyed}
 use Rattle.uca_rekey.specs.RekeyedLines.{rekeyed_by}
@@ -42,15 +42,15 @@ points_lack : (points : List ℕ) → Lacks is_lf (flat_map spaced_point points)
 points_lack [] = tt
 points_lack (c ∷ points) = Lacks-append is_lf (spaced_point c) (flat_map spaced_point points) (refl, digits_lack (point_bytes c)) (points_lack points)
 
-behind_lacks : (depth : Depth) (points : List ℕ) → Lacks is_lf (printed_behind depth points)
-behind_lacks Weights points = tt
-behind_lacks Identical points = (refl, (refl, (refl, (refl, (refl, points_lack points)))))
+after_lacks : (depth : Depth) (points : List ℕ) → Lacks is_lf (printed_after depth points)
+after_lacks Weights points = tt
+after_lacks Identical points = (refl, (refl, (refl, (refl, (refl, points_lack points)))))
 
 -- the line of a key alone
-printed_lacks : (depth : Depth) (key points : List ℕ) → Lacks is_lf (printed_groups key ++ printed_behind depth points)
+printed_lacks : (depth : Depth) (key points : List ℕ) → Lacks is_lf (printed_groups key ++ printed_after depth points)
 unfolding printed_groups
 printed_lacks depth key points =
-    Lacks-append is_lf (printed_groups key) (printed_behind depth points) (joined_lack (groups key) (groups_lack key)) (behind_lacks depth points)
+    Lacks-append is_lf (printed_groups key) (printed_after depth points) (joined_lack (groups key) (groups_lack key)) (after_lacks depth points)
 
 -- and the lines of an input
 first_lacks : (byte : ℕ) (lines : List (List ℕ)) → is_lf byte ≡ false → AllByRecursion (Lacks is_lf) lines → AllByRecursion (Lacks is_lf) (onto_first byte lines)
@@ -104,7 +104,7 @@ output_rekeyed moved old_bytes old new_bytes new old_prints new_prints lines lac
 pub printed_body : KeySettings → List ℕ → List ℕ
 printed_body c line =
     let text = nfd_text c.collation.properties (chars line) in
-    printed_groups (key_bytes c.weighting (elements_of c.collation text)) ++ printed_behind c.depth text.points
+    printed_groups (key_bytes c.weighting (elements_of c.collation text)) ++ printed_after c.depth text.points
 
 pub keyed_body : KeySettings → List ℕ → List ℕ
 keyed_body c line = flat_map byte_digits (line_key c line) ++ 9 ∷ line
@@ -113,7 +113,7 @@ pub printed_is : (c : KeySettings) → Prints (printed_key c) (printed_body c)
 unfolding printed_body
 printed_is c line =
     let text = nfd_text c.collation.properties (chars line) in
-    sym (append_assoc (printed_groups (key_bytes c.weighting (elements_of c.collation text))) (printed_behind c.depth text.points) (10 ∷ []))
+    sym (append_assoc (printed_groups (key_bytes c.weighting (elements_of c.collation text))) (printed_after c.depth text.points) (10 ∷ []))
 
 pub keyed_is : (c : KeySettings) → Prints (keyed_line c) (keyed_body c)
 unfolding keyed_body

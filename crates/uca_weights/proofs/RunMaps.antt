@@ -45,17 +45,17 @@ AreRunsFrom end from to (r ∷ runs) =
     (from ≤ r.from) × (to ≤ r.to) × (r.from + r.count ≤ end) × (r.to + r.count ≤ end) × AreRunsFrom end (r.from + r.count) (r.to + r.count) runs
 
 -- rising runs after a run lie above it
-pub runs_behind : (level : Level) (s : Run) (runs : List Run)
+pub runs_after : (level : Level) (s : Run) (runs : List Run)
     → AreRising level (Some s) runs → AreRunsFrom (weights_end level) (s.from + s.count) (s.to + s.count) runs
-runs_behind level s [] h = tt
-runs_behind level s (r ∷ runs) h =
-    (h.0.above.0, h.0.above.1, h.0.range.from_end, h.0.range.to_end, runs_behind level r runs h.1)
+runs_after level s [] h = tt
+runs_after level s (r ∷ runs) h =
+    (h.0.above.0, h.0.above.1, h.0.range.from_end, h.0.range.to_end, runs_after level r runs h.1)
 
 -- rising runs leave out 0
 pub runs_from : (level : Level) (runs : List Run) → AreRising level None runs → AreRunsFrom (weights_end level) 1 1 runs
 runs_from level [] h = tt
 runs_from level (r ∷ runs) h =
-    (omega (arith, h.0.range.from_zero), omega (arith, h.0.range.to_zero), h.0.range.from_end, h.0.range.to_end, runs_behind level r runs h.1)
+    (omega (arith, h.0.range.from_zero), omega (arith, h.0.range.to_zero), h.0.range.from_end, h.0.range.to_end, runs_after level r runs h.1)
 
 -- a weight with an image lies between the bounds, and so does its image
 pub run_bounds : (end from to : ℕ) (runs : List Run) (w x : ℕ)

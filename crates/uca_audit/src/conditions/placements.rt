@@ -150,12 +150,12 @@ fn placed_weight(
         (λ w. row.now ≡ placed level before.now last expansion.now w) }
 {
     let rest = row.strip_prefix(before)?;
-    let (first, behind) = rest.split_first()?;
+    let (first, after) = rest.split_first()?;
     let new = weight(level, *first);
     if !is_same(*first, reweighted(level, new, last)) {
         return None;
     }
-    if !are_same(behind, expansion) {
+    if !are_same(after, expansion) {
         return None;
     }
     Some(new)

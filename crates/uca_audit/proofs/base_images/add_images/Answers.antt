@@ -3,7 +3,7 @@ use Rattle.std.proofs.Common.{take, ap, sym, subst, ◌∙◌, arith}
 use Rattle.std.proofs.lemmas.List.{append-nil, take_all}
 use Rattle.uca_values.specs.Content.{Entry}
 use Rattle.uca_check.specs.WellFormed.{elements_of}
-use Rattle.uca_check.proofs.Elements.{behind_more}
+use Rattle.uca_check.proofs.Elements.{after_more}
 use Rattle.uca_tailorings.specs.Inputs.{maps_of}
 use Rattle.uca_audit.specs.KnownWeights.{HoldsImages}
 use Rattle.uca_audit.proofs.KnownImages.{row_more}
@@ -18,7 +18,7 @@ pub loop-element-preserved : goal.loop-element-preserved
 loop-element-preserved g c =
     let maps = maps_of c.args.images.now in
     subst (λ all. HoldsImages maps all c.add_element.new.known)
-    (behind_more (elements_of (take c.loop-row.row-index c.args.rows.now)) c.deref-element-items.result.now c.loop-element.element-index _ c.loop-element-test.true)
+    (after_more (elements_of (take c.loop-row.row-index c.args.rows.now)) c.deref-element-items.result.now c.loop-element.element-index _ c.loop-element-test.true)
     (c.add_element.ensures _ c.loop-element.invariant)
 
 pub loop-row-preserved : goal.loop-row-preserved

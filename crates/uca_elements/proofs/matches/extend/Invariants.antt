@@ -1,11 +1,11 @@
 use Rattle.std.proofs.Common.{◌-◌, length}
 use Rattle.uca_text.specs.Texts.{Text, code_points}
-use Rattle.uca_elements.specs.Extensions.{IsBehind, IsGoing}
+use Rattle.uca_elements.specs.Extensions.{IsAfter, IsGoing}
 use Rattle.uca_elements.proofs.matches.extend.Given as goal
 
 abbrev pub invariant-loop-i : goal.invariant-loop-i
 invariant-loop-i g l = record {
-  behind : IsBehind l.text l.fn.place l.i l.so_far.next;
+  after : IsAfter l.text l.fn.place l.i l.so_far.next;
   going : (front : Text) → g.K.KeySet.stands_for l.keys l.fn.node (code_points front) →
       IsGoing (g.K.KeySet.stands_for l.keys) (g.K.KeySet.keys l.keys) l.text l.fn.place front l.i l.so_far;
 }

@@ -4,13 +4,13 @@ use Rattle.std.proofs.lemmas.Bool.Decides.{nat_tests}
 use Rattle.uca_text.specs.Texts.{code_points}
 use Rattle.uca_elements.specs.Places.{is_gone}
 use Rattle.uca_elements.specs.Matches.{IsFound}
-use Rattle.uca_elements.proofs.PlaceLemmas.{letter_at}
+use Rattle.uca_elements.proofs.PlaceLemmas.{classed_at}
 use Rattle.uca_elements.proofs.ExtensionSteps.{going_gone, going_skipped, going_taken, lt_covers, lt_covered, blocked, no_key, read_at}
 use Rattle.uca_elements.proofs.matches.extended.Goals as goal
 use Rattle.uca_elements.proofs.matches.extended.Goals.{then-class-so_far-via-then-class-so_far, then-class-so_far-via-else-class-so_far+then-is_removed}
 
 pub returns-then-class-so_far-clause-matched : goal.returns-then-class-so_far-clause-matched
-returns-then-class-so_far-clause-matched g c = λ place front behind going.
+returns-then-class-so_far-clause-matched g c = λ place front after going.
     let s = c.args.text.now in
     let i = c.args.i in
     let so_far = c.args.so_far in
@@ -19,17 +19,17 @@ returns-then-class-so_far-clause-matched g c = λ place front behind going.
       | then-class-so_far-via-then-class-so_far w ↦
           let low : get_or s.classes i 0 ≤ so_far.highest = omega (arith, ap (λ xs. get_or xs i 0) c.classes.ensures.value) in
           ⊎_elim
-          (λ gone. going_gone _ _ s place front i same c.requires.within so_far behind gone going)
-          (λ kept. going_skipped _ _ s place front i same c.requires.within so_far.node so_far.next so_far.highest so_far.highest behind
+          (λ gone. going_gone _ _ s place front i same c.requires.within so_far after gone going)
+          (λ kept. going_skipped _ _ s place front i same c.requires.within so_far.node so_far.next so_far.highest so_far.highest after
           c.requires.non_starter kept (λ key stands. blocked so_far.highest (get_or s.classes i 0) _ low)
           (λ class. lt_covers so_far.highest (get_or s.classes i 0) class low) going)
           (cases_Bool (is_gone so_far.next i))
       | then-class-so_far-via-else-class-so_far+then-is_removed w ↦
-          going_gone _ _ s place front i same c.requires.within so_far behind (sym w.is_removed.ensures ∙ w.if-is_removed.true) going
+          going_gone _ _ s place front i same c.requires.within so_far after (sym w.is_removed.ensures ∙ w.if-is_removed.true) going
     ]
 
 pub returns-in-Some-clause-matched : goal.returns-in-Some-clause-matched
-returns-in-Some-clause-matched g c = λ place front behind going.
+returns-in-Some-clause-matched g c = λ place front after going.
     let s = c.args.text.now in
     let i = c.args.i in
     let so_far = c.args.so_far in
@@ -37,12 +37,12 @@ returns-in-Some-clause-matched g c = λ place front behind going.
     let free : nat_lt so_far.highest (get_or s.classes i 0) ≡ true = grind (arith, nat_tests) in
     let letter = read_at c.chars.result.now s.points i c.index-chars-i.result c.chars.ensures.value c.requires.within c.index-chars-i.is in
     going_taken _ _ s place front i c.classes.ensures.accepted.same c.requires.within so_far.node so_far.next c.with_removed.result
-    so_far.highest c.in-Some.taken behind c.requires.non_starter (sym c.is_removed.ensures ∙ c.if-is_removed.false) free
+    so_far.highest c.in-Some.taken after c.requires.non_starter (sym c.is_removed.ensures ∙ c.if-is_removed.false) free
     (λ key stands. subst (λ p. IsFound (g.K.KeySet.stands_for c.args.keys.now) (g.K.KeySet.keys c.args.keys.now) (key ++ p ∷ [])
     c.in-Some.taken) letter (c.in-Some.ensures key stands)) c.with_removed.ensures.here c.with_removed.ensures.elsewhere going
 
 pub returns-in-None-clause-matched : goal.returns-in-None-clause-matched
-returns-in-None-clause-matched g c = λ place front behind going.
+returns-in-None-clause-matched g c = λ place front after going.
     let s = c.args.text.now in
     let i = c.args.i in
     let so_far = c.args.so_far in
@@ -51,7 +51,7 @@ returns-in-None-clause-matched g c = λ place front behind going.
     let letter = read_at c.chars.result.now s.points i c.index-chars-i.result c.chars.ensures.value c.requires.within c.index-chars-i.is in
     let keys = g.K.KeySet.keys c.args.keys.now in
     going_skipped _ _ s place front i c.classes.ensures.accepted.same c.requires.within so_far.node so_far.next so_far.highest
-    (get_or c.classes.result.now i 0) behind c.requires.non_starter (sym c.is_removed.ensures ∙ c.if-is_removed.false)
-    (λ key stands. no_key keys key (letter_at s i) (nat_lt so_far.highest (get_or s.classes i 0))
+    (get_or c.classes.result.now i 0) after c.requires.non_starter (sym c.is_removed.ensures ∙ c.if-is_removed.false)
+    (λ key stands. no_key keys key (classed_at s i) (nat_lt so_far.highest (get_or s.classes i 0))
     (ap (λ p. keys (code_points key ++ p ∷ [])) (sym letter) ∙ c.in-None.ensures (code_points key) stands))
     (λ n. lt_covered so_far.highest (get_or s.classes i 0) n high ∙ ap (λ k. nat_lt k n) (sym class)) going

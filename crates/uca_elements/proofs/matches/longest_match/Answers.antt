@@ -50,7 +50,7 @@ loop-i-preserved g c =
           let now = longest_now stands keys s c.args.place c.args.first i c.loop-i.node c.loop-i.best same within kept walked c.in-Some.next
           next some in
           subst (λ best. IsWalked stands keys s c.args.place c.args.first (i + 1) c.in-Some.next best) (sym w.best-is)
-          (on (Some (record { node = c.in-Some.next; behind = i + 1 })) next now)
+          (on (Some (record { node = c.in-Some.next; after = i + 1 })) next now)
       | else-is_key w ↦
           let none : keys longer ≡ false = sym (c.is_key.ensures longer next) ∙ w.if-is_key.false in
           let before = longest_as_before stands keys s c.args.place c.args.first i c.loop-i.node c.loop-i.best same within kept walked none in

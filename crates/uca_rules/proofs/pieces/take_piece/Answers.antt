@@ -8,11 +8,11 @@ use Rattle.uca_rules.proofs.pieces.take_piece.Goals.{else-starred-via-then-starr
 
 pub returns-then-first-eq39 : goal.returns-then-first-eq39
 returns-then-first-eq39 g c =
-    rw (quoted_piece c.args.starred c.args.characters.now c.in-Some.first.now _ c.in-Some.ensures.cases.0 c.if-first-eq39.true) c.behind_apostrophe.ensures
+    rw (quoted_piece c.args.starred c.args.characters.now c.in-Some.first.now _ c.in-Some.ensures.cases.0 c.if-first-eq39.true) c.after_apostrophe.ensures
 
 pub returns-then-first-eq92 : goal.returns-then-first-eq92
 returns-then-first-eq92 g c =
-    rw (escaped_piece c.args.starred c.args.characters.now c.in-Some.first.now _ c.in-Some.ensures.cases.0 c.if-first-eq92.true) c.behind_backslash.ensures
+    rw (escaped_piece c.args.starred c.args.characters.now c.in-Some.first.now _ c.in-Some.ensures.cases.0 c.if-first-eq92.true) c.after_backslash.ensures
 
 pub returns-then-is_plain : goal.returns-then-is_plain
 returns-then-is_plain g c =

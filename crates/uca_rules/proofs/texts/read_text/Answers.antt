@@ -38,27 +38,27 @@ pub returns-in_err-test_hyphens-clause-fault : goal.returns-in_err-test_hyphens-
 returns-in_err-test_hyphens-clause-fault g c =
     let p = err_from_is_err_and c.from_residual-in_err-test_hyphens.result c.from_residual-in_err-test_hyphens.ensures.1 in
     let fault = c.in_err-test_hyphens.ensures.fault in
-    let read = read_more c.args.starred c.args.text.now c.loop-symbols.rest.now c.in-Ok-Some.behind.now c.loop-symbols.symbols.items c.take_piece.new.symbols.items c.loop-symbols.invariant.read (rw c.in-Ok-Some.field-0-is at c.in-Ok-Some.ensures) in
-    rw (p.1, p.2) (inr (hyphen_cause c.args.end c.args.starred c.args.text.now c.in-Ok-Some.behind.now c.take_piece.new.symbols.items c.in_err-test_hyphens.field-0.0.byte c.in_err-test_hyphens.field-0.0.kind c.if-starred.true fault.0 read
+    let read = read_more c.args.starred c.args.text.now c.loop-symbols.rest.now c.in-Ok-Some.after.now c.loop-symbols.symbols.items c.take_piece.new.symbols.items c.loop-symbols.invariant.read (rw c.in-Ok-Some.field-0-is at c.in-Ok-Some.ensures) in
+    rw (p.1, p.2) (inr (hyphen_cause c.args.end c.args.starred c.args.text.now c.in-Ok-Some.after.now c.take_piece.new.symbols.items c.in_err-test_hyphens.field-0.0.byte c.in_err-test_hyphens.field-0.0.kind c.if-starred.true fault.0 read
     (rw c.deref-then-starred.ensures.value at fault.1)))
 
 pub loop-symbols-smaller-in-Continue-branch-2 : goal.loop-symbols-smaller-in-Continue-branch-2
 loop-symbols-smaller-in-Continue-branch-2 g c =
-    takes_shorter c.args.starred c.loop-symbols.rest.now c.in-Ok-Some.behind.now c.loop-symbols.symbols.items c.take_piece.new.symbols.items (rw c.in-Ok-Some.field-0-is at c.in-Ok-Some.ensures)
+    takes_shorter c.args.starred c.loop-symbols.rest.now c.in-Ok-Some.after.now c.loop-symbols.symbols.items c.take_piece.new.symbols.items (rw c.in-Ok-Some.field-0-is at c.in-Ok-Some.ensures)
 
 pub loop-symbols-preserved-in-Continue-branch-2 : goal.loop-symbols-preserved-in-Continue-branch-2
 loop-symbols-preserved-in-Continue-branch-2 g c = record {
-  read = read_more c.args.starred c.args.text.now c.loop-symbols.rest.now c.in-Ok-Some.behind.now c.loop-symbols.symbols.items c.take_piece.new.symbols.items c.loop-symbols.invariant.read (rw c.in-Ok-Some.field-0-is at c.in-Ok-Some.ensures);
+  read = read_more c.args.starred c.args.text.now c.loop-symbols.rest.now c.in-Ok-Some.after.now c.loop-symbols.symbols.items c.take_piece.new.symbols.items c.loop-symbols.invariant.read (rw c.in-Ok-Some.field-0-is at c.in-Ok-Some.ensures);
   so_far = λ star. subst HasRangesSoFar c.deref-then-starred.ensures.value c.in_ok-test_hyphens.ensures.found;
 }
 
 pub loop-symbols-smaller : goal.loop-symbols-smaller
 loop-symbols-smaller g c =
-    takes_shorter c.args.starred c.loop-symbols.rest.now c.in-Ok-Some.behind.now c.loop-symbols.symbols.items c.take_piece.new.symbols.items (rw c.in-Ok-Some.field-0-is at c.in-Ok-Some.ensures)
+    takes_shorter c.args.starred c.loop-symbols.rest.now c.in-Ok-Some.after.now c.loop-symbols.symbols.items c.take_piece.new.symbols.items (rw c.in-Ok-Some.field-0-is at c.in-Ok-Some.ensures)
 
 pub loop-symbols-preserved : goal.loop-symbols-preserved
 loop-symbols-preserved g c = record {
-  read = read_more c.args.starred c.args.text.now c.loop-symbols.rest.now c.in-Ok-Some.behind.now c.loop-symbols.symbols.items c.take_piece.new.symbols.items c.loop-symbols.invariant.read (rw c.in-Ok-Some.field-0-is at c.in-Ok-Some.ensures);
+  read = read_more c.args.starred c.args.text.now c.loop-symbols.rest.now c.in-Ok-Some.after.now c.loop-symbols.symbols.items c.take_piece.new.symbols.items c.loop-symbols.invariant.read (rw c.in-Ok-Some.field-0-is at c.in-Ok-Some.ensures);
   so_far = λ star. absurd (false≢true (sym c.if-starred.false ∙ star));
 }
 

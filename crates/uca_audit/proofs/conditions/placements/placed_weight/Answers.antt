@@ -15,5 +15,5 @@ returns c =
     strip_prefix_is (λ a b. search rules) c.args.row.now c.args.before.now (Some c.in_ok-rest.rest) c.in_ok-rest.ensures.cases in
     let first : c.in_ok-first.first.now ≡ reweighted c.args.level c.weight-new.result c.args.last =
     c.is_same.ensures.0 c.if-not-is_same.false ∙ c.reweighted.ensures in
-    let behind : c.in_ok-first.behind.now ≡ c.args.expansion.now = c.are_same.ensures.0 c.if-not-are_same.false in
-    front ∙ ap (λ rest. c.args.before.now ++ rest) (c.in_ok-first.ensures.cases.0 ∙ ap₂ (λ e es. e ∷ es) first behind)
+    let after : c.in_ok-first.after.now ≡ c.args.expansion.now = c.are_same.ensures.0 c.if-not-are_same.false in
+    front ∙ ap (λ rest. c.args.before.now ++ rest) (c.in_ok-first.ensures.cases.0 ∙ ap₂ (λ e es. e ∷ es) first after)

@@ -58,7 +58,7 @@ returns-in_ok-put-in-Ok-clause-added g c =
     c.deref-3.ensures.value c.in-Ok.ensures self.insertions c.args.index
     (given basis self c.deref.result.now c.args.index c.args.relation.now (drafted_with elements draft) rows c.in_ok-draft.ensures) c.put.new.self
     (λ there. c.in_ok-put-in-Ok.ensures.replaced there ∙ ap (slice_set self.rows c.in-Ok.place) c.of_target-row.ensures)
-    (λ past. c.in_ok-put-in-Ok.ensures.behind past ∙ ap (λ last. self.rows ++ last ∷ []) c.of_target-row.ensures)
+    (λ past. c.in_ok-put-in-Ok.ensures.after past ∙ ap (λ last. self.rows ++ last ∷ []) c.of_target-row.ensures)
     c.in_ok-put-in-Ok.ensures.insertions
 
 pub returns-in-Err-clause-rejected : goal.returns-in-Err-clause-rejected

@@ -5,7 +5,7 @@ use Rattle.uca_rules.specs.declared.characters.Character.{Character}
 use Rattle.uca_rules.specs.declared.reader.Reader.{Reader}
 use Rattle.uca_rules.specs.Statements.{Starred, placed_at}
 use Rattle.uca_rules.specs.Reading.{Adds, HasTargetFault, properties_in, state_of}
-use Rattle.uca_rules.proofs.StarredLemmas.{adds_further, adds_none, fault_within, inside_range, placed_around, placed_more, ready_behind}
+use Rattle.uca_rules.proofs.StarredLemmas.{adds_further, adds_none, fault_within, inside_range, placed_around, placed_more, ready_after}
 use Rattle.uca_rules.proofs.reader.Reader.add_between.Goals as goal
 use Rattle.uca_rules.proofs.reader.Reader.add_between.Goals.{in-Some+in_ok-add_character, in_default}
 
@@ -17,7 +17,7 @@ loop-point-init g c =
     (adds_none c.args.strength c.args.self.now c.requires.ready c.requires.anchored)
 
 pub add_character-requires-clause-ready : goal.add_character-requires-clause-ready
-add_character-requires-clause-ready g c = ready_behind c.loop-point.invariant
+add_character-requires-clause-ready g c = ready_after c.loop-point.invariant
 
 pub add_character-requires-clause-anchored : goal.add_character-requires-clause-anchored
 add_character-requires-clause-anchored g c = c.loop-point.invariant.anchored

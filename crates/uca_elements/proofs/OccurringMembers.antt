@@ -1,11 +1,11 @@
--- The letters at some positions of a text, and those at the others, occur in order in it.
+-- The code points at some positions of a text, and those at the others, occur in order in it.
 use Rattle.std.proofs.Common.{List, [], ◌∷◌, Bool, true, false, inl, refl}
 use Rattle.uca_text.specs.Texts.{Text}
 use Rattle.uca_text.specs.Occurring.{OccursInOrder}
 use Rattle.uca_text.proofs.Occurring.{occurs_refl, occurs_more}
 use Rattle.uca_elements.specs.Reading.{members, others}
 
--- the letters at some positions, and those at the others
+-- the code points at some positions, and those at the others
 pub occurs_members : (set : List Bool) (t : Text) → OccursInOrder (members set t) t
 occurs_members [] t = tt
 occurs_members (b ∷ set) [] = tt
