@@ -5,10 +5,11 @@ use crate::streams::Streams;
 use std::alloc::{Allocator, Global};
 use std::test::Fail;
 use uca_certificates::Certificate;
-use uca_cli::{
-    RunFault, report, run_affected_in, run_audit_in, run_check, run_compare_in, run_keyed_lines_in,
-    run_keys_in, run_sort_in, run_tailor_in, write_tailored,
-};
+use uca_reports::report;
+use uca_run_parts::{RunFault, run_affected_in, run_check};
+use uca_runs::{run_compare_in, run_keyed_lines_in, run_keys_in};
+use uca_sort_runs::run_sort_in;
+use uca_tailor_runs::{run_audit_in, run_tailor_in, write_tailored};
 use uca_values::Table;
 use uca_weights::Depth::{Identical, Weights};
 use uca_weights::Weighting::NonIgnorable;
