@@ -141,6 +141,25 @@ uint32_t uca_order(uca_collator *collator, const uint8_t *left, size_t left_leng
 void uca_compare_keys(const uint8_t *left, size_t left_length, const uint8_t *right, size_t right_length, uint8_t levels,
                       uca_comparison *comparison);
 
+/* The fingerprint of what keys are made by. Keep it beside stored keys: two collators of one fingerprint make the same keys. It is
+   the SHA-256 of this text, in which each line ends with a line feed (10):
+
+     uca keys 1
+     unicode 18.0.0
+     weighting shifted
+     depth weights
+     table 64 lower-case hexadecimal digits
+     data 64 lower-case hexadecimal digits
+
+   `unicode` is the edition of the normalization. The weighting is `shifted` or `non-ignorable`; for UCA_BY_TABLE it is that of the
+   table. The depth is `weights` or `identical`. The digits are the SHA-256 of each file. The arguments and the error are those of
+   uca_open.
+
+   UCA_OK: uca_open could open these files, and the 32 bytes at `out` are the fingerprint.
+   UCA_ARGUMENT, UCA_TABLE, UCA_DATA, UCA_MEMORY: `out` is as before. */
+uint32_t uca_fingerprint(const uint8_t *table, size_t table_length, const uint8_t *data, size_t data_length, uint32_t weighting,
+                         uint32_t depth, uint8_t *out, uca_error *error);
+
 /* Gives back all memory of a collator, which is closed then. A closed one stays so. */
 void uca_close(uca_collator *collator);
 
