@@ -258,12 +258,68 @@ static void check_identical(void)
     uca_close(&it);
 }
 
+/* The table with a setting of its own. */
+static const char SET_TABLE[] = "@version 1\n"
+                                "@variable non-ignorable\n"
+                                "0061 ; [.1C47.0020.0002]\n";
+
+/* What sha256sum prints of the text that uca.h states, with what it prints of the two files. */
+static const char BY_TABLE_SUM[] = "70a26bf864ff91484c271425219ed5dc4794165dd5ff03264d35e02b77ae7e8a";
+static const char NON_IGNORABLE_SUM[] = "2e4823e9da09e3f35b2168ef00b2a4697aa2aed8cca5d3f538cc8a9afa18f4a9";
+static const char IDENTICAL_SUM[] = "0bbf7ed9876a0849d4721cb8049560ef1f27c62b00ac13a6c8c01b38798c2f0d";
+static const char SET_SUM[] = "f5bb0c8e567d9026c977cff5d60e7ddd2929639b02ec965bc7d5c69d892044c8";
+static const char SET_SHIFTED_SUM[] = "5cb03c66727ec7b79973dfe3986a569ddb6bb070e7d9fd4c36f2428213bd4b00";
+
+/* The status of a fingerprint. What is written is put into `digits` as hexadecimal digits; nothing written is all `ee`. */
+static uca_status fingerprint_in(char digits[65], const char *table, const char *data, uint32_t weighting, uint32_t depth, uca_error *error)
+{
+    uint8_t out[33];
+    memset(out, 0xEE, sizeof out);
+    *error = (uca_error){7, 7};
+    uca_status status = uca_fingerprint((const uint8_t *)table, strlen(table), (const uint8_t *)data, strlen(data), weighting, depth, out, error);
+    CHECK(out[32] == 0xEE);
+    for (size_t i = 0; i < 32; i++) {
+        snprintf(digits + 2 * i, 3, "%02x", out[i]);
+    }
+    return status;
+}
+
+static bool is_fingerprint(const char *table, uint32_t weighting, uint32_t depth, const char *digits)
+{
+    char found[65];
+    uca_error error;
+    return fingerprint_in(found, table, DATA, weighting, depth, &error) == UCA_OK && strcmp(found, digits) == 0 && error.line == 0 && error.kind == 0;
+}
+
+static bool has_no_fingerprint(const char *table, const char *data, uint32_t weighting, uint32_t depth, uca_status status, uint32_t line, uint32_t kind)
+{
+    char found[65];
+    uca_error error;
+    uca_status given = fingerprint_in(found, table, data, weighting, depth, &error);
+    return given == status && error.line == line && error.kind == kind && strspn(found, "e") == 64;
+}
+
+static void check_fingerprints(void)
+{
+    CHECK(is_fingerprint(TABLE, UCA_BY_TABLE, UCA_WEIGHTS, BY_TABLE_SUM));
+    CHECK(is_fingerprint(TABLE, UCA_SHIFTED, UCA_WEIGHTS, BY_TABLE_SUM));
+    CHECK(is_fingerprint(TABLE, UCA_NON_IGNORABLE, UCA_WEIGHTS, NON_IGNORABLE_SUM));
+    CHECK(is_fingerprint(TABLE, UCA_SHIFTED, UCA_IDENTICAL, IDENTICAL_SUM));
+    CHECK(is_fingerprint(SET_TABLE, UCA_BY_TABLE, UCA_WEIGHTS, SET_SUM));
+    CHECK(is_fingerprint(SET_TABLE, UCA_SHIFTED, UCA_WEIGHTS, SET_SHIFTED_SUM));
+    CHECK(has_no_fingerprint("@version 1\n0061 ; [.1C", "", 0, 0, UCA_TABLE, 2, UCA_KIND_WEIGHT));
+    CHECK(has_no_fingerprint(TABLE, "x\n", 0, 0, UCA_DATA, 1, UCA_KIND_ORDER));
+    CHECK(has_no_fingerprint(TABLE, DATA, 3, 0, UCA_ARGUMENT, 0, UCA_NO_ERROR));
+    CHECK(has_no_fingerprint("", DATA, 0, 2, UCA_ARGUMENT, 0, UCA_NO_ERROR));
+}
+
 int main(void)
 {
     uca_collator it = UCA_CLOSED_COLLATOR;
     uca_error error;
     check_closed();
     check_open();
+    check_fingerprints();
     CHECK(opened(&it, TABLE, DATA, UCA_NON_IGNORABLE, UCA_WEIGHTS, &error) == UCA_OK);
     check_keys(&it);
     check_compare(&it);

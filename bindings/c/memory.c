@@ -47,6 +47,10 @@ static const char TABLE[] = "@version 1\n@implicitweights 17000..18AFF; FB00\n00
 static const char DATA[] = "@data 1\nccc 0301..0301 230\ncore 4E00..9FFF\n";
 static const uint8_t KEY[] = {0x1C, 0x47, 0, 0, 0, 0x20, 0, 0x24, 0, 0, 0, 2, 0, 2};
 
+/* What sha256sum prints of the text that uca.h states, for this table, this data file, the weighting non-ignorable and weights. */
+static const uint8_t FINGERPRINT[] = {0x1A, 0xFD, 0xE2, 0x19, 0x3C, 0x58, 0xB8, 0x0A, 0x69, 0x87, 0x60, 0x37, 0x0F, 0xBE, 0x01, 0x1A,
+                                      0x15, 0x56, 0x69, 0xFF, 0x00, 0xD6, 0x44, 0x0C, 0xF0, 0x61, 0x69, 0x34, 0xA1, 0x6B, 0xA9, 0xE2};
+
 #define BYTES(text) (const uint8_t *)(text), sizeof(text) - 1
 #define CHECK(fact) check((fact), __LINE__, #fact)
 
@@ -68,13 +72,25 @@ static bool can_fail(void)
     return asked >= first_failing && first_failing > 0;
 }
 
-/* Opens, makes a key and compares. Returns whether nothing failed. Each status is OK, or says that memory ran out. */
+/* Whether the fingerprint is made. Else memory ran out, and nothing is written. */
+static bool has_fingerprint(void)
+{
+    uca_error error = {7, 7};
+    uint8_t sum[32] = {0xEE};
+    uint32_t status = uca_fingerprint(BYTES(TABLE), BYTES(DATA), UCA_NON_IGNORABLE, UCA_WEIGHTS, sum, &error);
+    CHECK(status == UCA_OK ? memcmp(sum, FINGERPRINT, sizeof sum) == 0 && error.line == 0 && error.kind == 0
+                           : can_fail() && is_memory(status, &error) && sum[0] == 0xEE && sum[31] == 0);
+    return status == UCA_OK;
+}
+
+/* Makes a fingerprint, opens, makes a key and compares. Returns whether nothing failed. Each status is OK, or says that memory ran out. */
 static bool use(uca_collator *it)
 {
     uca_error error = {7, 7};
     uca_comparison found = {7, 7};
     uint8_t out[64] = {0xEE};
     size_t needed = 7;
+    bool known = has_fingerprint();
     if (!it->is_open) {
         uint32_t status = uca_open(it, BYTES(TABLE), BYTES(DATA), UCA_NON_IGNORABLE, UCA_WEIGHTS, &error);
         CHECK(status == UCA_OK ? it->is_open : can_fail() && is_memory(status, &error) && !it->is_open);
@@ -90,7 +106,7 @@ static bool use(uca_collator *it)
     int32_t order = 7;
     uint32_t third = uca_order(it, BYTES("a\xFF"), BYTES("a\xCC\x81"), &order);
     CHECK(third == UCA_OK ? order == 1 : can_fail() && third == UCA_MEMORY && order == 0);
-    return status == UCA_OK && other == UCA_OK && third == UCA_OK;
+    return known && status == UCA_OK && other == UCA_OK && third == UCA_OK;
 }
 
 /* A use in which these allocations fail, and then one, of the same collator, in which none does. */

@@ -6,8 +6,9 @@ use Rattle.uca_values.specs.Content.{TableContent, Properties}
 use Rattle.uca_values.specs.declared.faults.FaultKind.TheVariants.{Read, Memory}
 use Rattle.uca_values.specs.declared.faults.TableFault.{TableFault}
 use Rattle.uca_owned.specs.Keyings.{Keying}
-use Rattle.uca_owned.specs.Opening.{MeanFiles, Opens, IsOpenCause}
-use Rattle.uca_owned.specs.declared.faults.OpenFault.TheVariants.{Table, Data}
+use Rattle.uca_owned.specs.Opening.{HasFingerprint, MeanFiles, Opens, IsOpenCause}
+use Rattle.uca_owned.specs.declared.faults.OpenFault.{OpenFault}
+use Rattle.uca_owned.specs.declared.faults.OpenFault.TheVariants as faults
 use Rattle.uca_c.specs.Numbers.{weighting_of, depth_of, kind_number}
 use Rattle.uca_c.specs.declared.statuses.TheConstants.{ARGUMENT, TABLE, DATA, MEMORY}
 
@@ -18,6 +19,14 @@ pub record OpensBy (weighting depth : ℕ) (table_bytes data_bytes : List ℕ) (
   pub is_weighting : weighting_of weighting ≡ Some asked
   pub is_depth : depth_of depth ≡ Some at
   pub opens : Opens asked at table_bytes data_bytes k
+
+-- the numbers ask for a weighting and a depth, and this is the fingerprint of what texts are keyed by
+pub record FingerprintsBy (weighting depth : ℕ) (table_bytes data_bytes sum : List ℕ) : Type 0 where
+  pub asked : Option Weighting
+  pub at : Depth
+  pub is_weighting : weighting_of weighting ≡ Some asked
+  pub is_depth : depth_of depth ≡ Some at
+  pub has : HasFingerprint asked at table_bytes data_bytes sum
 
 -- an error in a file, by its line and the number of its kind
 pub record IsFileError (Rejects : TableFault → Type 0) (at number : ℕ) : Type 0 where
@@ -30,12 +39,18 @@ pub record IsFileError (Rejects : TableFault → Type 0) (at number : ℕ) : Typ
 abbrev pub IsNoFileError : ℕ → ℕ → Type 0
 IsNoFileError line kind = (line ≡ 0) × (kind ≡ 0)
 
+-- what a caller is told of an error: its line and the number of its kind, or 0 and 0, and the status
+abbrev pub TellsFault : OpenFault → ℕ → ℕ → ℕ → Type 0
+TellsFault (faults.Table fault) line kind status = (line ≡ fault.line) × (kind ≡ kind_number fault.kind) × (status ≡ TABLE)
+TellsFault (faults.Data fault) line kind status = (line ≡ fault.line) × (kind ≡ kind_number fault.kind) × (status ≡ DATA)
+TellsFault faults.Memory line kind status = (line ≡ 0) × (kind ≡ 0) × (status ≡ MEMORY)
+
 -- why nothing was opened
 abbrev pub IsOpenStatus : ℕ → ℕ → List ℕ → List ℕ → ℕ → ℕ → ℕ → Type 0
 IsOpenStatus weighting depth table_bytes data_bytes line kind status =
     ((status ≡ ARGUMENT) × ((weighting_of weighting ≡ None) ⊎ (depth_of depth ≡ None)) × IsNoFileError line kind)
-    ⊎ ((status ≡ TABLE) × IsFileError (λ fault. IsOpenCause table_bytes data_bytes (Table fault)) line kind)
-    ⊎ ((status ≡ DATA) × IsFileError (λ fault. IsOpenCause table_bytes data_bytes (Data fault)) line kind)
+    ⊎ ((status ≡ TABLE) × IsFileError (λ fault. IsOpenCause table_bytes data_bytes (faults.Table fault)) line kind)
+    ⊎ ((status ≡ DATA) × IsFileError (λ fault. IsOpenCause table_bytes data_bytes (faults.Data fault)) line kind)
     ⊎ ((status ≡ MEMORY) × IsNoFileError line kind)
 
 -- the numbers ask for this weighting and this depth, and the bytes mean this table and these properties

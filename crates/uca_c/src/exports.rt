@@ -7,9 +7,10 @@ ghost use Rattle.uca_values.specs.Content.{TableContent, Properties};
 ghost use Rattle.uca_order.specs.Levels.{lexicographic};
 ghost use Rattle.uca_order.specs.StoredKeys.{stored_level};
 ghost use Rattle.uca_owned.specs.Keyings.{keying, key_of_bytes, bytes_compared};
+ghost use Rattle.uca_owned.specs.Opening.{fingerprint_by};
 ghost use Rattle.uca_owned.specs.Owned.{keying_in};
 ghost use Rattle.uca_c.specs.Numbers.{order_number};
-ghost use Rattle.uca_c.specs.Opened.{Asks, OpensBy, IsNoFileError, IsOpenStatus, IsStopStatus};
+ghost use Rattle.uca_c.specs.Opened.{Asks, FingerprintsBy, OpensBy, IsNoFileError, IsOpenStatus, IsStopStatus};
 ghost use Rattle.uca_c.specs.Results.{WritesKey, IsTooSmall, IsComparison, IsOrderNumber};
 ghost use Rattle.uca_c.specs.Statuses.{IsKeyStatus, IsCompareStatus};
 
@@ -177,6 +178,34 @@ pub extern "C" fn uca_compare_keys(
         order: number_of_order(order),
         level: level.into(),
     };
+}
+
+/// Writes the fingerprint of what keys are made by under the bytes of a table and of a data file at `out`.
+#[unsafe(no_mangle)]
+pub extern "C" fn uca_fingerprint(
+    alloc: Global,
+    table: &[u8],
+    data_file: &[u8],
+    weighting: u32,
+    depth: u32,
+    out: &mut [u8; 32],
+    error: &mut FileError,
+) -> u32
+    ensures ok { result ≡ OK → FingerprintsBy weighting depth table.now data_file.now out.new }
+    ensures only { (asked : Option Weighting) (at : Depth) (meant : TableContent) (properties : Properties) →
+        Asks weighting depth table.now data_file.now asked at meant properties →
+        ((result ≡ OK) × (out.new ≡ fingerprint_by (keying asked at meant properties) table.now data_file.now)) ⊎ IsStopStatus result error.new.kind }
+    ensures unwritten { result ≢ OK → out.new ≡ out.old }
+    ensures no_error { result ≡ OK → IsNoFileError error.new.line error.new.kind }
+    ensures rejected { result ≢ OK → IsOpenStatus weighting depth table.now data_file.now error.new.line error.new.kind result }
+{
+    match work::fingerprint(alloc, table, data_file, weighting, depth, error) {
+        Ok(sum) => {
+            *out = sum;
+            OK
+        }
+        Err(status) => status,
+    }
 }
 
 /// Gives back all memory of a collator, which is closed then. One that is closed stays so.

@@ -5,17 +5,18 @@ ghost use Rattle.uca_weights.specs.declared.Depth.{Depth};
 ghost use Rattle.uca_weights.specs.declared.Weighting.{Weighting};
 ghost use Rattle.uca_values.specs.Content.{TableContent, Properties};
 ghost use Rattle.uca_owned.specs.Keyings.{keying, key_of_bytes, bytes_compared};
+ghost use Rattle.uca_owned.specs.Opening.{fingerprint_by};
 ghost use Rattle.uca_owned.specs.Owned.{keying_in};
 ghost use Rattle.uca_c.specs.Statuses.{IsKeyStatus, IsCompareStatus};
 ghost use Rattle.uca_c.specs.Results.{WritesKey, IsTooSmall, IsComparison, IsOrderNumber};
 ghost use Rattle.uca_c.specs.Numbers.{kind_number};
-ghost use Rattle.uca_c.specs.Opened.{Asks, OpensBy, IsNoFileError, IsOpenStatus, IsStopStatus};
+ghost use Rattle.uca_c.specs.Opened.{Asks, FingerprintsBy, OpensBy, IsNoFileError, IsOpenStatus, IsStopStatus, TellsFault};
 
 use crate::numbers::{asked_depth, asked_weighting, number_of_kind, number_of_order};
 use crate::statuses::{ARGUMENT, DATA, MEMORY, OK, SMALL, TABLE, status_of_text, status_of_texts};
 use crate::structs::{Comparison, FileError};
 use std::alloc::Global;
-use uca_owned::{OpenFault, OwnedCollator};
+use uca_owned::{OpenFault, OwnedCollator, fingerprint_of};
 use uca_values::TableFault;
 
 fn file_error(fault: TableFault) -> FileError
@@ -25,6 +26,26 @@ fn file_error(fault: TableFault) -> FileError
     FileError {
         line: fault.line,
         kind: number_of_kind(fault.kind),
+    }
+}
+
+// Tells where a file is rejected, and why. Returns the status of the call.
+fn tell(fault: OpenFault, error: &mut FileError) -> u32
+    ensures { TellsFault fault error.new.line error.new.kind result }
+{
+    match fault {
+        OpenFault::Table(fault) => {
+            *error = file_error(fault);
+            TABLE
+        }
+        OpenFault::Data(fault) => {
+            *error = file_error(fault);
+            DATA
+        }
+        OpenFault::Memory => {
+            *error = FileError { line: 0, kind: 0 };
+            MEMORY
+        }
     }
 }
 
@@ -53,19 +74,41 @@ pub fn open(
     };
     let opened = match OwnedCollator::open(alloc, table, data_file, asked, depth) {
         Ok(opened) => opened,
-        Err(OpenFault::Table(fault)) => {
-            *error = file_error(fault);
-            return Err(TABLE);
-        }
-        Err(OpenFault::Data(fault)) => {
-            *error = file_error(fault);
-            return Err(DATA);
-        }
-        Err(OpenFault::Memory) => return Err(MEMORY),
+        Err(fault) => return Err(tell(fault, error)),
     };
     match Box::new(alloc, opened) {
         Ok(collator) => Ok(collator),
         Err(_) => Err(MEMORY),
+    }
+}
+
+// The fingerprint of what a collator of these bytes keys texts by, or the status of the call.
+pub fn fingerprint(
+    alloc: Global,
+    table: &[u8],
+    data_file: &[u8],
+    weighting: u32,
+    depth: u32,
+    error: &mut FileError,
+) -> Result<[u8; 32], u32>
+    ensures found { IfOk result (FingerprintsBy weighting depth table.now data_file.now) }
+    ensures only { (asked : Option Weighting) (at : Depth) (meant : TableContent) (properties : Properties) →
+        Asks weighting depth table.now data_file.now asked at meant properties →
+        MatchResult result (λ sum. sum ≡ fingerprint_by (keying asked at meant properties) table.now data_file.now)
+        (λ status. IsStopStatus status error.new.kind) }
+    ensures no_error { OnOk result (IsNoFileError error.new.line error.new.kind) }
+    ensures rejected { IfErr result (IsOpenStatus weighting depth table.now data_file.now error.new.line error.new.kind) }
+{
+    *error = FileError { line: 0, kind: 0 };
+    let Some(asked) = asked_weighting(weighting) else {
+        return Err(ARGUMENT);
+    };
+    let Some(depth) = asked_depth(depth) else {
+        return Err(ARGUMENT);
+    };
+    match fingerprint_of(alloc, table, data_file, asked, depth) {
+        Ok(sum) => Ok(sum),
+        Err(fault) => Err(tell(fault, error)),
     }
 }
 

@@ -7,6 +7,7 @@ use Rattle.uca_values.specs.declared.faults.TableFault.{TableFault}
 use Rattle.uca_lines.specs.FileStops.{IsStop}
 use Rattle.uca_table.specs.TableLines as tables
 use Rattle.uca_table.specs.DataSoFar as data_files
+use Rattle.uca_fingerprint.specs.Fingerprints.{fingerprint}
 use Rattle.uca_owned.specs.Keyings.{Keying, keying}
 use Rattle.uca_owned.specs.declared.faults.OpenFault.{OpenFault}
 use Rattle.uca_owned.specs.declared.faults.OpenFault.TheVariants.{Table, Data, Memory}
@@ -22,6 +23,16 @@ pub record Opens (asked : Option Weighting) (depth : Depth) (table_bytes data_by
   pub properties : Properties
   pub mean : MeanFiles table_bytes data_bytes table properties
   pub same : k ≡ keying asked depth table properties
+
+-- the fingerprint of what texts are keyed by, which the bytes of two files mean
+abbrev pub fingerprint_by : Keying → List ℕ → List ℕ → List ℕ
+fingerprint_by k table_bytes data_bytes = fingerprint k.weighting k.depth table_bytes data_bytes
+
+-- the bytes are a table file and a data file, and this is the fingerprint of what texts are keyed by
+pub record HasFingerprint (asked : Option Weighting) (depth : Depth) (table_bytes data_bytes sum : List ℕ) : Type 0 where
+  pub keys : Keying
+  pub opens : Opens asked depth table_bytes data_bytes keys
+  pub same : sum ≡ fingerprint_by keys table_bytes data_bytes
 
 -- why the bytes of a table file are rejected, whatever is left of them
 abbrev pub RejectsTable : List ℕ → TableFault → Type 0

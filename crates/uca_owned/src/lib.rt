@@ -4,6 +4,7 @@
 
 mod calls;
 mod faults;
+mod fingerprints;
 pub mod laws;
 mod opening;
 mod order;
@@ -11,5 +12,6 @@ mod owned;
 mod owned_key_writer;
 
 pub use faults::{CompareFault, KeyFault, OpenFault};
+pub use fingerprints::fingerprint_of;
 pub use owned::OwnedCollator;
 pub use owned_key_writer::OwnedKeyWriter;

@@ -17,7 +17,7 @@ use uca_values::{Data, Header, PackedTable, Table};
 use uca_weights::{Depth, Source, Weighting};
 
 // The weighting that is asked for, or else that of the table's `@variable`, or else shifted (UTS #10, section 4).
-fn chosen_weighting(asked: Option<Weighting>, header: &Header) -> Weighting
+pub(crate) fn chosen_weighting(asked: Option<Weighting>, header: &Header) -> Weighting
     ensures { result ≡ weighting_by asked header.now.setting }
 {
     asked.or(header.setting).unwrap_or(Weighting::Shifted)

@@ -1,0 +1,40 @@
+-- The fingerprint of what keys are made by: the SHA-256 of a text that names all of it.
+use Rattle.std.specs.Prelude.{ℕ, List, [], ◌∷◌, ◌++◌, codes}
+use Rattle.std.specs.Fmt.{decimal}
+use Rattle.hex.specs.Hex.{encode_lower}
+use Rattle.sha2.specs.Sha256.{sha256}
+use Rattle.uca_weights.specs.declared.Depth.{Depth}
+use Rattle.uca_weights.specs.declared.Depth.TheVariants.{Weights, Identical}
+use Rattle.uca_weights.specs.declared.Weighting.{Weighting}
+use Rattle.uca_weights.specs.WeightingText.{weighting_text}
+
+-- the edition of Unicode by which texts are brought to Normalization Form D
+abbrev pub edition : List ℕ
+edition = codes "18.0.0"
+
+-- a version of three numbers, as it is written
+abbrev pub version_text : ℕ × ℕ × ℕ → List ℕ
+version_text v = decimal v.0 ++ (46 ∷ decimal v.1) ++ (46 ∷ decimal v.2)
+
+-- the name of a depth
+abbrev pub depth_text : Depth → List ℕ
+depth_text Weights = codes "weights"
+depth_text Identical = codes "identical"
+
+-- a line: a name with a blank after it, a value, and LF
+abbrev pub value_line : List ℕ → List ℕ → List ℕ
+value_line name value = name ++ (value ++ 10 ∷ [])
+
+-- what keys are made by, in six lines; files are named by the SHA-256 of their bytes
+unfoldable pub fingerprint_text : Weighting → Depth → List ℕ → List ℕ → List ℕ
+fingerprint_text weighting depth table_sum data_sum =
+    value_line (codes "uca keys ") (codes "1")
+    ++ value_line (codes "unicode ") edition
+    ++ value_line (codes "weighting ") (weighting_text weighting)
+    ++ value_line (codes "depth ") (depth_text depth)
+    ++ value_line (codes "table ") (encode_lower table_sum)
+    ++ value_line (codes "data ") (encode_lower data_sum)
+
+-- the fingerprint of a weighting, a depth, and the bytes of a table and of a data file
+abbrev pub fingerprint : Weighting → Depth → List ℕ → List ℕ → List ℕ
+fingerprint weighting depth table_bytes data_bytes = sha256 (fingerprint_text weighting depth (sha256 table_bytes) (sha256 data_bytes))

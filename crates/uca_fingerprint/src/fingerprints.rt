@@ -1,0 +1,72 @@
+//! The fingerprint of what keys are made by.
+
+ghost use Rattle.std.specs.Prelude.{◌≡◌, ℕ, List, ◌++◌};
+ghost use Rattle.hex.specs.Hex.{encode_lower};
+ghost use Rattle.sha2.specs.Hashers.{Holds256};
+ghost use Rattle.sha2.specs.Sha256.{sha256};
+ghost use Rattle.uca_fingerprint.specs.Fingerprints.{fingerprint, fingerprint_text, value_line};
+
+use crate::texts::{depth_name, edition};
+use hex::encode_to_slice;
+use sha2::{Digest, Sha256};
+use uca_weights::{Depth, Weighting};
+
+/// The SHA-256 of the bytes of a file (FIPS 180-4).
+pub fn sum(bytes: &[u8]) -> [u8; 32]
+    ensures { result ≡ sha256 bytes.now }
+{
+    Sha256::digest(bytes)
+}
+
+// 32 bytes as 64 lower-case hexadecimal digits.
+fn digits(bytes: &[u8; 32]) -> [u8; 64]
+    ensures { result ≡ encode_lower bytes.now }
+{
+    let mut digits = [0u8; 64];
+    let _ = encode_to_slice(bytes, &mut digits);
+    digits
+}
+
+// Adds a line to the text that is hashed.
+fn add_line(hasher: &mut Sha256, name: &str, value: &[u8])
+    ensures { (text : List ℕ) → Holds256 hasher.old text → Holds256 hasher.new (text ++ value_line name.now value.now) }
+{
+    hasher.update(name);
+    hasher.update(value);
+    hasher.update(b"\n");
+}
+
+/// The fingerprint of a weighting, a depth, and two files by the SHA-256 of each: the SHA-256 of a text in six lines.
+///
+/// ```text
+/// uca keys 1
+/// unicode 18.0.0
+/// weighting shifted
+/// depth weights
+/// table 64 lower-case hexadecimal digits
+/// data 64 lower-case hexadecimal digits
+/// ```
+pub fn fingerprint_of_sums(
+    weighting: Weighting,
+    depth: Depth,
+    table: &[u8; 32],
+    data_file: &[u8; 32],
+) -> [u8; 32]
+    ensures { result ≡ sha256 (fingerprint_text weighting depth table.now data_file.now) }
+{
+    let mut hasher = Sha256::new();
+    add_line(&mut hasher, "uca keys ", b"1");
+    add_line(&mut hasher, "unicode ", edition().as_bytes());
+    add_line(&mut hasher, "weighting ", weighting.name().as_bytes());
+    add_line(&mut hasher, "depth ", depth_name(depth).as_bytes());
+    add_line(&mut hasher, "table ", &digits(table));
+    add_line(&mut hasher, "data ", &digits(data_file));
+    hasher.finalize()
+}
+
+/// The fingerprint of a weighting, a depth, and the bytes of a table and of a data file.
+pub fn fingerprint(weighting: Weighting, depth: Depth, table: &[u8], data_file: &[u8]) -> [u8; 32]
+    ensures { result ≡ fingerprint weighting depth table.now data_file.now }
+{
+    fingerprint_of_sums(weighting, depth, &sum(table), &sum(data_file))
+}

@@ -1,0 +1,9 @@
+//! The fingerprint of what keys are made by: 32 bytes that name a table, a data file, a weighting, a depth, and the edition of
+//! the normalization. Two collators of one fingerprint make the same keys.
+#![tactic(auto)]
+
+mod fingerprints;
+mod texts;
+
+pub use fingerprints::{fingerprint, fingerprint_of_sums, sum};
+pub use texts::{depth_name, edition, normalization_version};

@@ -1,0 +1,45 @@
+//! The fingerprint of what texts are keyed by.
+
+ghost use Rattle.std.specs.Prelude.{◌≡◌, IfOk, IfErr, MatchResult};
+ghost use Rattle.uca_values.specs.Content.{TableContent, Properties};
+ghost use Rattle.uca_owned.specs.Keyings.{keying};
+ghost use Rattle.uca_owned.specs.Opening.{HasFingerprint, IsOpenCause, IsOpenStop, MeanFiles, fingerprint_by};
+
+use crate::faults::OpenFault;
+use crate::opening::chosen_weighting;
+use std::alloc::Global;
+use uca_fingerprint::fingerprint;
+use uca_table::{read_data, read_packed_table};
+use uca_weights::{Depth, Source, Weighting};
+
+/// The fingerprint of what [`OwnedCollator::open`](crate::OwnedCollator::open) would key texts by, from the same arguments: of the
+/// bytes of both files, of the weighting that is asked for or else that of the table, and of the depth. It makes no collator.
+///
+/// # Errors
+///
+/// Those of `open`. So there is a fingerprint exactly if there is a collator, where no allocation fails.
+pub fn fingerprint_of(
+    alloc: Global,
+    table: &[u8],
+    data_file: &[u8],
+    asked: Option<Weighting>,
+    depth: Depth,
+) -> Result<[u8; 32], OpenFault>
+    ensures found { IfOk result (HasFingerprint asked depth table.now data_file.now) }
+    ensures only { (meant : TableContent) (properties : Properties) → MeanFiles table.now data_file.now meant properties →
+        MatchResult result (λ sum. sum ≡ fingerprint_by (keying asked depth meant properties) table.now data_file.now) IsOpenStop }
+    ensures fault { IfErr result (IsOpenCause table.now data_file.now) }
+{
+    let read = match read_packed_table(alloc, &mut Source::new(table)) {
+        Ok(read) => read,
+        Err(fault) => return Err(OpenFault::Table(fault)),
+    };
+    let weighting = chosen_weighting(asked, &read.header);
+    drop(read);
+    let properties = match read_data(alloc, &mut Source::new(data_file)) {
+        Ok(properties) => properties,
+        Err(fault) => return Err(OpenFault::Data(fault)),
+    };
+    drop(properties);
+    Ok(fingerprint(weighting, depth, table, data_file))
+}
