@@ -12,8 +12,8 @@ use uca_fingerprint::fingerprint;
 use uca_table::{read_data, read_packed_table};
 use uca_weights::{Depth, Source, Weighting};
 
-/// The fingerprint of what [`OwnedCollator::open`](crate::OwnedCollator::open) would key texts by, from the same arguments: of the
-/// bytes of both files, of the weighting that is asked for or else that of the table, and of the depth. It makes no collator.
+/// The fingerprint of what [`OwnedCollator::open`](crate::OwnedCollator::open) would key texts by, from the same arguments. It names
+/// the bytes of both files, the weighting that is asked for or else that of the table, and the depth. It makes no collator.
 ///
 /// # Errors
 ///
