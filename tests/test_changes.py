@@ -263,6 +263,8 @@ class Rekey(ProgramTest):
             ("", "0000 0000 0000", "0000 0000 0000"),
             ("--weighting non-ignorable", "0000 0000", "0000 0000"),
             ("--identical", "0000 0000 0000 0000", "0000 0000 0000 0000"),
+            # the first and the last code points on both sides of the surrogates
+            ("--identical", "0000 0000 0000 0000 000000 00D7FF 00E000 10FFFF", "0000 0000 0000 0000 000000 00D7FF 00E000 10FFFF"),
             # an implicit weight is its own image
             ("", "FBC0 8001 0000 0020 0000 0002 0000 FFFF FFFF", "FBC0 8001 0000 0020 0000 0002 0000 FFFF FFFF"),
         ]
@@ -297,11 +299,32 @@ class Rekey(ProgramTest):
             ("--weighting non-ignorable", "1C60 0000 0020 0000 0002 0000 FFFF", "NoImage"),
             ("--identical", "1C60 0000 0020 0000 0002 0000 FFFF", "NoImage"),
             ("", "1C60 0000 0020 0000 0002 0000 FF", "NoImage"),
+            # the last code point is cut after one byte or two; surrogates; a number after 10FFFF
+            ("--identical", "1C60 0000 0020 0000 0002 0000 FFFF 0000 00", "NoImage"),
+            ("--identical", "1C60 0000 0020 0000 0002 0000 FFFF 0000 000062 0000", "NoImage"),
+            ("--identical --weighting non-ignorable", "1C60 0000 0020 0000 0002 0000 000062 0000", "NoImage"),
+            ("--identical", "1C60 0000 0020 0000 0002 0000 FFFF 0000 00D800", "NoImage"),
+            ("--identical", "1C60 0000 0020 0000 0002 0000 FFFF 0000 000062 00DFFF", "NoImage"),
+            ("--identical", "1C60 0000 0020 0000 0002 0000 FFFF 0000 110000", "NoImage"),
         ]
         for options, line, kind in cases:
             before = good if options == "" else ""
             ended = {"status": 1, "err": f"input line {2 if before else 1}: {kind}\n"}
             self.expect_keys(options, before + line + "\n" + good, printed if before else "", **ended)
+
+    def test_keys_of_the_other_weighting(self):
+        """A line with one key, and how it was made. 0100 is a weight with an image, and so are the bytes 01 00 of U+10000."""
+        self.write(t=TABLE, d=DATA, c="1 0100 0101 0001\n" + self.MAPS)
+        cases = [
+            ("b", "shifted", "1C60 0000 0020 0000 0002 0000 FFFF 0000 000062"),
+            ("b", "non-ignorable", "1C60 0000 0020 0000 0002 0000 000062"),
+            ("\U00010000a", "non-ignorable", "FBC2 8000 1C47 0000 0020 0020 0000 0002 0002 0000 010000 000061"),
+            ("\U00010000", "shifted", "FBC2 8000 0000 0020 0000 0002 0000 FFFF FFFF 0000 010000"),
+        ]
+        for line, weighting, key in cases:
+            self.expect(["keys", "--identical", "--weighting", weighting, "t", "d"], line, out=key + "\n")
+            other = "shifted" if weighting == "non-ignorable" else "non-ignorable"
+            self.expect_keys("--identical --weighting " + other, key, "", status=1, err="input line 1: NoImage\n")
 
     def test_rejected_certificates(self):
         """Nothing of the input is read."""

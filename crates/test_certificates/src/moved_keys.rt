@@ -36,11 +36,23 @@ const CASES: &str = r"-- no weight moves
 -- no weights
 3 | 0000 0000 | 0000 0000
 4 | 0000 0000 0000 | 0000 0000 0000
--- code points stay: U+1C48 and U+0000, then none, and then a single byte
+-- code points stay: U+1C48 and U+0000, then none, and then U+D7FF, U+E000 and U+10FFFF
 3+ | 1C48 0000 0020 0000 0002 0000 00 1C48 00 0000 | 1C60 0000 0020 0000 0002 0000 00 1C48 00 0000
 4+ | 1C48 0000 0020 0000 0002 0000 FFFF 0000 00 1C48 | 1C60 0000 0020 0000 0002 0000 FFFF 0000 00 1C48
 3+ | 0000 0000 0000 | 0000 0000 0000
-3+ | 0000 0000 0000 1C | 0000 0000 0000 1C
+3+ | 0000 0000 0000 00 D7FF 00 E000 10 FFFF | 0000 0000 0000 00 D7FF 00 E000 10 FFFF
+-- the last code point is cut after one byte or two, then the first and the last surrogate, and a number after U+10FFFF
+3+ | 0000 0000 0000 1C | -
+3+ | 0000 0000 0000 00 1C48 00 | -
+3+ | 0000 0000 0000 00 1C48 00 1C | -
+4+ | 1C48 0000 0020 0000 0002 0000 FFFF 0000 00 1C | -
+3+ | 0000 0000 0000 00 D800 | -
+3+ | 0000 0000 0000 00 1C48 00 DFFF | -
+3+ | 0000 0000 0000 11 0000 | -
+3+ | 0000 0000 0000 FF FFFF | -
+-- a key of the other weighting
+3+ | 1C48 0000 0020 0000 0002 0000 FFFF 0000 00 1C48 | -
+4+ | 1C48 0000 0020 0000 0002 0000 00 1C48 | -
 -- a key that is cut
 3 | . | -
 3 | 1C48 | -

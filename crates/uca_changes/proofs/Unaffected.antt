@@ -97,7 +97,7 @@ module _ (change : Change) (is : IsChange change) (accepted : IsAcceptedChange c
       KeyMoves change.maps (read_text (old_reading change) (nfd_text change.old_properties text)) (read_text (new_reading change) (nfd_text change.new_properties text))
   moves text stays =
       images_move change.maps is.maps (elements_of (old_reading change) (nfd_text change.old_properties text))
-      (elements_of (new_reading change) (nfd_text change.new_properties text)) (nfd text) (images_read text stays)
+      (elements_of (new_reading change) (nfd_text change.new_properties text)) (nfd text) stays.scalars (images_read text stays)
 
   -- so the keys of a store are those under the new reading
   stored_is_new : (depth : Depth) (weighting : Weighting) (text key : List ℕ) →

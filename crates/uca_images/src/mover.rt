@@ -3,7 +3,7 @@
 ghost use Rattle.std.specs.Prelude.{◌≡◌, ℕ, suc, ◌<◌, ◌≤◌, ◌++◌, List, option_map, if◌then◌else◌, IfOk};
 ghost use Rattle.uca_order.specs.Levels as key_levels;
 ghost use Rattle.uca_tailorings.specs.Inputs.{maps_of};
-ghost use Rattle.uca_tailorings.specs.Moves.{after_weights, ended, level_images, moved_key};
+ghost use Rattle.uca_tailorings.specs.Moves.{after_weights, are_points, ended, level_images, moved_key};
 ghost use Rattle.uca_images.specs.ImageTables.{IsImageTable};
 
 use crate::images::{LevelTables, tables_of};
@@ -67,7 +67,8 @@ impl<A: Allocator> KeyMover<A> {
     /// after the levels of weights stay.
     ///
     /// If a weight has no image, or the bytes have too few levels, too many, or a single byte at the end, it returns
-    /// `false`. The bytes are then unspecified.
+    /// `false`. So it does at depth `Identical` if what follows the weights is not whole code points: three bytes each,
+    /// high byte first, each a Unicode scalar value. The bytes are then unspecified.
     pub fn move_key(&self, key: &mut [u8]) -> bool
         ensures { moved_key (maps_of self.now.certificate) self.now.depth self.now.weighting key.old
             ≡ (if result then Some key.new else None) }
@@ -81,7 +82,7 @@ impl<A: Allocator> KeyMover<A> {
                 LevelEnd::Missing => return false,
             }
         }
-        may_have_points(self.depth)
+        may_follow(self.depth, &key[at..])
     }
 
     /// Writes a key that was put through the maps over the bytes that were there, and returns `true`. The memory is used
@@ -139,12 +140,26 @@ fn may_end(depth: Depth, after: usize) -> bool
     }
 }
 
-// Whether code points follow the levels of weights.
-fn may_have_points(depth: Depth) -> bool
-    ensures { (points : List ℕ) → after_weights depth points ≡ (if result then Some points else None) }
+// Whether the bytes may follow the levels of weights.
+fn may_follow(depth: Depth, bytes: &[u8]) -> bool
+    ensures { after_weights depth bytes.now ≡ (if result then Some bytes.now else None) }
 {
     match depth {
         Depth::Weights => false,
-        Depth::Identical => true,
+        Depth::Identical => are_code_points(bytes),
     }
+}
+
+// Whether the bytes are whole code points: three each, high byte first.
+fn are_code_points(bytes: &[u8]) -> bool
+    ensures { result ≡ are_points bytes.now }
+{
+    let mut rest = bytes;
+    while let [high, middle, low, after @ ..] = rest {
+        if char::from_u32(u32::from_be_bytes([0, *high, *middle, *low])).is_none() {
+            return false;
+        }
+        rest = after;
+    }
+    rest.is_empty()
 }

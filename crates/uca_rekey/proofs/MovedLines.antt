@@ -16,7 +16,7 @@ use Rattle.uca_lines.proofs.DigitLemmas.{hex_of-digits}
 use Rattle.uca_order.specs.Levels.{key_bytes, level_count, weight_bytes}
 use Rattle.uca_order.specs.Depths.{ReadText, key_at, point_bytes, points_bytes}
 use Rattle.uca_tailorings.specs.Images.{Maps}
-use Rattle.uca_tailorings.specs.Moves.{KeyMoves, level_images, moved_from, moved_key, weight_before}
+use Rattle.uca_tailorings.specs.Moves.{KeyMoves, are_points, level_images, moved_from, moved_key, weight_before}
 use Rattle.uca_run_parts.specs.Print.{byte_digits, groups, keyed_line_of, print_line_at, printed_after, printed_groups, spaced_point}
 use Rattle.uca_rekey.specs.Laws.{AreBytes, LinesMoveWithKeys}
 use Rattle.uca_rekey.specs.RekeyedLines.{byte_before, bytes_of, digits_of, rekeyed, with_digits, with_key}
@@ -67,7 +67,10 @@ weight_parts (Some w) (Some more) new h = (more, refl, (let same : weight_bytes 
 
 length-moved : (maps : Maps) (depth : Depth) (level more : ℕ) (bytes new : List ℕ) → moved_from maps depth level more bytes ≡ Some new → length new ≡ length bytes
 length-moved maps Weights level zero bytes new h = cc
-length-moved maps Identical level zero bytes new h = (let same : bytes ≡ new = cc in ap length (sym same))
+length-moved maps Identical level zero bytes new h =
+    by_cases (are_points bytes)
+    (λ whole. let kept : Some bytes ≡ Some new = rw whole at h in let same : bytes ≡ new = cc in ap length (sym same))
+    (λ other. let none : None ≡ Some new = rw other at h in cc)
 length-moved maps Weights level (suc zero) [] new h = (let same : [] ≡ new = cc in ap length (sym same))
 length-moved maps Weights level (suc (suc more)) [] new h = cc
 length-moved maps Identical level (suc more) [] new h = cc

@@ -22,7 +22,7 @@ module _ (tailoring : Tailoring) (is : IsTailoring tailoring) (accepted : IsAcce
   moves : (text : NfdText) → IsNormal text → IsUntouched tailoring.relations text.points →
       KeyMoves tailoring.maps (read_text (base_reading tailoring) text) (read_text (tailored_reading tailoring) text)
   moves text normal untouched =
-      images_move tailoring.maps is.maps (elements_of (base_reading tailoring) text) (elements_of (tailored_reading tailoring) text) text.points
+      images_move tailoring.maps is.maps (elements_of (base_reading tailoring) text) (elements_of (tailored_reading tailoring) text) text.points normal.scalars
       (images_read tailoring is accepted text normal untouched)
 
   -- so the keys of a store are those under the tailored table

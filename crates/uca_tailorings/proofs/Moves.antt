@@ -1,7 +1,9 @@
 -- Where elements become their images under rising maps, keys are put through the maps.
-use Rattle.std.proofs.Common.{◌≡◌, ◌≢◌, ⊎_elim, ℕ, zero, suc, ◌+◌, ◌*◌, ◌/◌, ◌%◌, List, [], ◌∷◌, ◌++◌, Some, false, nat_eq, map}
+use Rattle.std.proofs.Common.{◌≡◌, ◌≢◌, ⊎_elim, ℕ, zero, suc, ◌+◌, ◌*◌, ◌/◌, ◌%◌, List, [], ◌∷◌, ◌++◌, Some, true, false, nat_eq, map}
 use Rattle.std.proofs.Common.{refl, sym, ap, ap₂, subst₂, ◌∙◌, append_assoc, append-nil, arith}
 use Rattle.std.proofs.lemmas.Bool.{ne_eqb}
+use Rattle.std.specs.Char.{IsScalar}
+use Rattle.std.specs.List.{AllByRecursion}
 use Rattle.uca_weights.specs.declared.Depth.{Depth}
 use Rattle.uca_weights.specs.declared.Depth.TheVariants.{Weights, Identical}
 use Rattle.uca_weights.specs.declared.Element.{Element}
@@ -12,7 +14,7 @@ use Rattle.uca_order.specs.Levels.{Weights as ElementWeights, weight_at, weighte
 use Rattle.uca_order.specs.Depths.{ReadText, points_bytes, key_at}
 use Rattle.uca_order.proofs.KeyOrder.{AreNonZero, kept_non_zero}
 use Rattle.uca_tailorings.specs.Images.{Maps, AreRisingMaps, IsImage, AreImages}
-use Rattle.uca_tailorings.specs.Moves.{level_images, AreSent, weight_before, moved_from, moved_key, KeyMoves, IsKeptKey}
+use Rattle.uca_tailorings.specs.Moves.{level_images, AreSent, weight_before, are_points, moved_from, moved_key, KeyMoves, IsKeptKey}
 use Rattle.uca_tailorings.proofs.WeightedImages.{lists_sent}
 
 -- ---- Bytes
@@ -56,6 +58,15 @@ module _ (maps : Maps) (depth : Depth) where
       (kept_non_zero (map (weight_at level) ws)) (sent level)
       (ap (weight_before (Some 0)) (levels_move n (suc level) ws xs end sent ends)))
 
+-- ---- Code points
+
+-- the bytes of scalar values are whole code points
+whole_points : (points : List ℕ) → AllByRecursion IsScalar points → are_points (points_bytes points) ≡ true
+whole_points [] scalars = refl
+whole_points (c ∷ points) scalars =
+    let one : 65536 * (c / 65536) + 256 * (c / 256 % 256) + c % 256 ≡ c = omega arith in
+    rw (one, scalars.0) (whole_points points scalars.1)
+
 -- ---- Keys
 
 module _ (maps : Maps) (rising : AreRisingMaps maps) (es fs : List Element) (images : AreImages maps es fs) where
@@ -68,13 +79,15 @@ module _ (maps : Maps) (rising : AreRisingMaps maps) (es fs : List Element) (ima
       levels_move maps depth 3 1 (weighted Shifted es) (weighted Shifted fs) end (lists_sent maps rising Shifted es fs images) ends
 
   -- the key at either depth
-  key_moves : (points : List ℕ) (depth : Depth) (weighting : Weighting) →
+  key_moves : (points : List ℕ) → AllByRecursion IsScalar points → (depth : Depth) (weighting : Weighting) →
       moved_key maps depth weighting (key_at depth weighting (record { elements = es; points = points }))
       ≡ Some (key_at depth weighting (record { elements = fs; points = points }))
-  key_moves points Weights weighting =
+  key_moves points scalars Weights weighting =
       subst₂ (λ bytes moved. moved_key maps Weights weighting bytes ≡ Some moved) (append-nil (key_bytes weighting es))
       (append-nil (key_bytes weighting fs)) (weights_move Weights weighting [] (λ l. refl))
-  key_moves points Identical weighting = weights_move Identical weighting (0 ∷ 0 ∷ points_bytes points) (λ l. refl)
+  key_moves points scalars Identical weighting =
+      let whole = whole_points points scalars in
+      weights_move Identical weighting (0 ∷ 0 ∷ points_bytes points) (λ l. rw whole refl)
 
 -- an element that is its own image has no other
 own_image : (maps : Maps) (e f : Element) → IsImage maps e e → IsImage maps e f → e ≡ f
@@ -98,13 +111,13 @@ own_images maps (e ∷ es) [] own images = absurd images
 own_images maps (e ∷ es) (f ∷ fs) own images = ap₂ (λ g gs. g ∷ gs) (own_image maps e f own.0 images.0) (own_images maps es fs own.1 images.1)
 
 -- all that becomes of the keys of images
-pub images_move : (maps : Maps) → AreRisingMaps maps → (es fs : List Element) (points : List ℕ) → AreImages maps es fs →
-    KeyMoves maps (record { elements = es; points = points }) (record { elements = fs; points = points })
-images_move maps rising es fs points images =
+pub images_move : (maps : Maps) → AreRisingMaps maps → (es fs : List Element) (points : List ℕ) → AllByRecursion IsScalar points →
+    AreImages maps es fs → KeyMoves maps (record { elements = es; points = points }) (record { elements = fs; points = points })
+images_move maps rising es fs points scalars images =
     record {
       images = images;
       lists = λ weighting. lists_sent maps rising weighting es fs images;
-      mended = key_moves maps rising es fs images points;
+      mended = key_moves maps rising es fs images points scalars;
       stays = λ own depth weighting.
           ap (λ elements. key_at depth weighting (record { elements = elements; points = points })) (sym (own_images maps es fs own images));
     }

@@ -1,5 +1,6 @@
 -- Keys of texts whose elements become their images under maps of weights.
-use Rattle.std.specs.Prelude.{◌≡◌, ◌⊎◌, ℕ, zero, suc, ◌+◌, ◌*◌, List, [], ◌∷◌, ◌++◌, Option, Some, None, ⊤, option_map, nat_eq, if◌then◌else◌}
+use Rattle.std.specs.Prelude.{◌≡◌, ◌⊎◌, ℕ, zero, suc, ◌+◌, ◌*◌, Bool, true, false, ◌&&◌, List, [], ◌∷◌, ◌++◌, Option, Some, None, ⊤, option_map, nat_eq, if◌then◌else◌}
+use lib.Utf8.{scalar}
 use Rattle.uca_weights.specs.declared.Depth.{Depth}
 use Rattle.uca_weights.specs.declared.Depth.TheVariants.{Weights, Identical}
 use Rattle.uca_weights.specs.declared.Weighting.{Weighting}
@@ -38,14 +39,21 @@ ended Weights zero = Some []
 ended Weights (suc more) = None
 ended Identical more = None
 
--- after the levels of weights there are code points, which stay, or nothing at depth `Weights`
+-- whole code points: three bytes each, the high one first, and each a Unicode scalar value
+abbrev pub are_points : List ℕ → Bool
+are_points [] = true
+are_points (a ∷ []) = false
+are_points (a ∷ b ∷ []) = false
+are_points (a ∷ b ∷ c ∷ bytes) = scalar (65536 * a + 256 * b + c) && are_points bytes
+
+-- after the levels of weights there are whole code points, which stay, or nothing at depth `Weights`
 abbrev pub after_weights : Depth → List ℕ → Option (List ℕ)
 after_weights Weights bytes = None
-after_weights Identical bytes = Some bytes
+after_weights Identical bytes = if are_points bytes then Some bytes else None
 
 -- The rest of a key in a level, with this many levels of weights from there on. Each weight is put through the map of its
 -- level, and 00 00 leads to the next level. There is no result where a weight has no image, or where the bytes have too few
--- levels, too many, or a single byte at the end.
+-- levels, too many, or a single byte at the end; nor where other bytes than whole code points follow the weights.
 abbrev pub moved_from : Maps → Depth → ℕ → ℕ → List ℕ → Option (List ℕ)
 moved_from maps depth level zero bytes = after_weights depth bytes
 moved_from maps depth level (suc more) [] = ended depth more

@@ -28,6 +28,8 @@ pub record WorkedMovedKeys : Type 0 where
   -- code points stay: U+1C48, and then U+0000
   pub identical : Becomes Identical NonIgnorable (0x1C48 ∷ 0 ∷ 0x20 ∷ 0 ∷ 2 ∷ 0 ∷ []) (0x1C49 ∷ 0 ∷ 0x20 ∷ 0 ∷ 2 ∷ 0 ∷ []) (0 ∷ 0x1C ∷ 0x48 ∷ 0 ∷ 0 ∷ 0 ∷ [])
   pub no_points : Becomes Identical Shifted (0 ∷ 0 ∷ 0 ∷ 0 ∷ []) (0 ∷ 0 ∷ 0 ∷ 0 ∷ []) []
+  -- the first and the last scalar value on both sides of the surrogates: U+0000, U+D7FF, U+E000 and U+10FFFF
+  pub ends : Becomes Identical NonIgnorable (0 ∷ 0 ∷ 0 ∷ []) (0 ∷ 0 ∷ 0 ∷ []) (0 ∷ 0 ∷ 0 ∷ 0 ∷ 0xD7 ∷ 0xFF ∷ 0 ∷ 0xE0 ∷ 0 ∷ 0x10 ∷ 0xFF ∷ 0xFF ∷ [])
   -- a weight that has no image, and one that has an image at level 1 alone
   pub unknown : HasNoResult Weights NonIgnorable (level_bytes (0x1C4A ∷ 0 ∷ 0x20 ∷ 0 ∷ 2 ∷ []))
   pub level : HasNoResult Weights NonIgnorable (level_bytes (0x1C47 ∷ 0 ∷ 0x1C48 ∷ 0 ∷ 2 ∷ []))
@@ -36,3 +38,12 @@ pub record WorkedMovedKeys : Type 0 where
   pub many : HasNoResult Weights NonIgnorable (level_bytes (0x1C48 ∷ 0 ∷ 0x20 ∷ 0 ∷ 2 ∷ 0 ∷ []))
   pub no_identical : HasNoResult Identical NonIgnorable (level_bytes (0x1C48 ∷ 0 ∷ 0x20 ∷ 0 ∷ 2 ∷ []))
   pub single : HasNoResult Weights NonIgnorable (level_bytes (0x1C48 ∷ 0 ∷ 0x20 ∷ 0 ∷ 2 ∷ []) ++ 0x1C ∷ [])
+  -- code points of which the last is cut after one byte or two; a surrogate; the number after U+10FFFF
+  pub one_byte : HasNoResult Identical NonIgnorable (level_bytes (0 ∷ 0 ∷ 0 ∷ []) ++ (0 ∷ 0x1C ∷ 0x48 ∷ 0 ∷ []))
+  pub two_bytes : HasNoResult Identical NonIgnorable (level_bytes (0 ∷ 0 ∷ 0 ∷ []) ++ (0 ∷ 0x1C ∷ 0x48 ∷ 0 ∷ 0x1C ∷ []))
+  pub surrogate : HasNoResult Identical NonIgnorable (level_bytes (0 ∷ 0 ∷ 0 ∷ []) ++ (0 ∷ 0xD8 ∷ 0 ∷ []))
+  pub too_great : HasNoResult Identical NonIgnorable (level_bytes (0 ∷ 0 ∷ 0 ∷ []) ++ (0x11 ∷ 0 ∷ 0 ∷ []))
+  -- The key of `b` under `Shifted`, taken as one under `NonIgnorable`. That of three spaces at depth `Weights` is not seen to be
+  -- another: its fourth level happens to be whole code points.
+  pub shifted : HasNoResult Identical NonIgnorable (level_bytes (0x1C48 ∷ 0 ∷ 0x20 ∷ 0 ∷ 2 ∷ 0 ∷ 0xFFFF ∷ 0 ∷ []) ++ (0 ∷ 0 ∷ 0x62 ∷ []))
+  pub not_seen : Becomes Identical NonIgnorable (0 ∷ 0 ∷ 0 ∷ []) (0 ∷ 0 ∷ 0 ∷ []) (level_bytes (0x209 ∷ 0x209 ∷ 0x209 ∷ []))

@@ -28,7 +28,8 @@ pub fn faithful_tailorings_keep_untouched_texts()
 /// - The elements of the text are the images of those that it had under the base.
 /// - So each weight of its key is put through the map of its level. The fourth level goes by the map of level 1.
 /// - So a stored key can be mended by the maps alone, with no text and no table. There is no result if a weight has no
-///   image, or if the bytes have too few levels, too many, or a single byte at the end.
+///   image, or if the bytes have too few levels, too many, or a single byte at the end. At depth `Identical` there is
+///   none either if what follows the weights is not whole code points.
 /// - If the maps move none of the weights of the text's elements, the text keeps its key.
 ///
 /// Mended keys, and keys that stay, may be stored beside the keys of all other texts that were made under the tailored

@@ -1,8 +1,9 @@
 -- Level by level, and then what may follow.
-use Rattle.std.proofs.Common.{suc, ◌+◌, ◌-◌, drop, ap, ◌∙◌, arith}
+use Rattle.std.proofs.Common.{◌≡◌, ℕ, suc, ◌+◌, ◌-◌, List, length, take, drop, Some, None, if◌then◌else◌, ap, subst, ◌∙◌, arith}
+use Rattle.std.proofs.lemmas.List.{take_all, length-drop}
 use Rattle.uca_order.specs.Levels.{level_count}
 use Rattle.uca_tailorings.specs.Inputs.{maps_of}
-use Rattle.uca_tailorings.specs.Moves.{moved_key}
+use Rattle.uca_tailorings.specs.Moves.{after_weights, moved_key}
 use Rattle.uca_images.specs.Moving.{MoverState}
 use Rattle.uca_images.proofs.MovingSteps.{key_ends, none_moved, with_level, after_level, rest_stays}
 use Rattle.uca_images.proofs.mover.KeyMover.move_key.Goals as goal
@@ -52,6 +53,9 @@ loop-level-preserved g c =
 pub returns : goal.returns
 returns g c =
     let state = c.args.self.now in
-    rest_stays (maps_of state.certificate) state.depth c.self.inside.depth _ _ c.loop-level.at c.loop-level.key _ c.may_have_points.result
+    let at = c.loop-level.at in
+    let key = c.loop-level.key in
+    let rest : take (length key - at) (drop at key) ≡ drop at key = take_all (length key - at) (drop at key) (omega (arith, length-drop at key)) in
+    rest_stays (maps_of state.certificate) state.depth c.self.inside.depth _ _ at key _ c.may_follow.result
     (ap (λ (s : MoverState). s.depth) c.self.view_is) (omega arith) c.loop-level.invariant.moved
-    (c.may_have_points.ensures (drop c.loop-level.at c.loop-level.key))
+    (subst (λ (bytes : List ℕ). after_weights c.self.inside.depth bytes ≡ (if c.may_follow.result then Some bytes else None)) rest c.may_follow.ensures)
