@@ -21,6 +21,7 @@ import argparse
 import os
 import random
 import re
+import shlex
 import shutil
 import subprocess
 import sys
@@ -104,12 +105,26 @@ def exports(work):
 
 
 def installed(work):
+    """What make made is installed where there is no rt, in folders with blanks in their names, and taken away again."""
     need("make", "gcc", "pkg-config")
-    run(["make", "-s", "-C", C, "install", f"PREFIX={work}/usr", f"OUT={work}/out"])
-    environment = {**os.environ, "PKG_CONFIG_PATH": f"{work}/usr/lib/pkgconfig"}
-    said = run(["pkg-config", "--cflags", "--libs", "uca"], env=environment).decode().split()
+    prefix, stage = f"{work}/a prefix", f"{work}/a stage"
+    path = os.pathsep.join(it for it in os.environ["PATH"].split(os.pathsep) if not os.path.exists(f"{it}/rt"))
+    make_it = ["env", f"PATH={path}", "make", "-s", "-C", C]
+    run([*make_it, "install", f"PREFIX={prefix}"])
+    environment = {**os.environ, "PKG_CONFIG_PATH": f"{prefix}/lib/pkgconfig:{stage}{prefix}/lib 64/pkgconfig"}
+    said = shlex.split(run(["pkg-config", "--cflags", "--libs", "uca"], env=environment).decode())
     run(["gcc", "-std=c11", "-D_POSIX_C_SOURCE=200809L", "-pthread", "-o", f"{work}/shared", f"{C}/calls.c", *said])
-    run([f"{work}/shared"], env={**os.environ, "LD_LIBRARY_PATH": f"{work}/usr/lib"})
+    run([f"{work}/shared"], env={**os.environ, "LD_LIBRARY_PATH": f"{prefix}/lib"})
+    run([*make_it, "uninstall", f"PREFIX={prefix}"])
+    places = [f"PREFIX={prefix}", f"LIBDIR={prefix}/lib 64", f"DESTDIR={stage}"]
+    run([*make_it, "install", *places])
+    said = shlex.split(run(["pkg-config", "--cflags", "--libs", "uca"], env=environment).decode())
+    same(said, [f"-I{prefix}/include", f"-L{prefix}/lib 64", "-luca"], "what pkg-config says of another LIBDIR")
+    run([*make_it, "uninstall", *places])
+    same([it for folder in (prefix, stage) for _, _, files in os.walk(folder) for it in files], [], "files after uninstall")
+    for wrong in (["PREFIX=usr"], [f"PREFIX={prefix}", "LIBDIR=lib"], [f"PREFIX={prefix}", f"OUT={work}/nothing"]):
+        if not subprocess.run([*make_it, "install", *wrong], stderr=subprocess.DEVNULL).returncode:
+            raise AssertionError(f"make install {wrong} has no error")
 
 
 def stored_run(work):
