@@ -78,9 +78,11 @@ def sqlite(work, table, data, files):
     bindings.sqlite_says(work, "SELECT 1;")
     print("\n| Lines | SQLite | uca, s | ICU4C, s | Ratio |\n|---|---|--:|--:|--:|")
     run(["gcc", "-O2", "-std=c11", "-shared", "-fPIC", "-o", f"{work}/icu.so", f"{TOP}/bench/sqlite_icu.c", *icu_flags()])
+    fingerprint = bindings.fingerprint_of(table, data, "non-ignorable")
+    compared = [("a key", f"uca_key(word, '{fingerprint}')", "icu_key(word)"), ("a collation", f"word COLLATE uca_{fingerprint}", "word COLLATE icu")]
     for lines in files:
         for kind, statement in ("sorted by", SORT), ("index on", INDEX):
-            for name, own, icu in ("a key", "uca_key(word)", "icu_key(word)"), ("a collation", "word COLLATE uca", "word COLLATE icu"):
+            for name, own, icu in compared:
                 row(lines, f"{kind} {name}", *(sqlite_seconds(work, table, data, lines, statement.format(it, "LIMIT -1 OFFSET 1")) for it in (own, icu)))
 
 

@@ -10,7 +10,8 @@ First prove and build the static library: `tools/build.py uca_c`. Then this scri
 - `keys` and the module over files of examples/, whose keys and orders have to be those of `uca keys` and `uca sort`;
 - the names that libuca.so.1 exports, which have to be those of uca.h, and the header as C++;
 - a program that is compiled by what pkg-config says of a temporary installation, and the programs of docs/BINDINGS.md;
-- the tests of the module for Python, as it is and from a wheel with the library inside; and statements of SQLite with the extension;
+- the tests of the module for Python, as it is and from a wheel with the library inside;
+- statements of SQLite with the extension, over files that are the same or others, and those of docs/BINDINGS.md;
 - statements of PostgreSQL with its extension. The server has a folder of its own, listens on a Unix socket there, and is stopped afterwards;
 - all four over Unicode's table, and over that table tailored for Danish: 100,000 words of nine languages have the keys of `uca keys` and the order of `uca sort`.
 
@@ -18,16 +19,18 @@ Debian's packages are gcc, g++, make, pkgconf, valgrind, sqlite3, libsqlite3-dev
 a program or a file that is not here is not run, and a line says so. The last line is `N passed, M failed`, and how many were not run if there are any.
 """
 import argparse
+import contextlib
+import hashlib
 import os
 import random
 import re
 import shlex
 import shutil
+import sqlite3
 import subprocess
 import sys
 import tempfile
 import zipfile
-from contextlib import contextmanager
 
 TOP = os.path.dirname(os.path.dirname(os.path.realpath(__file__)))
 C, PYTHON, EXAMPLES = f"{TOP}/bindings/c", f"{TOP}/bindings/python", f"{TOP}/examples"
@@ -215,40 +218,243 @@ def wheel(work):
     run([python, "-W", "error", "-m", "unittest", "discover", "-s", f"{PYTHON}/tests"], env=environment, cwd=wheels)
 
 
-SQLITE = [
-    ("SELECT hex(uca_key('a')), uca_key(NULL) IS NULL;", "1C4700000020000000020000FFFF|1\n"),
-    ("SELECT 'á' = 'a' || char(0x301) COLLATE uca, 'a' < 'A' COLLATE uca, 'c-h' < 'ch' COLLATE uca;", "1|1|1\n"),
-    ("SELECT hex(x) FROM (SELECT x'FF' AS x UNION SELECT 'ch' UNION SELECT x'61FE' UNION SELECT 'c-h' UNION SELECT 'a') ORDER BY CAST(x AS TEXT) COLLATE uca;",
-     "61\n632D68\n6368\n61FE\nFF\n"),
-]
+def fingerprint_of(table, data, weighting="shifted", depth="weights"):
+    """The fingerprint of two files and their settings, as uca.h says."""
+    sums = [hashlib.sha256(content(it)).hexdigest() for it in (table, data)]
+    text = f"uca keys 1\nunicode 18.0.0\nweighting {weighting}\ndepth {depth}\ntable {sums[0]}\ndata {sums[1]}\n"
+    return hashlib.sha256(text.encode()).hexdigest()
 
 
-LOAD = f"SELECT uca_load('{EXAMPLES}/table.txt', '{EXAMPLES}/data.txt', 'shifted');"
+TABLE, TAILORED, DATA = (f"{EXAMPLES}/{it}.txt" for it in ("table", "tailored", "data"))
+USED, OTHER = (fingerprint_of(it, DATA) for it in (TABLE, TAILORED))
+MADE_BY_OTHERS = f"uca_key: the files of fingerprint {USED} are not loaded; loaded: {OTHER}"
+NO_COLLATION = f"no such collation sequence: uca_{USED}"
+NO_FINGERPRINT = "is no fingerprint of 64 lower-case hexadecimal digits"
 
 
-def sqlite_says(work, *statements, load=LOAD):
-    """What the statements print, after the extension has read the files of examples/."""
+def sqlite_load(table=TABLE, data=DATA, weighting="shifted"):
+    """A statement that loads files, and prints nothing."""
+    return f"SELECT 0 WHERE uca_load('{table}', '{data}', '{weighting}') IS NULL;"
+
+
+def sqlite_says(work, *statements, load=sqlite_load(), database=":memory:", fails=False):
+    """What the statements print, or their first error, after the extension has loaded files."""
     need("sqlite3", "make", "gcc")
     if not os.path.exists("/usr/include/sqlite3ext.h"):
         raise NotHere("there is no sqlite3ext.h")
     run(["make", "-s", "-C", f"{TOP}/bindings/sqlite"])
-    return run(["sqlite3", ":memory:", f".load {TOP}/bindings/sqlite/out/uca", load, *statements]).decode().removeprefix("\n")
+    words = ["sqlite3", database, f".load {TOP}/bindings/sqlite/out/uca", load, *statements]
+    try:
+        ran = subprocess.run(words, capture_output=True, text=True, cwd=TOP, timeout=300)
+    except subprocess.TimeoutExpired as it:
+        raise AssertionError(f"{load} {statements!r:.200}: it waits") from it
+    if bool(ran.returncode) != fails:
+        raise AssertionError(f"{load} {statements!r:.200}: status {ran.returncode}: {ran.stdout:.200}{ran.stderr:.200}")
+    return ran.stderr.split("\n")[0] if fails else ran.stdout
+
+
+def sqlite_fails(work, error, *statements, load=sqlite_load(), database=":memory:"):
+    """The statements end with this error."""
+    found = sqlite_says(work, *statements, load=load, database=database, fails=True)
+    if error not in found:
+        raise AssertionError(f"{load} {statements!r:.200}: {found}\n  in place of {error}")
+
+
+SQLITE = [
+    (f"SELECT hex(uca_key('a', '{USED}')), uca_key(NULL, '{USED}') IS NULL;", "1C4700000020000000020000FFFF|1\n"),
+    (f"SELECT 'á' = 'a' || char(0x301) COLLATE uca_{USED}, 'a' < 'A' COLLATE uca_{USED}, 'c-h' < 'ch' COLLATE uca_{USED};", "1|1|1\n"),
+    ("SELECT hex(x) FROM (SELECT x'FF' AS x UNION SELECT 'ch' UNION SELECT x'61FE' UNION SELECT 'c-h' UNION SELECT 'a')"
+     f" ORDER BY CAST(x AS TEXT) COLLATE uca_{USED};", "61\n632D68\n6368\n61FE\nFF\n"),
+]
+# What goes by no fingerprint, or by one that is none.
+SQLITE_ERRORS = [
+    (f"SELECT uca_key(CAST(x'FF' AS TEXT), '{USED}');", "uca_key: Utf8"),
+    ("SELECT uca_key('a');", "wrong number of arguments to function uca_key()"),
+    ("CREATE INDEX i ON words(uca_key(word));", "wrong number of arguments to function uca_key()"),
+    ("SELECT word FROM words ORDER BY word COLLATE uca;", "no such collation sequence: uca"),
+    ("CREATE TABLE u(word TEXT COLLATE uca);", "no such collation sequence: uca"),
+    ("SELECT uca_key('a', '');", NO_FINGERPRINT),
+    ("SELECT uca_key('a', NULL);", NO_FINGERPRINT),
+    (f"SELECT uca_key('a', '{USED.upper()}');", NO_FINGERPRINT),
+    (f"SELECT uca_key('a', '{USED}' || char(0) || 'x');", NO_FINGERPRINT),
+    (f"SELECT uca_key('a', CAST('{USED}' AS BLOB));", NO_FINGERPRINT),
+    (f"SELECT uca_key('a', '{USED[:32]}');", NO_FINGERPRINT),
+    (f"SELECT uca_key(NULL, '{OTHER}');", f"uca_key: the files of fingerprint {OTHER} are not loaded; loaded: {USED}"),
+    (f"CREATE INDEX i ON words(uca_key(word, uca_load('{TABLE}', '{DATA}')));", "unsafe use of uca_load()"),
+    (f"CREATE TABLE g(word TEXT, key AS (uca_key(word, uca_load('{TABLE}', '{DATA}'))) STORED); INSERT INTO g VALUES ('a');", "unsafe use of uca_load()"),
+    (f"CREATE TABLE c(word TEXT CHECK (uca_key(word, uca_load('{TABLE}', '{DATA}')) > x'')); INSERT INTO c VALUES ('a');", "unsafe use of uca_load()"),
+    (f"CREATE VIEW v AS SELECT uca_load('{TABLE}', '{DATA}'); SELECT * FROM v;", "unsafe use of uca_load()"),
+]
 
 
 def sqlite(work):
     for statement, wanted in SQLITE:
         same(sqlite_says(work, statement), wanted, statement)
-    fingerprint = sqlite_says(work, "SELECT uca_fingerprint();").strip()
-    same(len(fingerprint), 32, "the digits of a fingerprint")
-    again = LOAD.replace(");", f", '', '{fingerprint}');")
-    same(sqlite_says(work, "SELECT hex(uca_key('a'));", load=again), "1C4700000020000000020000FFFF\n", "the same files")
-    loads = [again.replace("table.txt", "tailored.txt"), again.replace("shifted", "non-ignorable"), LOAD.replace("table.txt", "none")]
-    for load, statement in [(LOAD, "SELECT uca_key(CAST(x'FF' AS TEXT));"), *((load, "") for load in loads)]:
-        try:
-            sqlite_says(work, statement, load=load)
-        except AssertionError:
-            continue
-        raise AssertionError(f"{load} {statement} has no error")
+    for statement, error in SQLITE_ERRORS:
+        sqlite_fails(work, error, "CREATE TABLE words(word TEXT); INSERT INTO words VALUES ('a');", statement)
+    sqlite_fails(work, "are not loaded; loaded: none", f"SELECT uca_key('a', '{USED}');", load="")
+
+
+def sqlite_loads(work):
+    """uca_load returns the fingerprint, adds to what is loaded, and says what is wrong with its arguments."""
+    for setting in SETTINGS[1:]:
+        arguments = ", ".join(f"'{it}'" for it in (TABLE, DATA, *setting))
+        same(sqlite_says(work, f"SELECT uca_load({arguments});"), fingerprint_of(TABLE, DATA, *setting) + "\n", f"fingerprint of {setting}")
+    same(sqlite_says(work, f"SELECT uca_load('{TABLE}', '{DATA}', NULL, '', '{USED}');", load=""), USED + "\n", "no weighting")
+    with open(f"{work}/variable.txt", "wb") as it:
+        it.write(content(TABLE).replace(b"\n", b"\n@variable non-ignorable\n", 1))
+    wanted = fingerprint_of(it.name, DATA, "non-ignorable") + "\n"
+    same(sqlite_says(work, f"SELECT uca_load('{it.name}', '{DATA}');", load=""), wanted, "the weighting of the table")
+    again = "".join(f"SELECT uca_load('{it}', '{DATA}', substr(word, 1, 0)) FROM words ORDER BY word COLLATE uca_{USED};" for it in (TABLE, TAILORED, TAILORED))
+    orders = "".join(f"SELECT group_concat(word, ' ') FROM (SELECT * FROM words ORDER BY word COLLATE uca_{it});" for it in (USED, OTHER))
+    orders += "".join(f"SELECT group_concat(word, ' ') FROM (SELECT * FROM words ORDER BY uca_key(word, '{it}'));" for it in (USED, OTHER))
+    twice = [f".load {TOP}/bindings/sqlite/out/uca", "CREATE TABLE words(word TEXT); INSERT INTO words VALUES ('bz'), ('bh'), ('b');"]
+    wanted = f"{USED}\n" * 3 + f"{OTHER}\n" * 6 + "b bh bz\nb bz bh\n" * 2
+    same(sqlite_says(work, *twice, again, orders), wanted, "files that are loaded one more time, while a statement runs")
+    for arguments, error in (
+        ("'none'", "uca_load: the table 'none': it is not found"),
+        (f"'{TABLE}', 'none'", "uca_load: the data file 'none': it is not found"),
+        ("NULL", "uca_load: the table '': it is not found"),
+        (f"'{DATA}'", "uca_load: the table: line 1: Line"),
+        (f"'{TABLE}', '{TABLE}'", "uca_load: the data file: line 1: Order"),
+        (f"'{TABLE}', '{DATA}', 'SHIFTED'", "uca_load: the weighting is 'SHIFTED', not 'shifted' or 'non-ignorable'"),
+        (f"'{TABLE}', '{DATA}', '', 'deep'", "uca_load: the depth is 'deep', not 'weights' or 'identical'"),
+        (f"'{TABLE}', '{DATA}', 'shifted', '', ''", f"uca_load: the fifth argument {NO_FINGERPRINT}"),
+        (f"'{TABLE}', '{DATA}', 'shifted', '', NULL", f"uca_load: the fifth argument {NO_FINGERPRINT}"),
+        (f"'{TABLE}', '{DATA}', 'shifted', '', '{USED[:32]}'", f"uca_load: the fifth argument {NO_FINGERPRINT}"),
+        (f"'{TAILORED}', '{DATA}', 'shifted', '', '{USED}'", f"uca_load: the files and settings have the fingerprint {OTHER}, and {USED} is wanted"),
+        (f"'{TABLE}', '{DATA}', 'shifted' || char(0)", "uca_load: argument 3 has a zero byte"),
+    ):
+        arguments += f", '{DATA}'" if "," not in arguments else ""
+        sqlite_fails(work, error, f"SELECT uca_load({arguments});", load="")
+
+
+def sqlite_files(work):
+    """What is not a file that can be read to its end is rejected without being read."""
+    os.mkfifo(f"{work}/pipe")
+    limit = 64 << 20
+    for name, size in (("large", limit + 1), ("limit", limit)):
+        with open(f"{work}/{name}", "wb") as it:
+            it.truncate(size)
+    for path, why in ((f"{work}/pipe", "it is not a regular file"), ("/dev/zero", "it is not a regular file"), (work, "it is not a regular file"),
+                      (f"{work}/large", "it is too large: more than 64 MiB")):
+        sqlite_fails(work, f"uca_load: the table '{path}': {why}", f"SELECT uca_load('{path}', '{DATA}');", load="")
+        sqlite_fails(work, f"uca_load: the data file '{path}': {why}", f"SELECT uca_load('{TABLE}', '{path}');", load="")
+    sqlite_fails(work, "uca_load: the table: line 1: ", f"SELECT uca_load('{work}/limit', '{DATA}');", load="")
+
+
+# Each makes a table `words` whose schema names the files, and the error of a new row where other files are loaded.
+SQLITE_SCHEMAS = [
+    (f"CREATE TABLE words(word TEXT); CREATE INDEX i ON words(uca_key(word, '{USED}'));", MADE_BY_OTHERS),
+    (f"CREATE TABLE words(word TEXT); CREATE INDEX i ON words(word) WHERE uca_key(word, '{USED}') > x'1C';", MADE_BY_OTHERS),
+    (f"CREATE TABLE words(word TEXT, key BLOB AS (uca_key(word, '{USED}')) STORED); CREATE INDEX i ON words(key);", MADE_BY_OTHERS),
+    (f"CREATE TABLE words(word TEXT, key BLOB AS (uca_key(word, '{USED}')) VIRTUAL); CREATE INDEX i ON words(key);", MADE_BY_OTHERS),
+    (f"CREATE TABLE words(word TEXT CHECK (uca_key(word, '{USED}') > x'1C'));", MADE_BY_OTHERS),
+    (f"CREATE TABLE words(word TEXT, key BLOB); CREATE TRIGGER t AFTER INSERT ON words BEGIN UPDATE words SET key = uca_key(word, '{USED}'); END;", MADE_BY_OTHERS),
+    (f"CREATE TABLE words(word TEXT); CREATE INDEX i ON words(word COLLATE uca_{USED});", NO_COLLATION),
+    (f"CREATE TABLE words(word TEXT COLLATE uca_{USED} UNIQUE);", NO_COLLATION),
+    (f"CREATE TABLE words(word TEXT CHECK (word > 'A' COLLATE uca_{USED}));", NO_COLLATION),
+]
+ROW = "INSERT INTO words(word) VALUES ('ch');"
+THREE = "INSERT INTO words(word) VALUES ('bz'), ('bh'), ('b');"
+IN_ORDER = f"SELECT group_concat(word, ' ') FROM (SELECT word FROM words ORDER BY uca_key(word, '{USED}'));"
+
+
+NEW_TABLE = f"""
+DROP INDEX IF EXISTS i;
+CREATE TABLE new_words(word TEXT COLLATE uca_{OTHER}, key BLOB AS (uca_key(word, '{OTHER}')) STORED UNIQUE);
+INSERT INTO new_words(word) SELECT word FROM words;
+DROP TABLE words;
+ALTER TABLE new_words RENAME TO words;
+SELECT group_concat(word, ' ') FROM (SELECT word FROM words ORDER BY key);
+PRAGMA integrity_check;
+"""
+
+
+def sqlite_schemas(work):
+    """Where other files are loaded, no row goes in, and a dump with rows is not restored. A new table needs the other files alone."""
+    for number, (made, error) in enumerate(SQLITE_SCHEMAS):
+        database, restored = f"{work}/schema{number}.db", f"{work}/restored{number}.db"
+        sqlite_says(work, made, THREE, database=database)
+        sqlite_fails(work, error, ROW, load=sqlite_load(TAILORED), database=database)
+        sqlite_fails(work, NO_COLLATION, f"SELECT word FROM words ORDER BY word COLLATE uca_{USED};", load=sqlite_load(TAILORED), database=database)
+        sqlite_fails(work, "uca_", ROW, load="", database=database)
+        same(sqlite_says(work, IN_ORDER, "PRAGMA integrity_check;", database=database), "b bh bz\nok\n", made)
+        dump = sqlite_says(work, ".dump", database=database)
+        if "TRIGGER" not in made:  # a dump makes triggers after the rows
+            sqlite_fails(work, error, dump, load=sqlite_load(TAILORED), database=restored)
+            os.remove(restored)
+        same(sqlite_says(work, dump, IN_ORDER, "PRAGMA integrity_check;", database=restored), "b bh bz\nok\n", f"a dump of {made}")
+        same(sqlite_says(work, NEW_TABLE, load=sqlite_load(TAILORED), database=database), "b bz bh\nok\n", f"{made}: a new table")
+
+
+def sqlite_restore(work):
+    """A dump is restored under other files, and nobody looks at the errors. Then the index is not there, and the order is right."""
+    database, restored, dump = (f"{work}/restore.{it}" for it in ("db", "new.db", "sql"))
+    sqlite_says(work, f"CREATE TABLE words(word TEXT); CREATE INDEX by_key ON words(uca_key(word, '{USED}'));", THREE, database=database)
+    same(sqlite_says(work, IN_ORDER, load=sqlite_load(TAILORED), database=database), "b bh bz\n", "an index of keys that are there")
+    with open(dump, "w", encoding="utf-8") as it:
+        it.write(sqlite_says(work, ".dump", database=database))
+    commands = f".load {TOP}/bindings/sqlite/out/uca\n{sqlite_load(TAILORED)}\n.read {dump}\n"
+    ran = subprocess.run(["sqlite3", restored], input=commands, capture_output=True, text=True)
+    if MADE_BY_OTHERS not in ran.stderr:
+        raise AssertionError(f"a dump restored under other files: {ran.stderr}")
+    indexes = "SELECT count(*) FROM sqlite_schema WHERE type = 'index';"
+    same(sqlite_says(work, IN_ORDER, indexes, "PRAGMA integrity_check;", database=restored), "b bh bz\n0\nok\n", "the old files")
+    sqlite_fails(work, MADE_BY_OTHERS, IN_ORDER, load=sqlite_load(TAILORED), database=restored)
+
+
+def sqlite_attached(work):
+    """Two databases of two editions on one connection, each in its own order, by its index and without it."""
+    for table, name, fingerprint in ((TABLE, "first", USED), (TAILORED, "second", OTHER)):
+        made = f"CREATE TABLE words(word TEXT COLLATE uca_{fingerprint}, key BLOB AS (uca_key(word, '{fingerprint}')) STORED);"
+        indexes = "CREATE INDEX by_key ON words(key); CREATE INDEX by_word ON words(word);"
+        sqlite_says(work, made, indexes, THREE, load=sqlite_load(table), database=f"{work}/{name}.db")
+    attach, second = f"ATTACH '{work}/second.db' AS second;", ROW.replace("words", "second.words")
+    for statement in (second, "SELECT word FROM second.words ORDER BY word;"):
+        sqlite_fails(work, f"no such collation sequence: uca_{OTHER}", attach, statement, database=f"{work}/first.db")
+    orders = [f"SELECT group_concat(word, ' ') FROM (SELECT word FROM {name}.words ORDER BY {by});" for name in ("main", "second") for by in ("key", "word", "+key")]
+    found = sqlite_says(work, attach, sqlite_load(TAILORED), ROW, second, *orders, "PRAGMA integrity_check;", database=f"{work}/first.db")
+    same(found, "b bh bz ch\n" * 3 + "b bz bh ch\n" * 3 + "ok\n", "two editions")
+
+
+SQLITE_PAGE = re.compile(r"^### In SQLite\n(.*?)^### ", re.S | re.M)
+# What the extension was before: a function of one argument and a collation, which name no files.
+MADE_BEFORE = """
+CREATE TABLE words(word TEXT);
+CREATE INDEX by_key ON words(uca_key(word));
+CREATE TABLE names(name TEXT COLLATE uca, key BLOB AS (uca_key(name)) STORED);
+CREATE TABLE uca_files AS SELECT 'd92b' AS fingerprint;
+INSERT INTO words VALUES ('bz'), ('bh'), ('b');
+INSERT INTO names(name) VALUES ('bz'), ('bh'), ('b');
+"""
+
+
+def database_made_before(path):
+    with contextlib.closing(sqlite3.connect(path)) as made:
+        made.create_function("uca_key", 1, lambda text: text.encode(), deterministic=True)
+        made.create_collation("uca", lambda left, right: (left > right) - (left < right))
+        made.executescript(MADE_BEFORE)
+
+
+def page_statements(work, database, block):
+    """Statements of docs/BINDINGS.md print what their comments show."""
+    ran = subprocess.run(["sqlite3", "-bail", f"{work}/{database}"], input=block, capture_output=True, text=True, cwd=TOP)
+    same(ran.stderr, "", f"errors of {block}")
+    same(ran.stdout.splitlines(), re.findall(r"^-- (.*)", block, re.M), f"the page's statements {block}")
+    same(sqlite_says(work, sqlite_load(TAILORED), "PRAGMA integrity_check;", database=f"{work}/{database}"), "ok\n", database)
+
+
+def sqlite_page(work):
+    """The statements of docs/BINDINGS.md: the first ones, those after a change of files, and those for a database that was made before."""
+    text = SQLITE_PAGE.search(content(f"{TOP}/docs/BINDINGS.md").decode()).group(1)
+    first, changed, before = re.findall(r"```sql\n(.*?)```", text, re.S)
+    sqlite_says(work, "SELECT 1;")
+    page_statements(work, "page.db", first)
+    page_statements(work, "page.db", changed)
+    database_made_before(f"{work}/before.db")
+    sqlite_fails(work, "wrong number of arguments to function uca_key()", "SELECT word FROM words;", database=f"{work}/before.db")
+    page_statements(work, "before.db", before)
 
 
 def sqlite_like(program):
@@ -262,15 +468,15 @@ def sqlite_like(program):
             wanted = run([program, "sort", "--weighting", "shifted", f"{EXAMPLES}/table.txt", f"{EXAMPLES}/data.txt"], input=text).decode()
             values = ", ".join("('" + it.replace("'", "''") + "')" for it in text.decode().removesuffix("\n").split("\n"))
             made = f"CREATE TABLE lines(line TEXT); INSERT INTO lines VALUES {values};"
-            for after in ("ORDER BY line COLLATE uca, rowid", "ORDER BY uca_key(line), rowid"):
+            for after in (f"ORDER BY line COLLATE uca_{USED}, rowid", f"ORDER BY uca_key(line, '{USED}'), rowid"):
                 same(sqlite_says(work, made, f"SELECT line FROM lines {after};"), wanted, f"order of {lines}, {after}")
-            index = "CREATE INDEX by_order ON lines(line COLLATE uca);"
-            same(sqlite_says(work, made, index, "SELECT line FROM lines ORDER BY line COLLATE uca;"), wanted, f"order of {lines} by an index")
+            index = f"CREATE INDEX by_order ON lines(line COLLATE uca_{USED});"
+            same(sqlite_says(work, made, index, f"SELECT line FROM lines ORDER BY line COLLATE uca_{USED};"), wanted, f"order of {lines} by an index")
 
     return check
 
 
-@contextmanager
+@contextlib.contextmanager
 def postgresql_server(work, table=f"{EXAMPLES}/table.txt", data=f"{EXAMPLES}/data.txt"):
     """A server with the extension's functions over these files, what runs statements in it, and its settings."""
     need("make", "gcc", "pg_config", "psql")
@@ -422,11 +628,12 @@ def python_words(work, table, data, keys, order):
 
 
 def sqlite_words(work, table, data, keys, order):
-    load = f"SELECT uca_load('{table}', '{data}', 'shifted');"
-    made = ["CREATE TABLE words(word TEXT);", ".mode tabs", f".import {work}/words.txt words", ".mode list", "CREATE INDEX by_key ON words(uca_key(word));"]
-    for after in ("uca_key(word), rowid", "word COLLATE uca, rowid"):
+    load, fingerprint = sqlite_load(table, data), fingerprint_of(table, data)
+    key = f"uca_key(word, '{fingerprint}')"
+    made = ["CREATE TABLE words(word TEXT);", ".mode tabs", f".import {work}/words.txt words", ".mode list", f"CREATE INDEX by_key ON words({key});"]
+    for after in (f"{key}, rowid", f"word COLLATE uca_{fingerprint}, rowid"):
         same(sqlite_says(work, *made, f"SELECT word FROM words ORDER BY {after};", load=load), order.decode(), f"order by {after} over {table}")
-    same(sqlite_says(work, *made, "SELECT hex(uca_key(word)) FROM words ORDER BY rowid;", load=load), keys.decode().replace(" ", ""), f"keys over {table}")
+    same(sqlite_says(work, *made, f"SELECT hex({key}) FROM words ORDER BY rowid;", load=load), keys.decode().replace(" ", ""), f"keys over {table}")
 
 
 def postgresql_words(work, table, data, keys, order):
@@ -444,7 +651,8 @@ def main():
         sys.exit(f"there is no {ARCHIVE}: run `tools/build.py uca_c` first")
     checks = [("make", make), ("valgrind", valgrind), ("sanitizers", sanitizers), ("header in C++", header), ("exported names", exports),
               ("installation", installed), ("stored run", stored_run), ("docs/BINDINGS.md", page), ("keys", keys_like(program)), ("Python", python), ("wheel", wheel), ("sort", sorted_like(program)), ("SQLite", sqlite),
-              ("SQLite's orders", sqlite_like(program)), ("PostgreSQL", postgresql), ("PostgreSQL's orders", postgresql_like(program))]
+              ("SQLite's loads", sqlite_loads), ("SQLite's files", sqlite_files), ("SQLite's schemas", sqlite_schemas), ("SQLite's restores", sqlite_restore),
+              ("SQLite's attached databases", sqlite_attached), ("SQLite on the page", sqlite_page), ("SQLite's orders", sqlite_like(program)), ("PostgreSQL", postgresql), ("PostgreSQL's orders", postgresql_like(program))]
     tried = {"C": c_words, "Python": python_words, "SQLite": sqlite_words, "PostgreSQL": postgresql_words}
     checks += [(f"100,000 words in {name}", over_unicode(program, it)) for name, it in tried.items()]
     passed = failed = skipped = 0
