@@ -11,7 +11,7 @@ First prove and build the static library: `tools/build.py uca_c`. Then this scri
 - the names that libuca.so.1 exports, which have to be those of uca.h, and the header as C++;
 - a program that is compiled by what pkg-config says of a temporary installation, and the programs of docs/BINDINGS.md;
 - the tests of the module for Python, as it is and from a wheel with the library inside;
-- statements of SQLite with the extension, over files that are the same or others, and those of docs/BINDINGS.md;
+- statements of SQLite with the extension, over files that are the same or others, and those of docs/BINDINGS.md; also where each allocation fails in turn;
 - statements of PostgreSQL with its extension. The server has a folder of its own, listens on a Unix socket there, and is stopped afterwards;
 - all four over Unicode's table, and over that table tailored for Danish: 100,000 words of nine languages have the keys of `uca keys` and the order of `uca sort`.
 
@@ -418,6 +418,13 @@ def sqlite_attached(work):
     same(found, "b bh bz ch\n" * 3 + "b bz bh ch\n" * 3 + "ok\n", "two editions")
 
 
+def sqlite_memory(work):
+    """Each allocation fails in turn."""
+    sqlite_says(work, "SELECT 1;")
+    run(["gcc", "-O2", "-std=c11", "-Wall", "-Wextra", "-Werror", "-o", f"{work}/memory", f"{TOP}/bindings/sqlite/memory.c", "-lsqlite3", "-ldl"])
+    run([f"{work}/memory", f"{TOP}/bindings/sqlite/out/uca", TABLE, DATA, USED])
+
+
 SQLITE_PAGE = re.compile(r"^### In SQLite\n(.*?)^### ", re.S | re.M)
 # What the extension was before: a function of one argument and a collation, which name no files.
 MADE_BEFORE = """
@@ -652,7 +659,7 @@ def main():
     checks = [("make", make), ("valgrind", valgrind), ("sanitizers", sanitizers), ("header in C++", header), ("exported names", exports),
               ("installation", installed), ("stored run", stored_run), ("docs/BINDINGS.md", page), ("keys", keys_like(program)), ("Python", python), ("wheel", wheel), ("sort", sorted_like(program)), ("SQLite", sqlite),
               ("SQLite's loads", sqlite_loads), ("SQLite's files", sqlite_files), ("SQLite's schemas", sqlite_schemas), ("SQLite's restores", sqlite_restore),
-              ("SQLite's attached databases", sqlite_attached), ("SQLite on the page", sqlite_page), ("SQLite's orders", sqlite_like(program)), ("PostgreSQL", postgresql), ("PostgreSQL's orders", postgresql_like(program))]
+              ("SQLite's attached databases", sqlite_attached), ("SQLite's memory", sqlite_memory), ("SQLite on the page", sqlite_page), ("SQLite's orders", sqlite_like(program)), ("PostgreSQL", postgresql), ("PostgreSQL's orders", postgresql_like(program))]
     tried = {"C": c_words, "Python": python_words, "SQLite": sqlite_words, "PostgreSQL": postgresql_words}
     checks += [(f"100,000 words in {name}", over_unicode(program, it)) for name, it in tried.items()]
     passed = failed = skipped = 0

@@ -1,0 +1,122 @@
+/* Each allocation of SQLite and of the extension fails in turn, alone and with all after it.
+
+     memory EXTENSION TABLE DATA FINGERPRINT
+
+   The files are those of examples/, and the fingerprint is theirs, shifted. Each statement is right then, or has an error, and the
+   connection can be closed. Where one allocation failed, the connection can load all again, and each stored key is right. Prints a
+   line for each check that fails, and how many runs there were. The status is 1 if one failed. */
+#define _GNU_SOURCE
+#include <dlfcn.h>
+#include <sqlite3.h>
+#include <stdio.h>
+#include <string.h>
+
+#define ROOM 2048
+#define CHECK(fact) check((fact), __LINE__, #fact)
+
+static long asked, first_failing, last_failing, failed;
+static int is_short;
+static char load[ROOM], table[ROOM], word_index[ROOM], order[ROOM], wrong_keys[ROOM];
+
+static int fails(void)
+{
+    asked++;
+    return is_short && first_failing <= asked && asked <= last_failing;
+}
+
+void *malloc(size_t size)
+{
+    static void *(*next)(size_t);
+    if (!next) {
+        next = (void *(*)(size_t))dlsym(RTLD_NEXT, "malloc");
+    }
+    return fails() ? NULL : next(size);
+}
+
+void *realloc(void *block, size_t size)
+{
+    static void *(*next)(void *, size_t);
+    if (!next) {
+        next = (void *(*)(void *, size_t))dlsym(RTLD_NEXT, "realloc");
+    }
+    return fails() ? NULL : next(block, size);
+}
+
+static void check(int holds, int line, const char *what)
+{
+    if (!holds) {
+        failed++;
+        printf("memory.c:%d: %s, where allocations %ld to %ld fail\n", line, what, first_failing, last_failing);
+    }
+}
+
+/* Compares what a statement prints with what is wanted. */
+static int is_wanted(void *wanted, int count, char **values, char **names)
+{
+    (void)names;
+    CHECK(count == 1 && values[0] && !strcmp(values[0], wanted));
+    return 0;
+}
+
+static void use(sqlite3 *database, const char *extension, char *fingerprint)
+{
+    if (sqlite3_load_extension(database, extension, NULL, NULL) == SQLITE_OK) {
+        sqlite3_exec(database, load, is_wanted, fingerprint, NULL);
+        sqlite3_exec(database, table, NULL, NULL, NULL);
+        sqlite3_exec(database, "INSERT INTO words(word) VALUES ('bz'), ('bh'), ('b')", NULL, NULL, NULL);
+        sqlite3_exec(database, word_index, NULL, NULL, NULL);
+        sqlite3_exec(database, "SELECT uca_load('none', 'none')", is_wanted, "an error", NULL);
+        sqlite3_exec(database, "SELECT uca_key('a', '')", is_wanted, "an error", NULL);
+    }
+}
+
+/* The connection is used once more, with memory. */
+static void use_again(sqlite3 *database, const char *extension, char *fingerprint)
+{
+    use(database, extension, fingerprint);
+    CHECK(sqlite3_exec(database, "DELETE FROM words WHERE rowid > 3", NULL, NULL, NULL) == SQLITE_OK);
+    CHECK(sqlite3_exec(database, order, is_wanted, "b bh bz", NULL) == SQLITE_OK);
+    CHECK(sqlite3_exec(database, wrong_keys, is_wanted, "0", NULL) == SQLITE_OK);
+    CHECK(sqlite3_exec(database, "PRAGMA integrity_check", is_wanted, "ok", NULL) == SQLITE_OK);
+}
+
+/* A use in which these allocations fail. It returns how many there were. */
+static long run(const char *extension, char *fingerprint, long first, long last)
+{
+    sqlite3 *database;
+    CHECK(sqlite3_open(":memory:", &database) == SQLITE_OK);
+    CHECK(sqlite3_db_config(database, SQLITE_DBCONFIG_ENABLE_LOAD_EXTENSION, 1, NULL) == SQLITE_OK);
+    asked = 0;
+    first_failing = first;
+    last_failing = last;
+    is_short = 1;
+    use(database, extension, fingerprint);
+    is_short = 0;
+    long count = asked;
+    if (first == last) {
+        use_again(database, extension, fingerprint);
+    }
+    CHECK(sqlite3_close(database) == SQLITE_OK);
+    CHECK(sqlite3_memory_used() == 0);
+    return count;
+}
+
+int main(int count, char **words)
+{
+    if (count != 5) {
+        return 2;
+    }
+    char *extension = words[1], *used = words[4];
+    snprintf(load, ROOM, "SELECT uca_load('%s', '%s', 'shifted', '', '%s')", words[2], words[3], used);
+    snprintf(table, ROOM, "CREATE TABLE IF NOT EXISTS words(word TEXT, key BLOB AS (uca_key(word, '%s')) STORED)", used);
+    snprintf(word_index, ROOM, "CREATE INDEX IF NOT EXISTS by_word ON words(word COLLATE uca_%s)", used);
+    snprintf(order, ROOM, "SELECT group_concat(word, ' ') FROM (SELECT word FROM words ORDER BY word COLLATE uca_%s)", used);
+    snprintf(wrong_keys, ROOM, "SELECT count(*) FROM words WHERE key IS NOT uca_key(word, '%s')", used);
+    long allocations = run(extension, used, 0, 0);
+    for (long n = 1; n <= allocations; n++) {
+        run(extension, used, n, n);
+        run(extension, used, n, n + 1000000);
+    }
+    printf("%ld runs, %ld checks failed\n", 2 * allocations, failed);
+    return failed != 0 || allocations == 0;
+}
