@@ -8,7 +8,7 @@ With no arguments the table and the data file are Unicode's, and the lines are 1
 
 For each file it prints how many calls for keys and for comparisons there are in a second (bindings.c). The lines are sorted first. Then it
 prints the seconds of sorting without an index, and of making an index. In SQLite they are those of `uca_key` and `icu_key`, and of the
-collations `uca` and `icu` (sqlite_icu.c). In PostgreSQL they are those of `uca_key` and COLLATE "und-x-icu". All times are processor time, and
+collations `uca_..` and `icu` (sqlite_icu.c). In PostgreSQL they are those of `uca_key` and COLLATE "und-x-icu". All times are processor time, and
 each is the least of ROUNDS. The weighting is non-ignorable, but that of PostgreSQL's `uca_key` is shifted.
 
 It installs nothing. It needs Debian's packages gcc, libicu-dev and pkgconf, and for each database those of tools/bindings.py. A database that is
