@@ -1,1 +1,2 @@
 pub mod Fingerprints
+pub mod KeyHeaders

@@ -19,7 +19,7 @@ pub fn sum(bytes: &[u8]) -> [u8; 32]
 }
 
 // 32 bytes as 64 lower-case hexadecimal digits.
-fn digits(bytes: &[u8; 32]) -> [u8; 64]
+pub(crate) fn digits(bytes: &[u8; 32]) -> [u8; 64]
     ensures { result ≡ encode_lower bytes.now }
 {
     let mut digits = [0u8; 64];

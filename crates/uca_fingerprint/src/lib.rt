@@ -3,7 +3,9 @@
 #![tactic(auto)]
 
 mod fingerprints;
+mod headers;
 mod texts;
 
 pub use fingerprints::{fingerprint, fingerprint_of_sums, sum};
+pub use headers::{KeyHeader, fingerprint_of_digits};
 pub use texts::{depth_name, edition, normalization_version};
