@@ -1,6 +1,6 @@
 //! The header of key lines: a first line that says what made the keys.
 
-ghost use Rattle.std.specs.Prelude.{◌≡◌, ◌≢◌, ◌+◌, ◌≤◌, ◌++◌, ℕ, List, MatchOption, length};
+ghost use Rattle.std.specs.Prelude.{◌≡◌, ◌≢◌, ◌+◌, ◌≤◌, ◌∷◌, [], ◌++◌, ℕ, List, MatchOption, length};
 ghost use Rattle.hex.specs.Hex.{IsBytes, encode_lower};
 ghost use Rattle.uca_weights.specs.WeightingText.{weighting_text};
 ghost use Rattle.uca_fingerprint.specs.Fingerprints.{depth_text};
@@ -30,7 +30,8 @@ impl Model for KeyHeader {
 impl KeyHeader {
     /// The header of keys that were made under a weighting and at a depth, by files and settings with this fingerprint.
     pub fn new(weighting: Weighting, depth: Depth, fingerprint: &[u8; 32]) -> KeyHeader
-        ensures { result ≡ key_header weighting depth fingerprint.now }
+        ensures line { result ≡ key_header weighting depth fingerprint.now }
+        ensures short { length result ≤ 127 }
     {
         KeyHeader {
             line: ArrayVec::new(),
@@ -41,6 +42,13 @@ impl KeyHeader {
         .then(depth_of(depth))
         .then(b" ")
         .then(&digits(fingerprint))
+    }
+
+    /// The same header, with an LF at its end.
+    pub fn ended(weighting: Weighting, depth: Depth, fingerprint: &[u8; 32]) -> KeyHeader
+        ensures { result ≡ key_header weighting depth fingerprint.now ++ 10 ∷ [] }
+    {
+        KeyHeader::new(weighting, depth, fingerprint).then(b"\n")
     }
 
     /// The bytes of the header.
