@@ -12,7 +12,8 @@ First prove and build the static library: `tools/build.py uca_c`. Then this scri
 - a program that is compiled by what pkg-config says of a temporary installation, and the programs of docs/BINDINGS.md;
 - the tests of the module for Python, as it is and from a wheel with the library inside;
 - statements of SQLite with the extension, over files that are the same or others, and those of docs/BINDINGS.md; also where each allocation fails in turn;
-- statements of PostgreSQL with its extension. The server has a folder of its own, listens on a Unix socket there, and is stopped afterwards;
+- statements, dumps and replication of PostgreSQL with its extension, which is installed to a copy of the server's programs in a temporary folder. Each server
+  has a folder of its own, listens on a Unix socket there, and is stopped afterwards;
 - all four over Unicode's table, and over that table tailored for Danish: 100,000 words of nine languages have the keys of `uca keys` and the order of `uca sort`.
 
 Debian's packages are gcc, g++, make, pkgconf, valgrind, sqlite3, libsqlite3-dev, postgresql and postgresql-server-dev-15, and for the last checks unicode-data and the word lists of WORDS. What needs a command,
@@ -30,6 +31,7 @@ import sqlite3
 import subprocess
 import sys
 import tempfile
+import time
 import zipfile
 
 TOP = os.path.dirname(os.path.dirname(os.path.realpath(__file__)))
@@ -483,14 +485,38 @@ def sqlite_like(program):
     return check
 
 
-@contextlib.contextmanager
-def postgresql_server(work, table=f"{EXAMPLES}/table.txt", data=f"{EXAMPLES}/data.txt"):
-    """A server with the extension's functions over these files, what runs statements in it, and its settings."""
+def link_into(folder, source):
+    """Links in a folder to what another folder has and this one has not."""
+    for name in os.listdir(source):
+        if os.path.isdir(f"{folder}/{name}") and not os.path.islink(f"{folder}/{name}"):
+            link_into(f"{folder}/{name}", f"{source}/{name}")
+        elif not os.path.lexists(f"{folder}/{name}"):
+            os.symlink(f"{source}/{name}", f"{folder}/{name}")
+
+
+def postgresql_programs(work):
+    """The folder of a server's programs to which the extension is installed. They are copies in a tree in this folder, since a server
+    looks for its files by where its program is. The other files of the tree are links."""
     need("make", "gcc", "pg_config", "psql")
     config = os.environ.get("PG_CONFIG", "pg_config")
-    if not os.path.exists(f"{run([config, '--includedir-server']).decode().strip()}/postgres.h"):
+    headers, programs, library, shared = (run([config, f"--{it}"]).decode().strip() for it in ("includedir-server", "bindir", "pkglibdir", "sharedir"))
+    if not os.path.exists(f"{headers}/postgres.h"):
         raise NotHere("there is no postgres.h")
-    run(["make", "-s", "-C", f"{TOP}/bindings/postgresql", f"PG_CONFIG={config}"])
+    made = ["make", "-s", "-C", f"{TOP}/bindings/postgresql", f"PG_CONFIG={config}"]
+    run(made)
+    tree = f"{work}/server"
+    if not os.path.exists(tree):
+        run([*made, "install", f"DESTDIR={tree}"])
+        shutil.copytree(programs, tree + programs)
+        for it in (library, shared):
+            link_into(tree + it, it)
+    return tree + programs
+
+
+@contextlib.contextmanager
+def postgresql_server(work, table=f"{EXAMPLES}/table.txt", data=f"{EXAMPLES}/data.txt", more=""):
+    """A server with the extension over these files, what runs statements in it, and its settings."""
+    programs = postgresql_programs(work)
     sys.path.insert(0, f"{EXAMPLES}/databases")
     sys.dont_write_bytecode = True
     from local_servers import PostgreSQL
@@ -498,28 +524,30 @@ def postgresql_server(work, table=f"{EXAMPLES}/table.txt", data=f"{EXAMPLES}/dat
     room = tempfile.mkdtemp(dir=work)
     for folder in (work, room):
         os.chmod(folder, 0o755)
-    for file, name in ((f"{TOP}/bindings/postgresql/uca.so", "uca.so"), (table, "table.txt"), (f"{EXAMPLES}/tailored.txt", "tailored.txt"), (data, "data.txt")):
+    for file, name in ((table, "table.txt"), (f"{EXAMPLES}/tailored.txt", "tailored.txt"), (data, "data.txt")):
         shutil.copy(file, f"{room}/{name}")
-    settings = "".join(f"{name} = '{room}/{file}'\n" for name, file in (("shared_preload_libraries", "uca"), ("uca.table", "table.txt"), ("uca.data", "data.txt")))
-    settings += "uca.weighting = shifted\n"
-    with PostgreSQL(room, settings) as server:
+    files = "".join(f"uca.{it}_file = '{room}/{it}.txt'\n" for it in ("table", "data"))
+    settings = f"shared_preload_libraries = 'uca'\n{files}uca.weighting = shifted\n{more}"
+    with PostgreSQL(room, settings, programs) as server:
 
-        def says(statements, fails=False):
-            """What the statements print, or their error."""
-            words = ["psql", "-XAtq", "-v", "ON_ERROR_STOP=1"]
-            ran = subprocess.run(words, input=statements, capture_output=True, text=True, env={**os.environ, **server.environment})
+        def says(statements, fails=False, database="postgres"):
+            """What the statements print, or the first line of their error."""
+            words = ["psql", "-XAtq", "-v", "ON_ERROR_STOP=1", "-d", database]
+            environment = {**os.environ, **server.environment, "PGOPTIONS": "-c client_min_messages=error"}
+            ran = subprocess.run(words, input=statements, capture_output=True, text=True, env=environment)
             if bool(ran.returncode) != fails:
                 raise AssertionError(f"{statements:.200}: {ran.stdout}{ran.stderr}")
             return ran.stderr.split("\n")[0] if fails else ran.stdout
 
-        # what CREATE EXTENSION does, without an installation
-        made = content(f"{TOP}/bindings/postgresql/uca--0.1.sql").decode().partition("\n")[2]
-        says(made.replace("MODULE_PATHNAME", f"{room}/uca").replace("@extschema@", "public"))
+        says("CREATE EXTENSION uca;")
         yield server, says, settings
 
 
-OTHER_FILES = "ERROR:  uca: the server has other files than those by which this database's keys were made"
+OTHER_FILES = "ERROR:  uca: the server has other files or settings than those by which this database's keys were made"
+OTHERS_NAMED = "ERROR:  uca: the server has other files or settings than those that are named"
+KEYS_ARE_KEPT = "ERROR:  uca: this database keeps keys of other files or settings than the server's"
 MADE = "CREATE TABLE words(word text); INSERT INTO words VALUES ('ch'), ('c-h'), ('a'), ('á'); CREATE INDEX by_key ON words(uca_key(word));"
+LONG = "repeat(repeat('a', 10000), 18000)"
 RUN_OF_65 = "'a' || repeat(U&'\\0301', 65)"
 
 
@@ -529,24 +557,255 @@ def postgresql(work):
              "1c4700000020000000020000ffff|t|001c4700000020000000020000ffff\n", "keys")
         same(says(f"SELECT uca_key({RUN_OF_65});", fails=True), "ERROR:  uca: the text is rejected: LongRun", "a text that is rejected")
         same(says(f"SELECT substring(uca_any_key({RUN_OF_65}) for 4);"), "\\x0161cc81\n", "any key of a text that is rejected")
+        same(says(f"SELECT length(uca_any_key({LONG}));"), "180000001\n", "any key of a text of 180 MB")
+        same(says(f"SELECT uca_key({LONG});", fails=True), "ERROR:  uca: the text is rejected: TooLong", "a text of 180 MB")
         same(says(MADE + "SET enable_seqscan = off; EXPLAIN (costs off) SELECT word FROM words ORDER BY uca_key(word); SELECT word FROM words ORDER BY uca_key(word);"),
              "Index Scan using by_key on words\na\ná\nc-h\nch\n", "an index")
         parallel = "SET max_parallel_workers_per_gather = 4; SET parallel_setup_cost = 0; SET parallel_tuple_cost = 0; SET min_parallel_table_scan_size = 0;"
-        same(says(f"CREATE TABLE numbers AS SELECT i::text AS n FROM generate_series(1, 100000) i; {parallel} SELECT count(*) FROM numbers WHERE uca_key(n) > '\\x00';"),
-             "100000\n", "parallel workers")
+        counted = f"{parallel} SELECT count(*) FROM numbers WHERE uca_key(n) > '\\x00';"
+        same(says(f"CREATE TABLE numbers AS SELECT i::text AS n FROM generate_series(1, 100000) i; {counted}"), "100000\n", "parallel workers")
         says("SET uca.weighting = 'non-ignorable';", fails=True)
+        meanwhile = "BEGIN; INSERT INTO words VALUES ('b');\n\\! psql -XAtqc \"INSERT INTO uca_files VALUES ('another')\"\nINSERT INTO words VALUES ('b');"
+        same(says(meanwhile, fails=True), OTHER_FILES, "another fingerprint of another session")
+        says("DELETE FROM uca_files WHERE fingerprint = 'another';")
         server.restart(settings.replace("/table.txt", "/tailored.txt"))
         for statement in ("SELECT uca_key('a');", "INSERT INTO words VALUES ('b');", "SELECT word FROM words WHERE uca_key(word) > '\\x00';"):
             same(says(statement, fails=True), OTHER_FILES, f"{statement} with another table")
-        taken_back = "BEGIN; SELECT uca_use_files(); SELECT uca_key('a'); ROLLBACK; SELECT uca_key('a');"
-        same(says(taken_back, fails=True), OTHER_FILES, "files that are not used after all")
-        inside = "BEGIN; SAVEPOINT s; SELECT uca_use_files(); SELECT uca_key('a'); ROLLBACK TO s; SELECT uca_key('a');"
+        used = "BEGIN; DO 'BEGIN PERFORM uca_use_files(again => true); END';"
+        same(says(f"{used} SELECT uca_key('a'); ROLLBACK; SELECT uca_key('a');", fails=True), OTHER_FILES, "files that are not used after all")
+        inside = f"{used.replace('BEGIN;', 'BEGIN; SAVEPOINT s;')} SELECT uca_key('a'); ROLLBACK TO s; SELECT uca_key('a');"
         same(says(inside, fails=True), OTHER_FILES, "the same inside a transaction")
-        same(says("SELECT uca_use_files(); REINDEX TABLE words; INSERT INTO words VALUES ('b'); SELECT word FROM words ORDER BY uca_key(word);"),
-             "\na\ná\nb\nc-h\nch\n", "files that are used from now on")
-        server.restart(settings.replace("/data.txt", "/none.txt"))
-        if "the file of uca.data cannot be read" not in says("SELECT uca_key('a');", fails=True):
-            raise AssertionError("a server without its data file")
+        same(says(f"{used} {counted} ROLLBACK;"), "100000\n", "parallel workers of a transaction that uses other files")
+        written = "INSERT INTO words SELECT 'a' WHERE uca_key('a') IS NULL; INSERT INTO uca_files VALUES (''); SELECT uca_key('a');"
+        same(says(f"{used} {written}", fails=True), OTHER_FILES, "another fingerprint in the same transaction")
+        same(says(f"{used} COMMIT; INSERT INTO words VALUES ('b'); SELECT word FROM words ORDER BY uca_key(word);"),
+             "a\ná\nb\nc-h\nch\n", "files that are used from now on")
+        says("ALTER EXTENSION uca DROP FUNCTION uca_use_files(boolean); DROP FUNCTION uca_use_files(boolean);"
+             "ALTER TABLE uca_files ALTER fingerprint TYPE bytea USING decode(fingerprint, 'hex');")
+        same(says("SELECT uca_key('a');", fails=True), "ERROR:  uca: this database has the extension of an earlier version", "a table that was made before")
+
+
+def fingerprint_of(table, data, weighting, depth):
+    """The fingerprint of files and settings, as uca.h says it."""
+    table, data = (hashlib.sha256(content(it)).hexdigest() for it in (table, data))
+    text = f"uca keys 1\nunicode 18.0.0\nweighting {weighting}\ndepth {depth}\ntable {table}\ndata {data}\n"
+    return hashlib.sha256(text.encode()).hexdigest()
+
+
+def postgresql_settings(work):
+    """The settings and their files, and the fingerprint of each."""
+    table, data = f"{EXAMPLES}/table.txt", f"{EXAMPLES}/data.txt"
+    with postgresql_server(work) as (server, says, settings):
+        for weighting, depth in (("shifted", "identical"), ("non-ignorable", "weights"), ("table", "weights")):
+            server.restart(settings.replace("weighting = shifted", f"weighting = '{weighting}'") + f"uca.identical = {depth == 'identical'}\n")
+            wanted = fingerprint_of(table, data, weighting.replace("table", "shifted"), depth)
+            key = "1c470000002000000002" + ("0000ffff" if weighting != "non-ignorable" else "") + ("0000000061" if depth == "identical" else "")
+            same(says(f"SELECT uca_fingerprint(), encode(uca_key('a', '{wanted}'), 'hex');"), f"{wanted}|{key}\n", f"{weighting}, {depth}")
+            is_same = wanted == fingerprint_of(table, data, "shifted", "weights")
+            same(says("SELECT uca_key('a');", fails=not is_same).strip(), f"\\x{key}" if is_same else OTHER_FILES, f"{weighting}, {depth}, in this database")
+        for name in ("uca.table_file", "uca.data_file"):
+            same(says(f"ALTER SYSTEM SET {name} = '/none'; SHOW {name};"), f"{server.folder.removesuffix('postgresql')}{name[4:-5]}.txt\n", name)
+            if "pg_read_all_settings" not in says(f"CREATE ROLE {name[4:]}; SET ROLE {name[4:]}; SHOW uca.weighting; SHOW {name};", fails=True):
+                raise AssertionError(f"a role without rights reads {name}")
+        room = os.path.dirname(server.folder)
+        os.mkfifo(f"{room}/pipe")
+        with open(f"{room}/long", "wb") as it:
+            it.truncate(64 * 1024 * 1024 + 1)
+        for file, error in (("none", "the file of uca.table_file cannot be read: No such file or directory"), ("pipe", "uca.table_file does not name a regular file"),
+                            ("", "uca.table_file does not name a regular file"), ("long", "the file of uca.table_file has more than 67108864 bytes"),
+                            ("data.txt", "table line 1: Line")):
+            server.restart(settings.replace("/table.txt", f"/{file}"))
+            same(says("SELECT uca_key('a');", fails=True), f"ERROR:  uca: {error}", f"the file {file}")
+        server.restart(settings.replace("_file", ""))
+        same(says("SELECT uca_key('a');", fails=True), "ERROR:  uca: the settings uca.table and uca.data are now uca.table_file and uca.data_file", "the old names")
+
+
+# The word bh is before bz by the one table, and after it by the other.
+KEPT = """
+CREATE TABLE words(word text, key bytea GENERATED ALWAYS AS (uca_key(word)) STORED, CONSTRAINT "is a word" CHECK (uca_key(word) > '\\x00'));
+INSERT INTO words VALUES ('b'), ('bh'), ('bz'), ('c');
+CREATE INDEX by_key ON words(uca_key(word));
+CREATE FUNCTION any_key(text) RETURNS bytea LANGUAGE sql IMMUTABLE AS 'SELECT public.UCA_ANY_KEY($1)';
+CREATE FUNCTION key_of(text) RETURNS bytea LANGUAGE sql IMMUTABLE RETURN uca_key($1);
+CREATE INDEX by_any_key ON words(any_key(word)) WHERE key_of(word) > '\\x00';
+CREATE FUNCTION order_of(text, text) RETURNS integer LANGUAGE sql IMMUTABLE AS 'SELECT byteacmp(public.uca_key($1), public.uca_key($2))';
+CREATE OPERATOR CLASS its_order FOR TYPE text USING btree AS FUNCTION 1 order_of(text, text);
+CREATE TABLE ordered(word text);
+CREATE INDEX by_order ON ordered(word its_order);
+CREATE TABLE plain AS SELECT word, key FROM words;
+CREATE VIEW keys AS SELECT word, uca_key(word) AS key FROM words;
+CREATE MATERIALIZED VIEW "Kept" AS SELECT * FROM keys;
+CREATE MATERIALIZED VIEW again AS SELECT * FROM "Kept" ORDER BY key;
+CREATE DOMAIN short AS text CONSTRAINT is_short CHECK (length(uca_key(VALUE)) < 100);
+CREATE TABLE parts(word text) PARTITION BY RANGE (uca_key(word));
+SELECT format('CREATE TABLE part1 PARTITION OF parts FOR VALUES FROM (MINVALUE) TO (%L)', uca_key('bi')) \\gexec
+SELECT format('CREATE TABLE part2 PARTITION OF parts FOR VALUES FROM (%L) TO (MAXVALUE)', uca_key('bi')) \\gexec
+INSERT INTO parts SELECT word FROM words;
+"""
+DEPENDENTS = """index|public.by_key|REINDEX INDEX public.by_key
+index|public.by_any_key|REINDEX INDEX public.by_any_key
+index|public.by_order|REINDEX INDEX public.by_order
+generated column|public.words.key|UPDATE ONLY public.words SET word = word
+check|"is a word" on public.words|ALTER TABLE public.words DROP CONSTRAINT "is a word", ADD CONSTRAINT "is a word" CHECK ((public.uca_key(word) > '\\x00'::bytea))
+check|is_short on public.short|ALTER DOMAIN public.short DROP CONSTRAINT is_short; ALTER DOMAIN public.short ADD CONSTRAINT is_short CHECK ((length(public.uca_key(VALUE)) < 100))
+partitioned table|public.parts|
+materialized view|public."Kept"|REFRESH MATERIALIZED VIEW public."Kept"
+materialized view|public.again|REFRESH MATERIALIZED VIEW public.again
+"""
+WRONG_KEYS = "".join(f"SELECT count(*) FROM {it} WHERE key <> uca_key(word);" for it in ("words", "plain", '"Kept"', "again"))
+BY_INDEX = "SET enable_seqscan = off; SELECT string_agg(word, ' ') FROM (SELECT word FROM words ORDER BY uca_key(word)) it;"
+USES = ("SELECT uca_key('a');", "INSERT INTO words VALUES ('d');", "SELECT FROM plain WHERE key = uca_key(word);", "INSERT INTO parts VALUES ('bh');")
+
+
+def named(fingerprint):
+    """Tables whose keys name their files."""
+    key = f"uca_key(word, '{fingerprint}')"
+    return (f"CREATE TABLE named(word text, key bytea CHECK (key = {key})); INSERT INTO named VALUES ('bh', uca_key('bh'));"
+            f"CREATE TABLE named2(word text, key bytea GENERATED ALWAYS AS ({key}) STORED); INSERT INTO named2 VALUES ('bh');"
+            f"CREATE TABLE named3(word text); INSERT INTO named3 VALUES ('bh'); CREATE INDEX by_name ON named3 ({key});"
+            f"CREATE TABLE named4(key bytea, CHECK (uca_key('', '{fingerprint}') IS NOT NULL)); INSERT INTO named4 SELECT key FROM named;")
+
+
+def restored(server, database, *words, given=None):
+    """The errors of a restore into a new database."""
+    environment = {**os.environ, **server.environment, "PGDATABASE": database}
+    run([f"{server.programs}/createdb", "-T", "template0", database], env=environment)
+    ran = subprocess.run([f"{server.programs}/{words[0]}", *words[1:], "-d", database], input=given, capture_output=True, env=environment)
+    return ran.stderr.decode()
+
+
+def postgresql_dumps(work):
+    """Dumps that are restored where the server has the same files, and where it has others."""
+    with postgresql_server(work) as (server, says, _), postgresql_server(work, f"{EXAMPLES}/tailored.txt") as (other, says_other, _):
+        fingerprint = says("SELECT uca_fingerprint();").strip()
+        says(KEPT)
+        dump = [f"{server.programs}/pg_dump", "-h", server.folder, "-U", "postgres"]
+        plain = run([*dump, "postgres"])
+        run([*dump, "-Fc", "-f", f"{work}/dump", "postgres"])
+        restores = {"plain": (["psql", "-X"], plain), "parallel": (["pg_restore", "-j", "4", f"{work}/dump"], None)}
+        for name, (words, given) in restores.items():
+            same(restored(server, name, *words, given=given), "", f"a {name} restore under the same files")
+            same(says(WRONG_KEYS + BY_INDEX + "SELECT string_agg(word, ' ') FROM part1;", database=name), "0\n" * 4 + "b bh bz c\nb bh\n", f"its keys, {name}")
+            restored(other, name, *words, given=given)
+            same(says_other("SELECT count(*) FROM plain;", database=name), "4\n", "keys that came from the dump")
+            for it in USES:
+                same(says_other(it, fails=True, database=name), OTHER_FILES, f"{it} after a {name} restore under other files")
+            same(says_other("SELECT uca_use_files();", fails=True, database=name), KEYS_ARE_KEPT, f"uca_use_files() after a {name} restore")
+        says("CREATE DATABASE named;")
+        says("CREATE EXTENSION uca;" + named(fingerprint) + "CREATE TABLE plain AS SELECT * FROM named;", database="named")
+        same(says("SELECT * FROM uca_dependents();", database="named"), "", "what names its files does not depend on uca_files")
+        alone = run([*dump, "-t", "named*", "named"])
+        for its_server, its_says, count in ((server, says, "1\n" * 4), (other, says_other, "0\n0\n1\n0\n")):
+            its_says("CREATE DATABASE alone;")
+            its_says("CREATE EXTENSION uca;", database="alone")
+            environment = {**os.environ, **its_server.environment, "PGDATABASE": "alone"}
+            ran = subprocess.run(["psql", "-XAtq"], input=alone, capture_output=True, env=environment)
+            same(ran.stderr.decode().count(OTHERS_NAMED.partition(":")[2]), 0 if its_server is server else 4, "errors of tables that name their files")
+            counts = "".join(f"SELECT count(*) FROM {it};" for it in ("named", "named2", "named3", "named4"))
+            same(its_says(counts, database="alone"), count, "their rows")
+        ordered = f"SET enable_seqscan = off; EXPLAIN (costs off) SELECT word FROM named3 ORDER BY uca_key(word, '{fingerprint}');"
+        same(says(ordered, database="named"), "Index Scan using by_name on named3\n", "an index that names its files")
+        same(says(f"SELECT uca_any_key(NULL, '{fingerprint}') IS NULL;"), "t\n", "the key of NULL")
+        same(says("SELECT uca_key(NULL, NULL);", fails=True), "ERROR:  uca: the fingerprint is NULL", "no fingerprint")
+        same(says("DROP EXTENSION uca;", fails=True, database="named"), "ERROR:  cannot drop extension uca because other objects depend on it", "DROP EXTENSION")
+        says("DROP EXTENSION uca CASCADE; CREATE EXTENSION uca;", database="named")
+        same(says("SELECT key = uca_key(word) FROM plain;", fails=True, database="named"), OTHER_FILES, "bytes that were there before the extension")
+        same(says("SELECT uca_use_files(); SELECT key = uca_key(word) FROM plain;", database="named"), "0\nt\n", "an administrator who knows these bytes")
+
+
+def until(found, wanted, what):
+    """Waits until a call returns this, 30 seconds at most."""
+    for _ in range(300):
+        if found() == wanted:
+            return
+        time.sleep(0.1)
+    same(found(), wanted, what)
+
+
+def postgresql_replication(work):
+    """Keys of another server, which logical replication copies as bytes."""
+    more = "wal_level = logical\n"
+    with postgresql_server(work, more=more) as (server, says, _), postgresql_server(work, f"{EXAMPLES}/tailored.txt", more=more) as (other, says_other, _):
+        fingerprint = says("SELECT uca_fingerprint();").strip()
+        tables = ("CREATE TABLE plain(word text, key bytea); CREATE TABLE copies(word text); CREATE INDEX by_key ON copies(uca_key(word));"
+                  f"CREATE TABLE named(word text, key bytea CHECK (key = uca_key(word, '{fingerprint}')));")
+        says(tables + "INSERT INTO plain VALUES ('bh', uca_key('bh')); INSERT INTO named SELECT * FROM plain; INSERT INTO copies SELECT word FROM plain;")
+        says("CREATE PUBLICATION everything FOR ALL TABLES;")
+        says("CREATE DATABASE copy;")
+        says("CREATE EXTENSION uca;" + tables, database="copy")
+        says("SELECT FROM pg_create_logical_replication_slot('here', 'pgoutput');")
+        connection = f"CREATE SUBSCRIPTION {{}} CONNECTION 'host={server.folder} user=postgres dbname=postgres' PUBLICATION everything"
+        says(f"{connection.format('here')} WITH (create_slot = false);", database="copy")
+        counts = "SELECT count(*) FROM uca_files; SELECT count(*) FROM plain; SELECT count(*) FROM copies; SELECT count(*) FROM named;"
+        until(lambda: says(counts, database="copy"), "2\n1\n1\n1\n", "rows of a server with the same files")
+        same(says("SELECT key = uca_key(word) FROM plain;", database="copy"), "t\n", "keys of a server with the same files")
+        says("ALTER SUBSCRIPTION here DISABLE;", database="copy")
+        says_other(tables)
+        says_other(f"{connection.format('there')};")
+        until(lambda: says_other(counts)[:4], "2\n1\n", "rows of a server with other files")
+        same(says_other("SELECT key = uca_key(word) FROM plain;", fails=True), OTHER_FILES, "keys of a server with other files")
+        same(says_other("INSERT INTO copies VALUES ('b');", fails=True), OTHER_FILES, "an index beside them")
+        until(lambda: OTHERS_NAMED in content(f"{other.folder}/log").decode(), True, "an error for a column that names its files")
+        same(says_other("SELECT count(*) FROM named;"), "0\n", "rows of a table that names its files")
+        says("UPDATE uca_files SET fingerprint = 'another';")
+        until(lambda: says_other("SELECT count(*) FROM uca_files WHERE fingerprint = 'another';"), "1\n", "a later fingerprint")
+
+
+def postgresql_changes(work):
+    """What an administrator does where the server has other files."""
+    with postgresql_server(work, more="max_prepared_transactions = 1\n") as (server, says, settings):
+        fingerprint = says("SELECT uca_fingerprint();").strip()
+        same(says("SELECT * FROM uca_dependents();"), "", "no dependents")
+        says(KEPT + named(fingerprint))
+        same(says("SELECT * FROM uca_dependents();"), DEPENDENTS, "the dependents")
+        same(says("SELECT uca_use_files();"), "0\n", "files that are used already")
+        says("CREATE DATABASE empty;")
+        says("CREATE EXTENSION uca; BEGIN; CREATE TABLE it(); PREPARE TRANSACTION 'one';", database="empty")
+        server.restart(settings.replace("/table.txt", "/tailored.txt"))
+        same(says("SELECT uca_use_files();", fails=True, database="empty"), KEYS_ARE_KEPT, "a prepared transaction")
+        same(says("ROLLBACK PREPARED 'one'; SELECT uca_use_files(); SELECT uca_key('bh') > uca_key('bz');", database="empty"), "0\nt\n", "a database without keys")
+        same(says("SELECT uca_use_files();", fails=True), KEYS_ARE_KEPT, "uca_use_files()")
+        same(says("SELECT uca_key('a');", fails=True), OTHER_FILES, "a key after it")
+        again = "SELECT uca_use_files(again => true);"
+        same(says(again, fails=True), KEYS_ARE_KEPT, "a partitioned table, which has no statement")
+        skips = "CREATE TRIGGER skips BEFORE UPDATE ON words FOR EACH ROW EXECUTE FUNCTION suppress_redundant_updates_trigger();"
+        for it in (skips, "CREATE RULE skips AS ON UPDATE TO words DO INSTEAD NOTHING;"):
+            same(says(f"BEGIN; DROP TABLE parts; {it} {again}", fails=True), KEYS_ARE_KEPT, f"a column that {it} could leave as it is")
+        same(says(f"BEGIN; DROP TABLE parts; {again} UPDATE plain SET key = uca_key(word); COMMIT;"), f"{DEPENDENTS.count(chr(10)) - 1}\n", "statements that were run")
+        same(says(WRONG_KEYS + BY_INDEX), "0\n" * 4 + "b bz bh c\n", "the keys after them")
+        same(says("INSERT INTO named3 VALUES ('b');", fails=True), OTHERS_NAMED, "an index that names the old files")
+        server.restart(settings)
+        dropped = ["BEGIN; DROP INDEX by_key, by_any_key, by_order; ALTER TABLE words DROP key, DROP CONSTRAINT \"is a word\"; DROP VIEW keys CASCADE; DROP DOMAIN short;",
+                   "SELECT uca_use_files(); CREATE INDEX by_key ON words(uca_key(word)); COMMIT;", BY_INDEX]
+        for without in ("DROP INDEX by_key, by_any_key, by_order;", "DROP VIEW keys CASCADE;", "DROP DOMAIN short;"):
+            same(says("\n".join(dropped).replace(without, ""), fails=True), KEYS_ARE_KEPT, f"without {without}")
+        same(says("\n".join(dropped).replace(", by_order", ""), fails=True), KEYS_ARE_KEPT, "without an index by an operator class")
+        same(says("\n".join(dropped)), "0\nb bh bz c\n", "dropped, and made again")
+        same(says("INSERT INTO named3 VALUES ('b'); SELECT count(*) FROM named3;"), "2\n", "an index that names these files")
+
+
+def postgresql_roles(work):
+    """Roles without rights, and schemas that are renamed."""
+    with postgresql_server(work) as (_, says, _):
+        says("DROP EXTENSION uca; CREATE SCHEMA ext; CREATE EXTENSION uca SCHEMA ext; CREATE ROLE joe;"
+             "CREATE TABLE words(word text); CREATE INDEX by_key ON words(ext.uca_key(word)); GRANT ALL ON words TO joe;")
+        says("SET ROLE joe; INSERT INTO words VALUES ('a');")
+        says("REVOKE SELECT ON ext.uca_files FROM PUBLIC; SET ROLE joe; INSERT INTO words VALUES ('b');")
+        says("GRANT USAGE ON SCHEMA ext TO joe;")
+        for it in ("SELECT ext.uca_use_files()", "SELECT ext.uca_run('SELECT 1')", "DELETE FROM ext.uca_files", "INSERT INTO ext.uca_files VALUES ('')"):
+            if "permission denied" not in says(f"SET ROLE joe; {it};", fails=True):
+                raise AssertionError(f"{it} by a role without rights")
+        says("CREATE INDEX CONCURRENTLY again ON words(ext.uca_key(word)); REINDEX INDEX CONCURRENTLY again; VACUUM FULL words; ANALYZE words;")
+        for schema in ("ext2", "public"):
+            says(f"ALTER SCHEMA ext RENAME TO {schema};" if schema == "ext2" else f"ALTER EXTENSION uca SET SCHEMA {schema};")
+            same(says(f"SELECT count(*) FROM {schema}.uca_dependents(); SELECT {schema}.uca_use_files(again => true); SELECT {schema}.uca_key('a') IS NULL;"), "2\n2\nf\n", schema)
+        taken_back = "BEGIN; DROP EXTENSION uca CASCADE; CREATE EXTENSION uca; SELECT uca_key('a') IS NULL; ROLLBACK; SELECT uca_key('a') IS NULL;"
+        same(says(taken_back), "f\nf\n", "an extension that is made again")
+        says("CREATE SCHEMA other; ALTER TABLE uca_files SET SCHEMA other; CREATE TABLE uca_files AS SELECT * FROM other.uca_files;")
+        same(says("DELETE FROM uca_files; SELECT uca_key('a') IS NULL;"), "f\n", "another table uca_files")
+        same(says("UPDATE other.uca_files SET fingerprint = ''; SELECT uca_key('a');", fails=True), OTHER_FILES, "the extension's table")
+        says("ALTER EXTENSION uca DROP TABLE other.uca_files;")
+        same(says("SELECT uca_key('a');", fails=True), "ERROR:  uca: the extension has no table uca_files", "no table of the extension")
 
 
 def postgresql_like(program):
@@ -659,7 +918,9 @@ def main():
     checks = [("make", make), ("valgrind", valgrind), ("sanitizers", sanitizers), ("header in C++", header), ("exported names", exports),
               ("installation", installed), ("stored run", stored_run), ("docs/BINDINGS.md", page), ("keys", keys_like(program)), ("Python", python), ("wheel", wheel), ("sort", sorted_like(program)), ("SQLite", sqlite),
               ("SQLite's loads", sqlite_loads), ("SQLite's files", sqlite_files), ("SQLite's schemas", sqlite_schemas), ("SQLite's restores", sqlite_restore),
-              ("SQLite's attached databases", sqlite_attached), ("SQLite's memory", sqlite_memory), ("SQLite on the page", sqlite_page), ("SQLite's orders", sqlite_like(program)), ("PostgreSQL", postgresql), ("PostgreSQL's orders", postgresql_like(program))]
+              ("SQLite's attached databases", sqlite_attached), ("SQLite's memory", sqlite_memory), ("SQLite on the page", sqlite_page), ("SQLite's orders", sqlite_like(program)),
+              ("PostgreSQL", postgresql), ("PostgreSQL's settings", postgresql_settings), ("PostgreSQL's dumps", postgresql_dumps),
+              ("PostgreSQL's replication", postgresql_replication), ("PostgreSQL's changes", postgresql_changes), ("PostgreSQL's roles", postgresql_roles), ("PostgreSQL's orders", postgresql_like(program))]
     tried = {"C": c_words, "Python": python_words, "SQLite": sqlite_words, "PostgreSQL": postgresql_words}
     checks += [(f"100,000 words in {name}", over_unicode(program, it)) for name, it in tried.items()]
     passed = failed = skipped = 0

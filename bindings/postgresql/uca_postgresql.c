@@ -1,24 +1,40 @@
-/* The extension of PostgreSQL: sort keys of texts, by the files that the settings uca.table and uca.data name.
+/* The extension of PostgreSQL: sort keys of texts, by the files that the settings uca.table_file and uca.data_file name.
 
-   The server reads both files once, when it starts, so no setting and no file changes an order while it runs. Each database keeps
-   the fingerprint of the files by which its keys are made, in the table uca_files. Where the server has other files, each call
-   is an error until uca_use_files() is called. So an index never has keys of two orders. */
+   The server reads both files once, when it starts, so no setting and no file changes an order while it runs. But keys that a
+   database keeps may come from an earlier start or from another server. So uca_key(text) compares the fingerprints in the
+   database's table uca_files with the server's, and uca_key(text, fingerprint) compares the fingerprint that it is given. Where
+   one is not the server's, the call is an error. */
 #include "postgres.h"
 
+#include <fcntl.h>
+#include <sys/stat.h>
+#include <unistd.h>
+
+#include "access/genam.h"
+#include "access/htup_details.h"
+#include "access/table.h"
+#include "access/tableam.h"
 #include "access/xact.h"
+#include "catalog/dependency.h"
+#include "catalog/pg_class.h"
+#include "catalog/pg_depend.h"
+#include "catalog/pg_extension.h"
+#include "catalog/pg_proc.h"
 #include "catalog/pg_type.h"
-#include "common/cryptohash.h"
-#include "common/sha2.h"
 #include "executor/spi.h"
+#include "executor/tuptable.h"
 #include "fmgr.h"
 #include "lib/stringinfo.h"
 #include "mb/pg_wchar.h"
 #include "miscadmin.h"
 #include "storage/proc.h"
 #include "utils/builtins.h"
+#include "utils/fmgroids.h"
 #include "utils/guc.h"
 #include "utils/lsyscache.h"
-#include "utils/resowner.h"
+#include "utils/memutils.h"
+#include "utils/rel.h"
+#include "utils/snapmgr.h"
 
 #include "uca.h"
 
@@ -29,77 +45,101 @@ void _PG_init(void);
 /* Room for the keys of most texts: so many bytes, and six for each byte of a text. */
 #define SPARE 64
 
+/* A text with more bytes has more than 1,048,576 code points, since each has four at most. So it is too long. */
+#define MOST_TEXT (4 * 1048576)
+
+/* A table or a data file with more bytes is rejected. */
+#define MOST_FILE (64 * 1024 * 1024)
+
+#define DIGEST 32
+
 static char *table_name, *data_name;
 static int weighting = UCA_BY_TABLE;
+static bool identical = false;
 
 static const struct config_enum_entry WEIGHTINGS[] = {
     {"table", UCA_BY_TABLE, false}, {"non-ignorable", UCA_NON_IGNORABLE, false}, {"shifted", UCA_SHIFTED, false}, {NULL, 0, false}};
 
+/* The names of uca_kind, as in docs/FORMATS.md. */
+static const char *const KINDS[] = {"", "Line", "Order", "CodePoint", "Weight", "DuplicateKey", "Range", "Limit", "Read", "Memory"};
+
 static uca_collator collator = UCA_CLOSED_COLLATOR;
-static uint8 fingerprint[PG_SHA256_DIGEST_LENGTH];
+
+/* The fingerprint of the collator's files and settings, in hexadecimal digits. */
+static char fingerprint[2 * DIGEST + 1];
 
 /* Why the collator is closed. */
-static char reason[200] = "uca: the server has not read the files of uca.table and uca.data";
+static char reason[200] = "uca: the server has not read the files of uca.table_file and uca.data_file";
 
-/* Where this process has seen last that its database is for these files: a transaction, and one inside it. A change of uca_files
-   may be taken back with the transaction that made it, so each one is looked at anew. */
-static LocalTransactionId checked_transaction = InvalidLocalTransactionId;
-static SubTransactionId checked_inside = InvalidSubTransactionId;
+/* The last snapshot in which this process has seen its database to be for these files: its transaction, the one inside it, and what
+   differs between two snapshots of one transaction if another transaction has ended or a command of its own has written. So a statement
+   that may see other rows of uca_files looks at them anew. */
+typedef struct {
+    LocalTransactionId transaction;
+    SubTransactionId inside;
+    TransactionId end;
+    uint32 running;
+    int32 running_inside;
+    CommandId commands;
+} Seen;
 
-/* The bytes of a file, or false. */
-static bool read_file(const char *name, StringInfo bytes)
+static Seen checked = {InvalidLocalTransactionId, InvalidSubTransactionId, InvalidTransactionId, 0, 0, 0};
+
+/* The bytes of an open file, or false and the reason. */
+static bool read_open_file(const char *setting, FILE *file, StringInfo bytes)
 {
-    FILE *file = fopen(name, "rb");
+    struct stat about;
     size_t count;
-    bool is_read;
 
-    if (!file)
+    if (fstat(fileno(file), &about) != 0 || !S_ISREG(about.st_mode)) {
+        snprintf(reason, sizeof reason, "uca: %s does not name a regular file", setting);
         return false;
+    }
     do {
         enlargeStringInfo(bytes, 65536);
         count = fread(bytes->data + bytes->len, 1, 65536, file);
         bytes->len += count;
-    } while (count > 0);
-    is_read = !ferror(file);
-    fclose(file);
-    return is_read;
+    } while (count > 0 && bytes->len <= MOST_FILE);
+    if (ferror(file))
+        snprintf(reason, sizeof reason, "uca: the file of %s cannot be read", setting);
+    else if (bytes->len > MOST_FILE)
+        snprintf(reason, sizeof reason, "uca: the file of %s has more than %d bytes", setting, MOST_FILE);
+    return !ferror(file) && bytes->len <= MOST_FILE;
 }
 
-/* The fingerprint of the files, the weighting and the version, or false. */
-static bool make_fingerprint(StringInfo table, StringInfo data)
+/* The bytes of the file that a setting names, or false and the reason. It does not wait for a writer of a named pipe. */
+static bool read_file(const char *setting, const char *name, StringInfo bytes)
 {
-    uint64 numbers[4] = {table->len, data->len, weighting, uca_version()};
-    ResourceOwner before = CurrentResourceOwner, own = ResourceOwnerCreate(NULL, "uca");
-    pg_cryptohash_ctx *hash;
-    bool is_made;
+    int number = open(name, O_RDONLY | O_NONBLOCK | O_CLOEXEC);
+    FILE *file = number < 0 ? NULL : fdopen(number, "rb");
+    bool is_read;
 
-    /* A hash is kept by a resource owner, and a server that starts has none yet. */
-    CurrentResourceOwner = own;
-    hash = pg_cryptohash_create(PG_SHA256);
-    is_made = hash && pg_cryptohash_init(hash) == 0 && pg_cryptohash_update(hash, (uint8 *) numbers, sizeof numbers) == 0 &&
-        pg_cryptohash_update(hash, (uint8 *) table->data, table->len) == 0 &&
-        pg_cryptohash_update(hash, (uint8 *) data->data, data->len) == 0 &&
-        pg_cryptohash_final(hash, fingerprint, sizeof fingerprint) == 0;
-    if (hash)
-        pg_cryptohash_free(hash);
-    CurrentResourceOwner = before;
-    ResourceOwnerDelete(own);
-    return is_made;
+    if (!file) {
+        snprintf(reason, sizeof reason, "uca: the file of %s cannot be read: %s", setting, strerror(errno));
+        if (number >= 0)
+            close(number);
+        return false;
+    }
+    is_read = read_open_file(setting, file, bytes);
+    fclose(file);
+    return is_read;
 }
 
 /* Opens the collator by the files, or says why not. */
 static void open_files(StringInfo table, StringInfo data)
 {
+    uint32 depth = identical ? UCA_IDENTICAL : UCA_WEIGHTS, status;
+    uint8 digest[DIGEST];
     uca_error error = {0, 0};
-    uint32 status;
 
-    if (!make_fingerprint(table, data)) {
-        strlcpy(reason, "uca: out of memory", sizeof reason);
-        return;
+    status = uca_fingerprint((uint8 *) table->data, table->len, (uint8 *) data->data, data->len, weighting, depth, digest, &error);
+    if (status == UCA_OK) {
+        hex_encode((char *) digest, sizeof digest, fingerprint);
+        status = uca_open(&collator, (uint8 *) table->data, table->len, (uint8 *) data->data, data->len, weighting, depth, &error);
     }
-    status = uca_open(&collator, (uint8 *) table->data, table->len, (uint8 *) data->data, data->len, weighting, UCA_WEIGHTS, &error);
     if (status == UCA_TABLE || status == UCA_DATA)
-        snprintf(reason, sizeof reason, "uca: %s line %u, error %u of uca.h", status == UCA_TABLE ? "table" : "data", error.line, error.kind);
+        snprintf(reason, sizeof reason, "uca: %s line %u: %s", status == UCA_TABLE ? "table" : "data", error.line,
+                 error.kind < lengthof(KINDS) ? KINDS[error.kind] : "");
     else if (status != UCA_OK)
         strlcpy(reason, "uca: out of memory", sizeof reason);
 }
@@ -110,39 +150,42 @@ static void read_files(void)
 
     initStringInfo(&table);
     initStringInfo(&data);
-    if (!read_file(table_name, &table))
-        snprintf(reason, sizeof reason, "uca: the file of uca.table cannot be read: %s", table_name);
-    else if (!read_file(data_name, &data))
-        snprintf(reason, sizeof reason, "uca: the file of uca.data cannot be read: %s", data_name);
-    else
+    if (read_file("uca.table_file", table_name, &table) && read_file("uca.data_file", data_name, &data))
         open_files(&table, &data);
     pfree(table.data);
     pfree(data.data);
 }
 
+static void define_settings(void)
+{
+    DefineCustomStringVariable("uca.table_file", "The weight table, in the format of allkeys.txt.", NULL, &table_name, "",
+                               PGC_POSTMASTER, GUC_SUPERUSER_ONLY, NULL, NULL, NULL);
+    DefineCustomStringVariable("uca.data_file", "The data file: combining classes and Han ranges.", NULL, &data_name, "",
+                               PGC_POSTMASTER, GUC_SUPERUSER_ONLY, NULL, NULL, NULL);
+    DefineCustomEnumVariable("uca.weighting", "How spaces and punctuation are weighted.", NULL, &weighting, UCA_BY_TABLE, WEIGHTINGS,
+                             PGC_POSTMASTER, 0, NULL, NULL, NULL);
+    DefineCustomBoolVariable("uca.identical", "Whether texts that are equal by all weights are ordered by their code points.", NULL,
+                             &identical, false, PGC_POSTMASTER, 0, NULL, NULL, NULL);
+}
+
 void _PG_init(void)
 {
+    bool has_old_names;
+
     if (!process_shared_preload_libraries_in_progress)
         ereport(ERROR, (errcode(ERRCODE_OBJECT_NOT_IN_PREREQUISITE_STATE), errmsg("uca has to be loaded when the server starts"),
                         errhint("Add uca to shared_preload_libraries.")));
-    DefineCustomStringVariable("uca.table", "The weight table, in the format of allkeys.txt.", NULL, &table_name, "", PGC_POSTMASTER, 0, NULL, NULL, NULL);
-    DefineCustomStringVariable("uca.data", "The data file: combining classes and Han ranges.", NULL, &data_name, "", PGC_POSTMASTER, 0, NULL, NULL, NULL);
-    DefineCustomEnumVariable("uca.weighting", "How spaces and punctuation are weighted.", NULL, &weighting, UCA_BY_TABLE, WEIGHTINGS, PGC_POSTMASTER, 0, NULL, NULL, NULL);
+    define_settings();
+    has_old_names = GetConfigOption("uca.table", true, false) || GetConfigOption("uca.data", true, false);
     MarkGUCPrefixReserved("uca");
-    if (!*table_name && !*data_name)
+    if (has_old_names)
+        strlcpy(reason, "uca: the settings uca.table and uca.data are now uca.table_file and uca.data_file", sizeof reason);
+    else if (*table_name || *data_name)
+        read_files();
+    else
         return;
-    read_files();
     if (!collator.is_open)
         ereport(WARNING, (errmsg("%s", reason)));
-}
-
-static bytea *fingerprint_as_bytea(void)
-{
-    bytea *found = palloc(VARHDRSZ + sizeof fingerprint);
-
-    SET_VARSIZE(found, VARHDRSZ + sizeof fingerprint);
-    memcpy(VARDATA(found), fingerprint, sizeof fingerprint);
-    return found;
 }
 
 static void need_open(void)
@@ -153,36 +196,129 @@ static void need_open(void)
         ereport(ERROR, (errcode(ERRCODE_FEATURE_NOT_SUPPORTED), errmsg("uca needs a database with the encoding UTF8")));
 }
 
-/* Whether the database of this process is for these files. The table uca_files is in the schema of the function. */
-static bool is_for_these_files(Oid function)
+/* The table uca_files of the extension that has this function, or InvalidOid. It is found by numbers, whatever the schemas are. */
+static Oid files_of(Oid function)
 {
-    Oid types[1] = {BYTEAOID};
-    Datum values[1] = {PointerGetDatum(fingerprint_as_bytea())};
-    StringInfoData query;
-    bool is_so;
+    Oid extension = getExtensionOfObject(ProcedureRelationId, function), found = InvalidOid;
+    Relation depends = table_open(DependRelationId, AccessShareLock);
+    ScanKeyData keys[2];
+    SysScanDesc scan;
+    HeapTuple row;
 
-    initStringInfo(&query);
-    appendStringInfo(&query, "SELECT 1 FROM %s.uca_files WHERE fingerprint OPERATOR(pg_catalog.=) $1",
-                     quote_identifier(get_namespace_name(get_func_namespace(function))));
-    if (SPI_connect() != SPI_OK_CONNECT)
-        elog(ERROR, "uca: no connection to the server's own statements");
-    is_so = SPI_execute_with_args(query.data, 1, types, values, NULL, true, 1) == SPI_OK_SELECT && SPI_processed == 1;
-    SPI_finish();
-    pfree(query.data);
-    return is_so;
+    ScanKeyInit(&keys[0], Anum_pg_depend_refclassid, BTEqualStrategyNumber, F_OIDEQ, ObjectIdGetDatum(ExtensionRelationId));
+    ScanKeyInit(&keys[1], Anum_pg_depend_refobjid, BTEqualStrategyNumber, F_OIDEQ, ObjectIdGetDatum(extension));
+    scan = systable_beginscan(depends, DependReferenceIndexId, true, NULL, 2, keys);
+    while (!OidIsValid(found) && HeapTupleIsValid(row = systable_getnext(scan))) {
+        Form_pg_depend it = (Form_pg_depend) GETSTRUCT(row);
+        char *name = it->classid == RelationRelationId ? get_rel_name(it->objid) : NULL;
+
+        if (name && strcmp(name, "uca_files") == 0)
+            found = it->objid;
+    }
+    systable_endscan(scan);
+    table_close(depends, AccessShareLock);
+    return found;
 }
 
+/* Opens that table. A number that was found is kept, until its table is dropped. */
+static Relation open_files_of(Oid function)
+{
+    static Oid known_function = InvalidOid, known_table = InvalidOid;
+    Relation files = function == known_function ? try_table_open(known_table, AccessShareLock) : NULL;
+
+    if (!files) {
+        known_table = files_of(function);
+        known_function = function;
+        if (!OidIsValid(known_table))
+            ereport(ERROR, (errcode(ERRCODE_OBJECT_NOT_IN_PREREQUISITE_STATE), errmsg("uca: the extension has no table uca_files")));
+        files = table_open(known_table, AccessShareLock);
+    }
+    if (RelationGetDescr(files)->natts != 1 || TupleDescAttr(RelationGetDescr(files), 0)->atttypid != TEXTOID)
+        ereport(ERROR, (errcode(ERRCODE_OBJECT_NOT_IN_PREREQUISITE_STATE),
+                        errmsg("uca: this database has the extension of an earlier version"),
+                        errhint("DROP EXTENSION uca CASCADE, then CREATE EXTENSION uca, and make all keys and indexes on keys again.")));
+    return files;
+}
+
+static bool is_fingerprint(const text *given)
+{
+    return VARSIZE_ANY_EXHDR(given) == 2 * DIGEST && memcmp(VARDATA_ANY(given), fingerprint, 2 * DIGEST) == 0;
+}
+
+/* The first 100 bytes of a text, or one to three less, so that no character is cut. */
+static char *beginning_of(const text *given)
+{
+    const char *bytes = VARDATA_ANY(given);
+
+    return pnstrdup(bytes, pg_mbcliplen(bytes, VARSIZE_ANY_EXHDR(given), 100));
+}
+
+/* A fingerprint of uca_files that is not the server's, or NULL if there is none. It reads the table itself, not by a statement. So it
+   needs no rights of the caller, and no plan. */
+static char *other_fingerprint(Oid function, Snapshot now)
+{
+    Relation files = open_files_of(function);
+    Snapshot snapshot = RegisterSnapshot(now);
+    TupleTableSlot *slot = table_slot_create(files, NULL);
+    TableScanDesc scan = table_beginscan(files, snapshot, 0, NULL);
+    char *other = NULL;
+    int64 rows = 0;
+
+    while (!other && table_scan_getnextslot(scan, ForwardScanDirection, slot)) {
+        bool is_null;
+        Datum value = slot_getattr(slot, 1, &is_null);
+
+        rows++;
+        if (is_null || !is_fingerprint(DatumGetTextPP(value)))
+            other = is_null ? "none" : beginning_of(DatumGetTextPP(value));
+    }
+    table_endscan(scan);
+    ExecDropSingleTupleTableSlot(slot);
+    UnregisterSnapshot(snapshot);
+    table_close(files, AccessShareLock);
+    return rows == 0 ? "none" : other;
+}
+
+/* The database of this process has to be for the server's files and settings: uca_files has rows, and each is their fingerprint. */
 static void need_files(Oid function)
 {
+    Snapshot now = ActiveSnapshotSet() ? GetActiveSnapshot() : GetTransactionSnapshot();
+    Seen seen = {MyProc->lxid, GetCurrentSubTransactionId(), now->xmax, now->xcnt, now->subxcnt, now->curcid};
+    char *other;
+
     need_open();
-    if (checked_transaction == MyProc->lxid && checked_inside == GetCurrentSubTransactionId())
+    if (checked.transaction == seen.transaction && checked.inside == seen.inside && checked.end == seen.end &&
+        checked.running == seen.running && checked.running_inside == seen.running_inside && checked.commands == seen.commands)
         return;
-    if (!is_for_these_files(function))
+    other = other_fingerprint(function, now);
+    if (other)
         ereport(ERROR, (errcode(ERRCODE_OBJECT_NOT_IN_PREREQUISITE_STATE),
-                        errmsg("uca: the server has other files than those by which this database's keys were made"),
-                        errhint("Give it the old files. Or call uca_use_files(), and then make all stored keys and all indexes on keys again.")));
-    checked_transaction = MyProc->lxid;
-    checked_inside = GetCurrentSubTransactionId();
+                        errmsg("uca: the server has other files or settings than those by which this database's keys were made"),
+                        errdetail("The database's fingerprint is %s. The server's is %s.", other, fingerprint),
+                        errhint("Give the server the old files and settings. Or call uca_use_files(), and make all stored keys and "
+                                "indexes on keys again.")));
+    checked = seen;
+}
+
+/* The second argument has to be the server's fingerprint. */
+static void need_fingerprint(FunctionCallInfo fcinfo)
+{
+    need_open();
+    if (PG_ARGISNULL(1))
+        ereport(ERROR, (errcode(ERRCODE_NULL_VALUE_NOT_ALLOWED), errmsg("uca: the fingerprint is NULL")));
+    if (!is_fingerprint(PG_GETARG_TEXT_PP(1)))
+        ereport(ERROR, (errcode(ERRCODE_OBJECT_NOT_IN_PREREQUISITE_STATE),
+                        errmsg("uca: the server has other files or settings than those that are named"),
+                        errdetail("The named fingerprint is %s. The server's is %s.", beginning_of(PG_GETARG_TEXT_PP(1)),
+                                  fingerprint)));
+}
+
+/* A value with room for so many bytes. */
+static bytea *new_value(size_t room)
+{
+    if (room > MaxAllocSize - VARHDRSZ)
+        ereport(ERROR, (errcode(ERRCODE_PROGRAM_LIMIT_EXCEEDED), errmsg("uca: the key has more bytes than a bytea can have")));
+    return palloc(VARHDRSZ + room);
 }
 
 /* Writes the key of a text after so many bytes of a new value, and returns its status. */
@@ -192,12 +328,14 @@ static uint32 write_key(const text *given, size_t before, bytea **value)
     size_t length = VARSIZE_ANY_EXHDR(given), room = 6 * length + SPARE, needed = 0;
     uint32 status;
 
-    *value = palloc(VARHDRSZ + before + room);
+    if (length > MOST_TEXT)
+        return UCA_TOO_LONG;
+    *value = new_value(before + room);
     status = uca_key(&collator, bytes, length, (uint8 *) VARDATA(*value) + before, room, &needed);
     if (status == UCA_SMALL) {
         pfree(*value);
         room = needed;
-        *value = palloc(VARHDRSZ + before + room);
+        *value = new_value(before + room);
         status = uca_key(&collator, bytes, length, (uint8 *) VARDATA(*value) + before, room, &needed);
     }
     if (status == UCA_MEMORY)
@@ -211,36 +349,28 @@ static const char *name_of(uint32 status)
     return status == UCA_UTF8 ? "Utf8" : status == UCA_TOO_LONG ? "TooLong" : "LongRun";
 }
 
-/* uca_key(text) returns bytea: the sort key. A text that is rejected is an error. */
-PG_FUNCTION_INFO_V1(uca_key_of_text);
-Datum uca_key_of_text(PG_FUNCTION_ARGS)
+static Datum key_of(FunctionCallInfo fcinfo)
 {
     text *given = PG_GETARG_TEXT_PP(0);
     bytea *value;
-    uint32 status;
+    uint32 status = write_key(given, 0, &value);
 
-    need_files(fcinfo->flinfo->fn_oid);
-    status = write_key(given, 0, &value);
     if (status != UCA_OK)
         ereport(ERROR, (errcode(ERRCODE_INVALID_TEXT_REPRESENTATION), errmsg("uca: the text is rejected: %s", name_of(status))));
     PG_FREE_IF_COPY(given, 0);
     PG_RETURN_BYTEA_P(value);
 }
 
-/* uca_any_key(text) returns bytea: a byte 0 and the sort key, or a byte 1 and the bytes of a text that is rejected. */
-PG_FUNCTION_INFO_V1(uca_any_key_of_text);
-Datum uca_any_key_of_text(PG_FUNCTION_ARGS)
+static Datum any_key_of(FunctionCallInfo fcinfo)
 {
     text *given = PG_GETARG_TEXT_PP(0);
     size_t length = VARSIZE_ANY_EXHDR(given);
     bytea *value;
 
-    need_files(fcinfo->flinfo->fn_oid);
     if (write_key(given, 1, &value) == UCA_OK)
         *VARDATA(value) = 0;
     else {
-        pfree(value);
-        value = palloc(VARHDRSZ + 1 + length);
+        value = new_value(1 + length);
         SET_VARSIZE(value, VARHDRSZ + 1 + length);
         *VARDATA(value) = 1;
         memcpy(VARDATA(value) + 1, VARDATA_ANY(given), length);
@@ -249,10 +379,70 @@ Datum uca_any_key_of_text(PG_FUNCTION_ARGS)
     PG_RETURN_BYTEA_P(value);
 }
 
-/* uca_fingerprint() returns bytea: that of the files that the server has read. */
+/* uca_key(text) returns bytea: the sort key. A text that is rejected is an error. */
+PG_FUNCTION_INFO_V1(uca_key_of_text);
+Datum uca_key_of_text(PG_FUNCTION_ARGS)
+{
+    need_files(fcinfo->flinfo->fn_oid);
+    return key_of(fcinfo);
+}
+
+/* uca_any_key(text) returns bytea: a byte 0 and the sort key, or a byte 1 and the bytes of a text that is rejected. */
+PG_FUNCTION_INFO_V1(uca_any_key_of_text);
+Datum uca_any_key_of_text(PG_FUNCTION_ARGS)
+{
+    need_files(fcinfo->flinfo->fn_oid);
+    return any_key_of(fcinfo);
+}
+
+/* uca_key(text, fingerprint) and uca_any_key(text, fingerprint) return the same by the files that the fingerprint names. A text that is
+   NULL has the key NULL, and a fingerprint that is NULL is an error. */
+PG_FUNCTION_INFO_V1(uca_key_by_fingerprint);
+Datum uca_key_by_fingerprint(PG_FUNCTION_ARGS)
+{
+    need_fingerprint(fcinfo);
+    if (PG_ARGISNULL(0))
+        PG_RETURN_NULL();
+    return key_of(fcinfo);
+}
+
+PG_FUNCTION_INFO_V1(uca_any_key_by_fingerprint);
+Datum uca_any_key_by_fingerprint(PG_FUNCTION_ARGS)
+{
+    need_fingerprint(fcinfo);
+    if (PG_ARGISNULL(0))
+        PG_RETURN_NULL();
+    return any_key_of(fcinfo);
+}
+
+/* uca_fingerprint() returns text: that of the files and settings that the server has read. */
 PG_FUNCTION_INFO_V1(uca_fingerprint_of_files);
 Datum uca_fingerprint_of_files(PG_FUNCTION_ARGS)
 {
     need_open();
-    PG_RETURN_BYTEA_P(fingerprint_as_bytea());
+    PG_RETURN_TEXT_P(cstring_to_text(fingerprint));
+}
+
+/* uca_need_no_dependents(text) returns boolean: true for NULL. Otherwise it is an error, which shows this list of dependents. */
+PG_FUNCTION_INFO_V1(uca_need_no_dependents);
+Datum uca_need_no_dependents(PG_FUNCTION_ARGS)
+{
+    if (!PG_ARGISNULL(0))
+        ereport(ERROR, (errcode(ERRCODE_DEPENDENT_OBJECTS_STILL_EXIST),
+                        errmsg("uca: this database keeps keys of other files or settings than the server's"),
+                        errdetail("%s", text_to_cstring(PG_GETARG_TEXT_PP(0))),
+                        errhint("Drop what uca_dependents() lists, call uca_use_files(), and make it again, in one transaction. Where each of its "
+                                "rows has a statement, uca_use_files(again => true) runs them.")));
+    PG_RETURN_BOOL(true);
+}
+
+/* uca_run(text) returns text: it runs this statement, and returns it. */
+PG_FUNCTION_INFO_V1(uca_run_statement);
+Datum uca_run_statement(PG_FUNCTION_ARGS)
+{
+    char *statement = text_to_cstring(PG_GETARG_TEXT_PP(0));
+
+    if (SPI_connect() != SPI_OK_CONNECT || SPI_execute(statement, false, 0) < 0 || SPI_finish() != SPI_OK_FINISH)
+        elog(ERROR, "uca: the statement cannot be run: %s", statement);
+    PG_RETURN_DATUM(PG_GETARG_DATUM(0));
 }

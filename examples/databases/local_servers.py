@@ -21,11 +21,12 @@ def owner():
 
 
 class PostgreSQL:
-    """A server in a folder of its own, which listens on a Unix socket there and nowhere else. Settings are lines of its file of settings."""
+    """A server in a folder of its own, which listens on a Unix socket there and nowhere else. Settings are lines of its file of settings.
+    Its programs are those of this machine, unless a folder is named."""
 
-    def __init__(self, room, settings=""):
+    def __init__(self, room, settings="", programs=None):
         self.folder, self.owner, self.settings = os.path.join(room, "postgresql"), owner(), settings
-        found = sorted(glob.glob("/usr/lib/postgresql/*/bin/initdb")) or [shutil.which("initdb")]
+        found = [f"{programs}/initdb"] if programs else sorted(glob.glob("/usr/lib/postgresql/*/bin/initdb")) or [shutil.which("initdb")]
         if not found[-1]:
             raise OSError("there is no initdb: Debian has it in the package postgresql")
         self.programs = os.path.dirname(found[-1])
