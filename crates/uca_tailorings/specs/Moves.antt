@@ -53,7 +53,7 @@ after_weights Identical bytes = if are_points bytes then Some bytes else None
 
 -- The rest of a key in a level, with this many levels of weights from there on. Each weight is put through the map of its
 -- level, and 00 00 leads to the next level. There is no result where a weight has no image, or where the bytes have too few
--- levels, too many, or a single byte at the end; nor where other bytes than whole code points follow the weights.
+-- levels, too many, or a single byte at the end. Nor is there one where other bytes than whole code points follow the weights.
 abbrev pub moved_from : Maps → Depth → ℕ → ℕ → List ℕ → Option (List ℕ)
 moved_from maps depth level zero bytes = after_weights depth bytes
 moved_from maps depth level (suc more) [] = ended depth more

@@ -38,7 +38,7 @@ pub record WorkedMovedKeys : Type 0 where
   pub many : HasNoResult Weights NonIgnorable (level_bytes (0x1C48 ∷ 0 ∷ 0x20 ∷ 0 ∷ 2 ∷ 0 ∷ []))
   pub no_identical : HasNoResult Identical NonIgnorable (level_bytes (0x1C48 ∷ 0 ∷ 0x20 ∷ 0 ∷ 2 ∷ []))
   pub single : HasNoResult Weights NonIgnorable (level_bytes (0x1C48 ∷ 0 ∷ 0x20 ∷ 0 ∷ 2 ∷ []) ++ 0x1C ∷ [])
-  -- code points of which the last is cut after one byte or two; a surrogate; the number after U+10FFFF
+  -- the last code point is cut after one byte or two; a surrogate; the number after U+10FFFF
   pub one_byte : HasNoResult Identical NonIgnorable (level_bytes (0 ∷ 0 ∷ 0 ∷ []) ++ (0 ∷ 0x1C ∷ 0x48 ∷ 0 ∷ []))
   pub two_bytes : HasNoResult Identical NonIgnorable (level_bytes (0 ∷ 0 ∷ 0 ∷ []) ++ (0 ∷ 0x1C ∷ 0x48 ∷ 0 ∷ 0x1C ∷ []))
   pub surrogate : HasNoResult Identical NonIgnorable (level_bytes (0 ∷ 0 ∷ 0 ∷ []) ++ (0 ∷ 0xD8 ∷ 0 ∷ []))
