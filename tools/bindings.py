@@ -585,13 +585,6 @@ def postgresql(work):
         same(says("SELECT uca_key('a');", fails=True), "ERROR:  uca: this database has the extension of an earlier version", "a table that was made before")
 
 
-def fingerprint_of(table, data, weighting, depth):
-    """The fingerprint of files and settings, as uca.h says it."""
-    table, data = (hashlib.sha256(content(it)).hexdigest() for it in (table, data))
-    text = f"uca keys 1\nunicode 18.0.0\nweighting {weighting}\ndepth {depth}\ntable {table}\ndata {data}\n"
-    return hashlib.sha256(text.encode()).hexdigest()
-
-
 def postgresql_settings(work):
     """The settings and their files, and the fingerprint of each."""
     table, data = f"{EXAMPLES}/table.txt", f"{EXAMPLES}/data.txt"
