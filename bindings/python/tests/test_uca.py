@@ -1,8 +1,22 @@
 """Tests of the module, over a small table. Expected keys and orders are worked out by hand."""
+import array
+import concurrent.futures
+import contextlib
+import copy
+import ctypes.util
 import gc
+import hashlib
+import itertools
+import mmap
+import multiprocessing
 import os
+import pickle
+import subprocess
+import sys
 import tempfile
 import threading
+import types
+import typing
 import unittest
 
 import uca
@@ -28,6 +42,35 @@ other 20000..20FFF
 
 def hexadecimal(words):
     return bytes.fromhex(words)
+
+
+def fingerprint_of(table, data, weighting, depth):
+    """The fingerprint as uca.h says it."""
+    sums = [hashlib.sha256(it).hexdigest() for it in (table, data)]
+    lines = ["uca keys 1", "unicode 18.0.0", f"weighting {weighting}", f"depth {depth}", f"table {sums[0]}", f"data {sums[1]}"]
+    return hashlib.sha256("".join(it + "\n" for it in lines).encode()).hexdigest()
+
+
+@contextlib.contextmanager
+def files(table=TABLE, data=DATA):
+    """The paths of both files, in a folder that is removed."""
+    with tempfile.TemporaryDirectory() as folder:
+        paths = [os.path.join(folder, name) for name in ("table.txt", "data.txt")]
+        for path, content in zip(paths, (table, data)):
+            write(path, content)
+        yield paths
+
+
+def write(path, content):
+    with open(path, "wb") as it:
+        it.write(content)
+
+
+def ran(program, *arguments, **environment):
+    """A run of a program of Python, which finds the module of these tests."""
+    folders = [os.path.dirname(os.path.dirname(uca.__file__)), os.path.dirname(os.path.abspath(__file__))]
+    environment = {**os.environ, "PYTHONPATH": os.pathsep.join(folders), **environment}
+    return subprocess.run([sys.executable, "-c", program, *arguments], stdout=subprocess.PIPE, stderr=subprocess.PIPE, env=environment, timeout=60)
 
 
 class Keys(unittest.TestCase):
@@ -75,6 +118,105 @@ class Keys(unittest.TestCase):
                 self.assertEqual(caught.exception.kind, kind)
         self.assertEqual(len(self.collator.key("a" + "\u0301" * 64)), 2 + 2 + 130 + 2 + 130)
 
+    def test_all_lengths(self):
+        for length in [*range(70), *(2**it + more for it in range(6, 18) for more in (-1, 0, 1))]:
+            key = b"\x1c\x47" * length + b"\0\0" + b"\0\x20" * length + b"\0\0" + b"\0\x02" * length
+            self.assertEqual(self.collator.key(b"a" * length), key)
+
+    def test_keys_that_are_longer_than_their_room(self):
+        table = TABLE + b"0063 ; " + b"[.1C7A.0020.0002]" * 18 + b"\n"
+        with uca.Collator(table, DATA, "non-ignorable") as collator:
+            self.assertEqual(collator.key("c" * 300), b"\x1c\x7a" * 5400 + b"\0\0" + b"\0\x20" * 5400 + b"\0\0" + b"\0\x02" * 5400)
+
+
+class Values(unittest.TestCase):
+    """What texts, keys, files and settings are made of."""
+
+    def setUp(self):
+        self.collator = uca.Collator(TABLE, DATA, "non-ignorable")
+        self.addCleanup(self.collator.close)
+
+    def test_buffers_of_bytes(self):
+        wanted = self.collator.key("ab")
+        for text in [
+            b"ab",
+            bytearray(b"ab"),
+            memoryview(b"ab"),
+            memoryview(b"a-b-")[::2],
+            memoryview(b"ab").cast("c"),
+            array.array("b", b"ab"),
+            (ctypes.c_char * 2)(*b"ab"),
+        ]:
+            with self.subTest(text=text):
+                self.assertEqual(self.collator.key(text), wanted)
+                self.assertEqual(self.collator.compare(text, "ab"), (0, 0))
+                self.assertEqual(self.collator.compare("aa", text), (-1, 1))
+
+    def test_other_values(self):
+        items = [array.array("i", [97]), memoryview(array.array("H", [97, 98])), memoryview(bytes(4)).cast("B", (2, 2))]
+        for text in [5, 0, True, None, 1.5, [97, 98], ("a",), range(3), *items]:
+            with self.subTest(text=text):
+                for call in [
+                    lambda: self.collator.key(text),
+                    lambda: self.collator.compare("a", text),
+                    lambda: self.collator.compare(text, "a"),
+                    lambda: uca.compare_keys(text, b"", 3),
+                    lambda: uca.compare_keys(b"", text, 3),
+                    lambda: uca.Collator(text, DATA),
+                    lambda: uca.Collator(TABLE, text),
+                ]:
+                    self.assertRaises(TypeError, call)
+
+    def test_subclasses_are_what_they_hold(self):
+        class Text(str):
+            def encode(self, *arguments):
+                return b"b"
+
+        class Bytes(bytes):
+            def __len__(self):
+                return 10**9
+
+            def __bytes__(self):
+                return b"b"
+
+        self.assertEqual(self.collator.key(Text("a")), self.collator.key("a"))
+        self.assertEqual(self.collator.key(Bytes(b"a")), self.collator.key("a"))
+        self.assertEqual(uca.compare_keys(Bytes(b"a"), b"a", 3), (0, 0))
+
+    def test_keys_that_are_buffers(self):
+        left, right = self.collator.key("a"), self.collator.key("b")
+        for of in (bytearray, memoryview, lambda it: memoryview(it + it)[: len(it)]):
+            self.assertEqual(uca.compare_keys(of(left), right, 3), (-1, 1))
+            self.assertEqual(uca.compare_keys(right, of(left), 3), (1, 1))
+        self.assertRaises(TypeError, uca.compare_keys, "a", b"a", 3)
+
+    def test_levels(self):
+        for levels in (3.0, "3", None):
+            self.assertRaises(TypeError, uca.compare_keys, b"", b"", levels)
+        for levels in (-1, 256):
+            self.assertRaises(ValueError, uca.compare_keys, b"", b"", levels)
+
+    def test_files_that_are_buffers(self):
+        wanted = self.collator.key("ab")
+        with files() as paths, open(paths[0], "rb") as file, mmap.mmap(file.fileno(), 0, access=mmap.ACCESS_READ) as mapped:
+            for table, data in [(bytearray(TABLE), memoryview(DATA)), (mapped, DATA)]:
+                with uca.Collator(table, data, "non-ignorable") as collator:
+                    self.assertEqual(collator.key("ab"), wanted)
+                    self.assertEqual(collator.fingerprint, self.collator.fingerprint)
+
+    def test_other_settings(self):
+        for weighting in ("blanked", "", "SHIFTED", False, 0):
+            self.assertRaises(ValueError, uca.Collator, TABLE, DATA, weighting)
+        for identical in ("no", 1, None):
+            self.assertRaises(TypeError, uca.Collator, TABLE, DATA, None, identical)
+
+
+class Sharing(unittest.TestCase):
+    """Several users of one collator. test_stress.py does the same for longer."""
+
+    def setUp(self):
+        self.collator = uca.Collator(TABLE, DATA, "non-ignorable")
+        self.addCleanup(self.collator.close)
 
     def test_threads(self):
         found = []
@@ -89,6 +231,86 @@ class Keys(unittest.TestCase):
         for it in threads:
             it.join()
         self.assertEqual((len(found), all(found)), (2000, True))
+
+    def between_all_steps(self, call, other):
+        """What the call returns, if the other call is made before each step of the module, as a thread or a handler may do."""
+        steps = itertools.count(1)
+
+        def trace(frame, event, argument):
+            if frame.f_code.co_filename != uca.__file__:
+                return None
+            frame.f_trace_opcodes = True
+            if event in ("line", "opcode"):
+                other(next(steps))
+            return trace
+
+        before = sys.gettrace()
+        sys.settrace(trace)
+        try:
+            found = call()
+        finally:
+            sys.settrace(before)
+        self.assertGreater(next(steps), 5)
+        return found
+
+    def test_calls_between_all_steps_of_a_call(self):
+        with uca.Collator(TABLE, DATA, "non-ignorable") as alone:
+            texts = [("a" if length % 2 else "b") * length for length in range(0, 4000, 97)]
+            keys = {it: alone.key(it) for it in texts}
+            comparisons = {it: alone.compare(it, "ba") for it in texts}
+        others = itertools.cycle(texts)
+        wrong = []
+
+        def other(step):
+            text = next(others)
+            if self.collator.key(text) != keys[text] or self.collator.compare(text, "ba") != comparisons[text]:
+                wrong.append((step, text))
+
+        for text in texts:
+            self.assertEqual(self.between_all_steps(lambda: self.collator.key(text), other), keys[text])
+            self.assertEqual(self.between_all_steps(lambda: self.collator.compare(text, "ba"), other), comparisons[text])
+        self.assertEqual(wrong, [])
+
+    def test_close_between_all_steps_of_a_call(self):
+        with uca.Collator(TABLE, DATA, "non-ignorable") as alone:
+            wanted = alone.key("a" * 5000)
+        outcomes = set()
+        for last in range(1, 500):
+            collator = uca.Collator(TABLE, DATA, "non-ignorable")
+            steps = []
+
+            def other(step):
+                steps.append(step)
+                if step == last:
+                    collator.close()
+
+            try:
+                self.assertEqual(self.between_all_steps(lambda: collator.key("a" * 5000), other), wanted)
+                outcomes.add("key")
+            except uca.ClosedError:
+                outcomes.add("closed")
+            if last > max(steps):
+                break
+        self.assertEqual(outcomes, {"key", "closed"})
+        self.assertGreater(last, max(steps))
+
+    def test_fork(self):
+        program = """
+import os, uca
+from test_uca import DATA, TABLE
+
+collator = uca.Collator(TABLE, DATA, "non-ignorable")
+key = collator.key("a")
+for _ in range(10):
+    child = os.fork()
+    is_same = collator.key("a") == key and len(collator.key("\u00e1" * 5000)) == 50004
+    if child == 0:
+        collator.close()
+        os._exit(0 if is_same else 1)
+    print(is_same, os.waitpid(child, 0)[1])
+"""
+        run = ran(program)
+        self.assertEqual((run.stdout.decode(), run.stderr), ("True 0\n" * 10, b""))
 
 
 class Settings(unittest.TestCase):
@@ -127,13 +349,8 @@ class Opening(unittest.TestCase):
                 self.assertEqual((error.role, error.line, error.kind), (role, line, kind))
 
     def test_paths(self):
-        with tempfile.TemporaryDirectory() as folder:
-            paths = [os.path.join(folder, name) for name in ("table.txt", "data.txt")]
-            for path, content in zip(paths, (TABLE, DATA)):
-                with open(path, "wb") as it:
-                    it.write(content)
-            with uca.Collator(*paths, weighting="non-ignorable") as collator:
-                self.assertEqual(collator.key("b"), hexadecimal("1C60 0000 0020 0000 0002"))
+        with files() as paths, uca.Collator(*paths, weighting="non-ignorable") as collator:
+            self.assertEqual(collator.key("b"), hexadecimal("1C60 0000 0020 0000 0002"))
 
     def test_closed(self):
         with uca.Collator(TABLE, DATA) as collator:
@@ -150,6 +367,288 @@ class Opening(unittest.TestCase):
         self.assertEqual({it.key("a") for it in collators}, {hexadecimal("1C47 0000 0020 0000 0002")})
         del collators
         gc.collect()
+
+    def test_opened_once(self):
+        collator = uca.Collator(TABLE, DATA, "non-ignorable")
+        kept = collator.fingerprint
+        for _ in range(2):
+            self.assertRaises(RuntimeError, collator.__init__, TABLE, DATA, "shifted")
+            self.assertEqual(collator.fingerprint, kept)
+            collator.close()
+            self.assertFalse(collator.is_open)
+
+    def test_memory_is_given_back(self):
+        closed = []
+        close = uca._library.uca_close
+        self.addCleanup(setattr, uca._library, "uca_close", close)
+        uca._library.uca_close = lambda it: (closed.append(it.is_open), close(it))
+        collator = uca.Collator(TABLE, DATA)
+        self.assertRaises(RuntimeError, collator.__init__, TABLE, DATA)
+        gc.collect()
+        self.assertEqual(closed, [True])
+        self.assertRaises(uca.FileError, uca.Collator, TABLE, b"x")
+        gc.collect()
+        self.assertEqual(closed, [True, False])
+        del collator
+        gc.collect()
+        self.assertEqual(closed, [True, False, True])
+
+    def test_never_opened(self):
+        class Late(uca.Collator):
+            def __init__(self):
+                pass
+
+        collator = Late()
+        self.assertFalse(collator.is_open)
+        collator.close()
+        self.assertRaises(uca.ClosedError, collator.key, "a")
+        self.assertRaises(uca.ClosedError, collator.compare, "a", "b")
+        self.assertRaises(uca.ClosedError, lambda: collator.fingerprint)
+        self.assertRaises(uca.ClosedError, pickle.dumps, collator)
+        uca.Collator.__init__(collator, TABLE, DATA, "non-ignorable")
+        self.assertEqual(collator.key("a"), hexadecimal("1C47 0000 0020 0000 0002"))
+
+    def test_not_opened_after_all(self):
+        found = []
+        before = sys.unraisablehook
+        self.addCleanup(setattr, sys, "unraisablehook", before)
+        sys.unraisablehook = found.append
+        for arguments in [(), (TABLE,), (b"", DATA), (TABLE, b"x"), (TABLE, DATA, "blanked"), ("none.txt", DATA)]:
+            self.assertRaises((TypeError, ValueError, OSError), uca.Collator, *arguments)
+        gc.collect()
+        self.assertEqual(found, [])
+
+    def test_end_of_the_interpreter(self):
+        program = """
+import atexit, builtins, sys, threading
+import uca
+from test_uca import DATA, TABLE
+
+class Cycle:
+    def __init__(self):
+        self.itself, self.collator = self, uca.Collator(TABLE, DATA)
+
+builtins.kept, sys.kept, sys.modules["kept"], kept = Cycle(), Cycle(), Cycle(), Cycle()
+atexit.register(kept.collator.key, "a")
+threading.Thread(target=lambda: [kept.collator.key("a" * 1000) for _ in range(10**7)], daemon=True).start()
+"""
+        for _ in range(5):
+            run = ran(program)
+            self.assertEqual((run.returncode, run.stdout, run.stderr), (0, b"", b""))
+
+
+class Fingerprints(unittest.TestCase):
+    def test_values(self):
+        non_ignorable = TABLE.replace(b"@version 1\n", b"@version 1\n@variable non-ignorable\n")
+        for table, weighting, identical, wanted in [
+            (TABLE, None, False, ("shifted", "weights")),
+            (TABLE, "shifted", False, ("shifted", "weights")),
+            (TABLE, "non-ignorable", True, ("non-ignorable", "identical")),
+            (non_ignorable, None, False, ("non-ignorable", "weights")),
+            (non_ignorable, "shifted", True, ("shifted", "identical")),
+        ]:
+            with self.subTest(weighting=weighting, wanted=wanted), uca.Collator(table, DATA, weighting, identical) as collator:
+                self.assertEqual(collator.fingerprint, fingerprint_of(table, DATA, *wanted))
+                collator.close()
+                self.assertEqual(collator.fingerprint, fingerprint_of(table, DATA, *wanted))
+
+    def test_wanted(self):
+        kept = fingerprint_of(TABLE, DATA, "shifted", "weights")
+        for weighting in (None, "shifted"):
+            with uca.Collator(TABLE, DATA, weighting, fingerprint=kept) as collator:
+                self.assertEqual(collator.fingerprint, kept)
+        for arguments in [
+            (TABLE, DATA, "non-ignorable"),
+            (TABLE, DATA, "shifted", True),
+            (TABLE + b"# a comment\n", DATA),
+            (TABLE, DATA + b"# a comment\n"),
+            (TABLE.replace(b"1C60", b"1C61"), DATA),
+        ]:
+            with self.assertRaises(uca.FingerprintError) as caught:
+                uca.Collator(*arguments, fingerprint=kept)
+            with uca.Collator(*arguments) as collator:
+                self.assertEqual((caught.exception.wanted, caught.exception.found), (kept, collator.fingerprint))
+            self.assertIn(kept, str(caught.exception))
+
+    def test_none_is_no_fingerprint(self):
+        kept = fingerprint_of(TABLE, DATA, "shifted", "weights")
+        for wrong in (None, kept.encode(), 0):
+            self.assertRaises(TypeError, uca.Collator, TABLE, DATA, fingerprint=wrong)
+        for wrong in ("", kept[1:], kept + "\n", kept.upper()):
+            with self.assertRaises(ValueError) as caught:
+                uca.Collator(TABLE, DATA, fingerprint=wrong)
+            self.assertNotIsInstance(caught.exception, uca.UcaError)
+        self.assertRaises(uca.FileError, uca.Collator, b"", DATA, fingerprint=kept)
+
+
+class Named(uca.Collator):
+    """A subclass with attributes and arguments of its own."""
+
+    def __init__(self, name, paths):
+        super().__init__(*paths, identical=True)
+        self.name = name
+
+
+def copies(collator):
+    """The collator after each way of copying."""
+    for protocol in range(pickle.HIGHEST_PROTOCOL + 1):
+        yield pickle.loads(pickle.dumps(collator, protocol))
+    yield copy.copy(collator)
+    yield copy.deepcopy([collator])[0]
+
+
+class Copies(unittest.TestCase):
+    def test_copies_are_others(self):
+        with files() as paths, uca.Collator(*paths, "non-ignorable") as collator:
+            for it in copies(collator):
+                self.assertEqual((it.key("a b"), it.fingerprint), (collator.key("a b"), collator.fingerprint))
+                it.close()
+                self.assertTrue(collator.is_open)
+            copied = copy.copy(collator)
+            collator.close()
+            self.assertEqual(copied.key("a"), hexadecimal("1C47 0000 0020 0000 0002"))
+            copied.close()
+
+    def test_a_copy_that_is_collected(self):
+        with files() as paths, uca.Collator(*paths) as collator:
+            for it in copies(collator):
+                del it
+                gc.collect()
+                self.assertEqual(collator.key("a"), hexadecimal("1C47 0000 0020 0000 0002 0000 FFFF"))
+
+    def test_subclass(self):
+        with files() as paths, Named("names", paths) as collator:
+            for it in copies(collator):
+                self.assertEqual((type(it), it.name, it.fingerprint), (Named, "names", collator.fingerprint))
+                it.close()
+
+    def test_other_files(self):
+        for number in (0, 1):
+            with files() as paths, uca.Collator(*paths) as collator:
+                pickled = pickle.dumps(collator)
+                write(paths[number], (TABLE, DATA)[number] + b"# a comment\n")
+                for call in (lambda: pickle.loads(pickled), lambda: copy.copy(collator), lambda: copy.deepcopy(collator)):
+                    self.assertRaises(uca.FingerprintError, call)
+                os.remove(paths[number])
+                self.assertRaises(FileNotFoundError, pickle.loads, pickled)
+                self.assertEqual(collator.key("a"), hexadecimal("1C47 0000 0020 0000 0002 0000 FFFF"))
+
+    def test_other_folder(self):
+        before = os.getcwd()
+        self.addCleanup(os.chdir, before)
+        with files() as paths:
+            os.chdir(os.path.dirname(paths[0]))
+            collator = uca.Collator(*(os.path.basename(it) for it in paths))
+            os.chdir(before)
+            with collator, pickle.loads(pickle.dumps(collator)) as it:
+                self.assertEqual(it.key("a"), collator.key("a"))
+
+    def test_not_copied(self):
+        with files() as paths:
+            for arguments in [(TABLE, DATA), (TABLE, paths[1]), (paths[0], bytearray(DATA))]:
+                with uca.Collator(*arguments) as collator:
+                    for call in (pickle.dumps, copy.copy, copy.deepcopy):
+                        self.assertRaises(TypeError, call, collator)
+                    self.assertEqual(len(collator.key("a")), 14)
+            collator = uca.Collator(*paths)
+            collator.close()
+            for call in (pickle.dumps, copy.copy, copy.deepcopy):
+                self.assertRaises(uca.ClosedError, call, collator)
+
+    def test_set_state_of_an_open_one(self):
+        with files() as paths, uca.Collator(*paths) as collator, uca.Collator(*paths, "non-ignorable") as other:
+            kept = collator.fingerprint
+            self.assertRaises(RuntimeError, collator.__setstate__, other.__getstate__())
+            self.assertEqual((collator.fingerprint, len(collator.key("a"))), (kept, 14))
+
+
+def open_rejected_files():
+    uca.Collator(b"", b"")
+
+
+def make_key(text):
+    with uca.Collator(TABLE, DATA) as collator:
+        return collator.key(text)
+
+
+def use_closed():
+    collator = uca.Collator(TABLE, DATA)
+    collator.close()
+    collator.key("a")
+
+
+def open_others():
+    uca.Collator(TABLE, DATA, fingerprint="0" * 64)
+
+
+class Errors(unittest.TestCase):
+    def test_pickled(self):
+        errors = [uca.FileError("table", 3, "Line"), uca.TextError("Utf8"), uca.ClosedError(), uca.FingerprintError("0" * 64, "1" * 64), uca.UcaError("x")]
+        for error in errors:
+            for protocol in range(pickle.HIGHEST_PROTOCOL + 1):
+                for found in (pickle.loads(pickle.dumps(error, protocol)), copy.copy(error), copy.deepcopy(error)):
+                    self.assertIs(type(found), type(error))
+                    self.assertEqual((vars(found), str(found)), (vars(error), str(error)))
+
+    def test_messages(self):
+        self.assertEqual(str(uca.FileError("table", 3, "Line")), "table: line 3: Line")
+        self.assertEqual(str(uca.TextError("Utf8")), "text: Utf8")
+        self.assertEqual(str(uca.ClosedError()), "the collator is closed")
+
+    def test_errors_of_other_processes(self):
+        with files() as paths, concurrent.futures.ProcessPoolExecutor(1, mp_context=multiprocessing.get_context("spawn")) as pool:
+            with self.assertRaises(uca.FileError) as caught:
+                pool.submit(open_rejected_files).result(timeout=60)
+            self.assertEqual((caught.exception.role, caught.exception.line, caught.exception.kind), ("table", 1, "Order"))
+            with self.assertRaises(uca.TextError) as caught:
+                pool.submit(make_key, b"\xff").result(timeout=60)
+            self.assertEqual(caught.exception.kind, "Utf8")
+            self.assertRaises(uca.ClosedError, pool.submit(use_closed).result, timeout=60)
+            self.assertRaises(uca.FingerprintError, pool.submit(open_others).result, timeout=60)
+            with uca.Collator(*paths) as collator:
+                self.assertEqual(pool.submit(collator.key, "a").result(timeout=60), collator.key("a"))
+
+
+class Library(unittest.TestCase):
+    def said(self, **environment):
+        """The last line of an import that fails."""
+        run = ran("import uca", **environment)
+        self.assertNotEqual(run.returncode, 0)
+        return run.stderr.decode().splitlines()[-1]
+
+    def test_missing(self):
+        said = self.said(UCA_LIBRARY="/none/libuca.so.1")
+        for it in ("ImportError: ", "/none/libuca.so.1", "UCA_LIBRARY", "install", "ldconfig"):
+            self.assertIn(it, said)
+
+    def test_another_library(self):
+        said = self.said(UCA_LIBRARY=ctypes.util.find_library("c") or "libc.so.6")
+        for it in ("ImportError: ", "uca_abi", "UCA_LIBRARY", "install"):
+            self.assertIn(it, said)
+
+    def test_older(self):
+        calls = ["uca_abi", "uca_version", "uca_collator_size", "uca_open", "uca_key", "uca_compare", "uca_compare_keys", "uca_close"]
+        with self.assertRaises(ImportError) as caught:
+            uca._declare(types.SimpleNamespace(**{it: lambda: None for it in calls}), "/old/libuca.so.1")
+        for it in ("/old/libuca.so.1", "uca_fingerprint", "older", "install"):
+            self.assertIn(it, str(caught.exception))
+
+
+class Module(unittest.TestCase):
+    def test_names(self):
+        public = {name for name, it in vars(uca).items() if getattr(it, "__module__", None) == "uca" and not name.startswith("_")}
+        self.assertEqual(set(uca.__all__), public | {"library_version"})
+
+    @unittest.skipIf(sys.version_info < (3, 9), "os.PathLike has no items")
+    def test_hints(self):
+        members = [it for it in vars(uca.Collator).values() if callable(it)]
+        for it in [uca.compare_keys, uca.Comparison, uca.Collator.fingerprint.fget, uca.Collator.is_open.fget, *members]:
+            self.assertTrue(typing.get_type_hints(it))
+
+    def test_docstrings(self):
+        for name in uca.__all__:
+            if name != "library_version":
+                self.assertTrue(getattr(uca, name).__doc__, name)
 
 
 if __name__ == "__main__":

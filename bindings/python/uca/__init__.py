@@ -9,10 +9,25 @@ the environment's UCA_LIBRARY names, or else the one beside this module, or else
 from __future__ import annotations
 
 import ctypes
+import operator
 import os
-from typing import NamedTuple, Optional, Type, Union
+import re
+import sys
+import sysconfig
+import threading
+from typing import Any, Callable, Dict, NamedTuple, Optional, Tuple, Type, TypeVar, Union
 
-__all__ = ["Collator", "Comparison", "ClosedError", "FileError", "TextError", "UcaError", "compare_keys", "library_version"]
+__all__ = [
+    "Collator",
+    "Comparison",
+    "ClosedError",
+    "FileError",
+    "FingerprintError",
+    "TextError",
+    "UcaError",
+    "compare_keys",
+    "library_version",
+]
 
 _ABI = 1
 
@@ -22,8 +37,15 @@ _KINDS = ["", "Line", "Order", "CodePoint", "Weight", "DuplicateKey", "Range", "
 _WEIGHTINGS = {None: 0, "non-ignorable": 1, "shifted": 2}
 _MEMORY_KIND = 9
 
-File = Union[bytes, str, "os.PathLike[str]"]
-Text = Union[str, bytes]
+_UNCHECKED = "unchecked"
+
+#: CPython without its lock (a free-threaded build) and other interpreters run threads side by side, also in calls of PyDLL.
+_HAS_INTERPRETER_LOCK = sys.implementation.name == "cpython" and not sysconfig.get_config_var("Py_GIL_DISABLED")
+
+Bytes = Union[bytes, bytearray, memoryview]
+File = Union[Bytes, str, "os.PathLike[Any]"]
+Text = Union[str, Bytes]
+_Self = TypeVar("_Self", bound="Collator")
 
 
 class UcaError(Exception):
@@ -40,7 +62,24 @@ class FileError(UcaError, ValueError):
         self.line = line
         #: why, as docs/FORMATS.md names it: "Line", "Order", "CodePoint", "Weight", "DuplicateKey", "Range" or "Limit"
         self.kind = kind
-        super().__init__(f"{role}: line {line}: {kind}")
+        super().__init__(role, line, kind)
+
+    def __str__(self) -> str:
+        return f"{self.role}: line {self.line}: {self.kind}"
+
+
+class FingerprintError(UcaError, ValueError):
+    """The files or the settings are not those that were asked for."""
+
+    def __init__(self, wanted: str, found: str) -> None:
+        #: the fingerprint that was asked for
+        self.wanted = wanted
+        #: that of the files and the settings
+        self.found = found
+        super().__init__(wanted, found)
+
+    def __str__(self) -> str:
+        return f"the files and settings have the fingerprint {self.found}, and not {self.wanted}"
 
 
 class TextError(UcaError, ValueError):
@@ -49,14 +88,17 @@ class TextError(UcaError, ValueError):
     def __init__(self, kind: str) -> None:
         #: why: "Utf8", "TooLong" or "LongRun"
         self.kind = kind
-        super().__init__(f"text: {kind}")
+        super().__init__(kind)
+
+    def __str__(self) -> str:
+        return f"text: {self.kind}"
 
 
 class ClosedError(UcaError, ValueError):
     """The collator is closed."""
 
-    def __init__(self) -> None:
-        super().__init__("the collator is closed")
+    def __str__(self) -> str:
+        return "the collator is closed"
 
 
 class Comparison(NamedTuple):
@@ -73,7 +115,18 @@ class _Handle(ctypes.Structure):
 
 
 class _Collator(ctypes.Structure):
+    """A collator of the library, and by what it was opened. It is closed when nothing uses it any more."""
+
     _fields_ = [("handle", _Handle), ("is_open", ctypes.c_bool)]
+
+    #: the paths of both files (None for bytes), the weighting, and whether it is identical
+    arguments: Tuple[Optional[str], Optional[str], Optional[str], bool] = (None, None, None, False)
+    #: the fingerprint, or "" if it was never open
+    fingerprint = ""
+
+    def __del__(self) -> None:
+        if _library is not None:  # the interpreter may have cleared it, when it ends
+            _library.uca_close(self)
 
 
 class _Error(ctypes.Structure):
@@ -84,29 +137,74 @@ class _Comparison(ctypes.Structure):
     _fields_ = [("order", ctypes.c_int32), ("level", ctypes.c_uint32)]
 
 
-def _load() -> ctypes.PyDLL:
-    """The library, with the types of its calls."""
-    beside = os.path.join(os.path.dirname(os.path.abspath(__file__)), "libuca.so.1")
-    path = os.environ.get("UCA_LIBRARY") or (beside if os.path.exists(beside) else "libuca.so.1")
-    # PyDLL keeps the interpreter's lock during a call, so that a collator is in one call at a time.
-    library = ctypes.PyDLL(path)
+def _loaded(path: str) -> ctypes.PyDLL:
+    try:
+        # PyDLL keeps the interpreter's lock during a call, so that a collator is in one call at a time.
+        return ctypes.PyDLL(path)
+    except OSError as error:
+        raise ImportError(
+            f"the library of uca cannot be loaded ({error}): name its file in the environment's UCA_LIBRARY, or install it and run ldconfig"
+        ) from None
+
+
+def _declare(library: ctypes.PyDLL, path: str) -> None:
+    """Gives the calls of the library their types."""
     data, size, number = ctypes.c_char_p, ctypes.c_size_t, ctypes.c_uint32
-    collator, comparison = ctypes.POINTER(_Collator), ctypes.POINTER(_Comparison)
+    collator, comparison, error = ctypes.POINTER(_Collator), ctypes.POINTER(_Comparison), ctypes.POINTER(_Error)
+    files = [data, size, data, size, number, number]
     calls = {
         "uca_abi": ([], number),
         "uca_version": ([], number),
         "uca_collator_size": ([], size),
-        "uca_open": ([collator, data, size, data, size, number, number, ctypes.POINTER(_Error)], number),
+        "uca_open": ([collator, *files, error], number),
+        "uca_fingerprint": ([*files, ctypes.c_void_p, error], number),
         "uca_key": ([collator, data, size, ctypes.c_void_p, size, ctypes.POINTER(size)], number),
         "uca_compare": ([collator, data, size, data, size, comparison], number),
         "uca_compare_keys": ([data, size, data, size, ctypes.c_uint8, comparison], None),
         "uca_close": ([collator], None),
     }
     for name, (arguments, result) in calls.items():
-        call = getattr(library, name)
+        try:
+            call = getattr(library, name)
+        except AttributeError:
+            raise ImportError(
+                f"{path} has no {name}, so it is older than this module, or no library of uca: install one of this version, or name it in UCA_LIBRARY"
+            ) from None
         call.argtypes, call.restype = arguments, result
+
+
+def _in_turn(call: Callable[..., Any], lock: Any) -> Callable[..., Any]:
+    """The call, which waits until the lock is free."""
+
+    def call_in_turn(*arguments: Any) -> Any:
+        with lock:
+            return call(*arguments)
+
+    return call_in_turn
+
+
+def _take_turns(library: ctypes.PyDLL) -> None:
+    """Lets one thread at a time into the calls that take a collator, as the interpreter's lock does where there is one.
+
+    A handler of a signal may make a key while its thread holds the lock, so a thread may take it again. A process that is forked
+    holds it, so that no other thread is in a call then.
+    """
+    lock = threading.RLock()
+    os.register_at_fork(before=lock.acquire, after_in_parent=lock.release, after_in_child=lock.release)
+    for name in ("uca_open", "uca_key", "uca_compare", "uca_close"):
+        setattr(library, name, _in_turn(getattr(library, name), lock))
+
+
+def _load() -> ctypes.PyDLL:
+    """The library, with the types of its calls."""
+    beside = os.path.join(os.path.dirname(os.path.abspath(__file__)), "libuca.so.1")
+    path = os.environ.get("UCA_LIBRARY") or (beside if os.path.exists(beside) else "libuca.so.1")
+    library = _loaded(path)
+    _declare(library, path)
     if library.uca_abi() != _ABI or library.uca_collator_size() != ctypes.sizeof(_Collator):
         raise ImportError(f"{path} has another interface than this module")
+    if not _HAS_INTERPRETER_LOCK:
+        _take_turns(library)
     return library
 
 
@@ -116,16 +214,59 @@ _library = _load()
 library_version = (_library.uca_version() // 1000000, _library.uca_version() // 1000 % 1000, _library.uca_version() % 1000)
 
 
-def _bytes_of(file: File) -> bytes:
-    if isinstance(file, bytes):
-        return file
-    with open(file, "rb") as it:
-        return it.read()
+#: what a collator is before it is opened
+_CLOSED_COLLATOR = _Collator()
+
+#: the types of rooms for keys, each of twice as many bytes as the one before
+_ROOMS = [ctypes.c_char * (1 << it) for it in range(21)]
+
+
+def _room_for(length: int) -> ctypes.Array[ctypes.c_char]:
+    """Room for the key of a text of so many bytes. Most keys fit, and none has to."""
+    return _ROOMS[min((8 * length + 63).bit_length(), 20)]()
+
+
+def _bytes_of(buffer: Bytes) -> bytes:
+    """The bytes of a buffer. One whose items are not single bytes, in one dimension, is a TypeError, and so is all else."""
+    if type(buffer) is bytes:
+        return buffer
+    with memoryview(buffer) as view:
+        if view.ndim != 1 or view.itemsize != 1 or view.format[-1] not in "Bbc":
+            raise TypeError(f"a buffer of bytes is required, and not one of the format {view.format!r} in {view.ndim} dimensions")
+        return view.tobytes()
+
+
+def _read(file: File) -> Tuple[bytes, Optional[str]]:
+    """The content of a file, and its path unless it was given as bytes."""
+    if not isinstance(file, (str, os.PathLike)):
+        return _bytes_of(file), None
+    path = os.fsdecode(file)
+    with open(path, "rb") as it:
+        return it.read(), path if os.path.isabs(path) else os.path.join(os.getcwd(), path)
 
 
 def _encoded(text: Text) -> bytes:
     """The text as UTF-8. A lone surrogate of a str becomes bytes that are not UTF-8."""
-    return text.encode("utf-8", "surrogatepass") if isinstance(text, str) else bytes(text)
+    return str.encode(text, "utf-8", "surrogatepass") if isinstance(text, str) else _bytes_of(text)
+
+
+def _check_files(status: int, error: _Error) -> None:
+    """Raises the error of a status of a call with files."""
+    if status == _MEMORY or error.kind == _MEMORY_KIND:
+        raise MemoryError
+    if status != _OK:
+        raise FileError({_TABLE: "table", _DATA: "data"}[status], error.line, _KINDS[error.kind])
+
+
+def _check_settings(weighting: Optional[str], identical: bool, fingerprint: str) -> None:
+    if weighting not in _WEIGHTINGS:
+        raise ValueError('weighting is None, "non-ignorable" or "shifted"')
+    if not isinstance(identical, bool):
+        raise TypeError("identical is True or False")
+    if not isinstance(fingerprint, str):
+        raise TypeError("fingerprint is a str")
+    if fingerprint != _UNCHECKED and not re.fullmatch("[0-9a-f]{64}", fingerprint):
+        raise ValueError("fingerprint has 64 lower-case hexadecimal digits")
 
 
 def _raise(status: int) -> None:
@@ -137,12 +278,12 @@ def _raise(status: int) -> None:
     raise TextError(_TEXT_ERRORS[status])
 
 
-def compare_keys(left: bytes, right: bytes, levels: int) -> Comparison:
+def compare_keys(left: Bytes, right: Bytes, levels: int) -> Comparison:
     """How two stored keys of so many levels compare: 3, one more under "shifted", and one more at the identical level."""
-    if not 0 <= levels <= 255:
+    first, second, count, found = _bytes_of(left), _bytes_of(right), operator.index(levels), _Comparison()
+    if not 0 <= count <= 255:
         raise ValueError("levels is a number from 0 to 255")
-    found = _Comparison()
-    _library.uca_compare_keys(left, len(left), right, len(right), levels, found)
+    _library.uca_compare_keys(first, len(first), second, len(second), count, found)
     return Comparison(found.order, found.level)
 
 
@@ -150,30 +291,58 @@ class Collator:
     """A table and a data file, by which texts get their sort keys and are compared.
 
     It has memory of its own until it is closed: by :meth:`close`, at the end of a ``with``, or when it is collected.
+
+    Threads may share it, and so may handlers of signals and the child of a fork. One that was opened by paths can be pickled and
+    copied. The copy is opened by the same paths and settings, and other files there are a :class:`FingerprintError`.
     """
 
-    def __init__(self, table: File, data: File, weighting: Optional[str] = None, identical: bool = False) -> None:
+    _collator = _CLOSED_COLLATOR
+
+    def __init__(
+        self, table: File, data: File, weighting: Optional[str] = None, identical: bool = False, *, fingerprint: str = _UNCHECKED
+    ) -> None:
         """Reads a table (allkeys.txt) and a data file, which are bytes, or paths of files.
 
         ``weighting`` is "non-ignorable" or "shifted", or None for that of the table. With ``identical``, texts that are not
-        canonically equivalent differ, by one more level.
+        canonically equivalent differ, by one more level. ``fingerprint`` is that by which stored keys were made.
 
-        Raises :class:`FileError` if the table, or else the data file, is rejected, and MemoryError.
+        Raises :class:`FileError` if the table, or else the data file, is rejected; :class:`FingerprintError` if the fingerprint
+        is another one; MemoryError.
         """
-        self._collator = _Collator()
-        self._room = 256
-        self._out = ctypes.create_string_buffer(self._room)
-        self._needed = ctypes.c_size_t()
-        if weighting not in _WEIGHTINGS:
-            raise ValueError('weighting is None, "non-ignorable" or "shifted"')
-        table_bytes, data_bytes, error = _bytes_of(table), _bytes_of(data), _Error()
-        status = _library.uca_open(
-            self._collator, table_bytes, len(table_bytes), data_bytes, len(data_bytes), _WEIGHTINGS[weighting], int(bool(identical)), error
-        )
-        if status == _MEMORY or error.kind == _MEMORY_KIND:
-            raise MemoryError
-        if status != _OK:
-            raise FileError({_TABLE: "table", _DATA: "data"}[status], error.line, _KINDS[error.kind])
+        self._open(table, data, weighting, identical, fingerprint)
+
+    def _open(self, table: File, data: File, weighting: Optional[str], identical: bool, fingerprint: str) -> None:
+        _check_settings(weighting, identical, fingerprint)
+        (table_bytes, table_path), (data_bytes, data_path) = _read(table), _read(data)
+        files = (table_bytes, len(table_bytes), data_bytes, len(data_bytes), _WEIGHTINGS[weighting], int(identical))
+        digest, error, collator = (ctypes.c_char * 32)(), _Error(), _Collator()
+        _check_files(_library.uca_fingerprint(*files, digest, error), error)
+        collator.fingerprint = digest.raw.hex()
+        if fingerprint not in (collator.fingerprint, _UNCHECKED):
+            raise FingerprintError(fingerprint, collator.fingerprint)
+        _check_files(_library.uca_open(collator, *files, error), error)
+        collator.arguments = (table_path, data_path, weighting, identical)
+        if vars(self).setdefault("_collator", collator) is not collator:
+            raise RuntimeError("a Collator is opened once")
+
+    @property
+    def fingerprint(self) -> str:
+        """What keys are made by, as 64 hexadecimal digits: both files, the weighting and the depth. Keep it beside stored keys."""
+        if not self._collator.fingerprint:
+            raise ClosedError
+        return self._collator.fingerprint
+
+    def __getstate__(self) -> Dict[str, Any]:
+        """What a copy is opened by, and the attributes of a subclass."""
+        if not self.is_open:
+            raise ClosedError
+        if None in self._collator.arguments[:2]:
+            raise TypeError("a Collator of bytes cannot be pickled or copied: open it by paths")
+        return {**vars(self), "_collator": (*self._collator.arguments, self.fingerprint)}
+
+    def __setstate__(self, state: Dict[str, Any]) -> None:
+        self._open(*state["_collator"])
+        vars(self).update((name, it) for name, it in state.items() if name != "_collator")
 
     def key(self, text: Text) -> bytes:
         """The sort key of a text. Keys of one collator compare as bytes as their texts do.
@@ -181,14 +350,15 @@ class Collator:
         Raises :class:`TextError`, :class:`ClosedError` and MemoryError.
         """
         encoded = _encoded(text)
-        status = _library.uca_key(self._collator, encoded, len(encoded), self._out, self._room, self._needed)
+        # The room is of this call alone: between any two steps another thread, or a handler of a signal, may make a key.
+        out, needed = _room_for(len(encoded)), ctypes.c_size_t()
+        status = _library.uca_key(self._collator, encoded, len(encoded), out, len(out), needed)
         if status == _SMALL:
-            self._room = 2 * self._needed.value
-            self._out = ctypes.create_string_buffer(self._room)
-            status = _library.uca_key(self._collator, encoded, len(encoded), self._out, self._room, self._needed)
+            out = ctypes.create_string_buffer(needed.value)
+            status = _library.uca_key(self._collator, encoded, len(encoded), out, len(out), needed)
         if status != _OK:
             _raise(status)
-        return ctypes.string_at(self._out, self._needed.value)
+        return out[: needed.value]
 
     def compare(self, left: Text, right: Text) -> Comparison:
         """How two texts compare, without keys.
@@ -210,13 +380,8 @@ class Collator:
         """Whether it can be used."""
         return self._collator.is_open
 
-    def __enter__(self) -> Collator:
+    def __enter__(self: _Self) -> _Self:
         return self
 
     def __exit__(self, kind: Optional[Type[BaseException]], error: Optional[BaseException], trace: object) -> None:
         self.close()
-
-    def __del__(self) -> None:
-        collator = getattr(self, "_collator", None)
-        if collator is not None:
-            _library.uca_close(collator)
