@@ -10,13 +10,13 @@ First prove and build the static library: `tools/build.py uca_c`. Then this scri
 - `keys` and the module over files of examples/, whose keys and orders have to be those of `uca keys` and `uca sort`;
 - the names that libuca.so.1 exports, which have to be those of uca.h, and the header as C++;
 - a program that is compiled by what pkg-config says of a temporary installation, and the programs of docs/BINDINGS.md;
-- the tests of the module for Python, as it is and from a wheel with the library inside;
+- the tests of the module for Python, as it is and from a wheel with the library inside, and those of keys, threads, signals and forks under valgrind;
 - statements of SQLite with the extension, over files that are the same or others, and those of docs/BINDINGS.md; also where each allocation fails in turn;
 - statements, dumps and replication of PostgreSQL with its extension, which is installed to a copy of the server's programs in a temporary folder. Each server
   has a folder of its own, listens on a Unix socket there, and is stopped afterwards;
 - all four over Unicode's table, and over that table tailored for Danish: 100,000 words of nine languages have the keys of `uca keys` and the order of `uca sort`.
 
-Debian's packages are gcc, g++, make, pkgconf, valgrind, sqlite3, libsqlite3-dev, postgresql and postgresql-server-dev-15, and for the last checks unicode-data and the word lists of WORDS. What needs a command,
+Debian's packages are gcc, g++, make, pkgconf, valgrind, python3, sqlite3, libsqlite3-dev, postgresql and postgresql-server-dev-15, and for the last checks unicode-data and the word lists of WORDS. What needs a command,
 a program or a file that is not here is not run, and a line says so. The last line is `N passed, M failed`, and how many were not run if there are any.
 """
 import argparse
@@ -196,6 +196,15 @@ def python(work):
     run([sys.executable, "-W", "error", "-m", "unittest", "discover", "-s", f"{PYTHON}/tests"], env=python_environment())
 
 
+def python_valgrind(work):
+    """The module's tests of rooms for keys, threads, signals and forks. Each read and write outside of what malloc gave is an error."""
+    need("valgrind")
+    # Not of leaks and undefined values, since CPython itself has both when it ends.
+    words = ["valgrind", "-q", "--error-exitcode=9", "--leak-check=no", "--undef-value-errors=no", "--fair-sched=yes", sys.executable]
+    environment = {**python_environment(), "PYTHONMALLOC": "malloc", "UCA_STRESS_SECONDS": "8"}
+    run([*words, "-m", "unittest", "test_uca.Keys", "test_uca.Values", "test_uca.Sharing", "test_stress"], env=environment, cwd=f"{PYTHON}/tests")
+
+
 def python_with_wheel():
     """A Python that can build a wheel without a network."""
     for it in (sys.executable, "/usr/bin/python3"):
@@ -216,7 +225,7 @@ def wheel(work):
     if "uca/libuca.so.1" not in zipfile.ZipFile(f"{wheels}/{made[0]}").namelist():
         raise AssertionError(f"{made[0]} has no library inside")
     run([*pip, "install", "--no-index", "--no-deps", "--target", folder, f"{wheels}/{made[0]}"])
-    environment = {**python_environment(), "PYTHONPATH": folder, "UCA_LIBRARY": ""}
+    environment = {**python_environment(), "PYTHONPATH": folder, "UCA_LIBRARY": "", "UCA_STRESS_SECONDS": "1"}
     run([python, "-W", "error", "-m", "unittest", "discover", "-s", f"{PYTHON}/tests"], env=environment, cwd=wheels)
 
 
@@ -909,7 +918,7 @@ def main():
     if not os.path.exists(ARCHIVE):
         sys.exit(f"there is no {ARCHIVE}: run `tools/build.py uca_c` first")
     checks = [("make", make), ("valgrind", valgrind), ("sanitizers", sanitizers), ("header in C++", header), ("exported names", exports),
-              ("installation", installed), ("stored run", stored_run), ("docs/BINDINGS.md", page), ("keys", keys_like(program)), ("Python", python), ("wheel", wheel), ("sort", sorted_like(program)), ("SQLite", sqlite),
+              ("installation", installed), ("stored run", stored_run), ("docs/BINDINGS.md", page), ("keys", keys_like(program)), ("Python", python), ("Python under valgrind", python_valgrind), ("wheel", wheel), ("sort", sorted_like(program)), ("SQLite", sqlite),
               ("SQLite's loads", sqlite_loads), ("SQLite's files", sqlite_files), ("SQLite's schemas", sqlite_schemas), ("SQLite's restores", sqlite_restore),
               ("SQLite's attached databases", sqlite_attached), ("SQLite's memory", sqlite_memory), ("SQLite on the page", sqlite_page), ("SQLite's orders", sqlite_like(program)),
               ("PostgreSQL", postgresql), ("PostgreSQL's settings", postgresql_settings), ("PostgreSQL's dumps", postgresql_dumps),
