@@ -15,7 +15,7 @@ import warnings
 from concurrent.futures import ThreadPoolExecutor
 
 import uca
-from test_uca import DATA, TABLE, ran
+from test_uca import DATA, TABLE, WITHOUT_LOCK, ran
 
 SECONDS = float(os.environ.get("UCA_STRESS_SECONDS") or 10)
 THREADS = 8
@@ -180,23 +180,19 @@ class Stress(unittest.TestCase):
                         self.wrong = 1
 
     def test_without_the_interpreter_lock(self):
-        """A Python that has no lock: it is told so, and its calls of the library let other threads run meanwhile."""
-        run = ran(WITHOUT_LOCK, UCA_STRESS_SECONDS=str(SECONDS / self.CASES))
-        self.assertEqual((run.returncode, run.stdout), (0, b"locked\n"), run.stderr.decode())
+        run = ran(WITHOUT_LOCK + SOME_CASES, UCA_STRESS_SECONDS=str(SECONDS / self.CASES))
+        self.assertEqual((run.returncode, run.stdout), (0, b"4 run\n"), run.stderr.decode())
         self.calls = 1
 
 
-WITHOUT_LOCK = """
-import ctypes, sysconfig, unittest
-found = sysconfig.get_config_var
-sysconfig.get_config_var = lambda name: name == "Py_GIL_DISABLED" or found(name)
-ctypes.PyDLL = ctypes.CDLL
+SOME_CASES = """
+import unittest
 import test_stress
 
 names = ["test_growing_texts_in_quick_turns", "test_handler_of_a_signal", "test_closed_meanwhile", "test_forks"]
 test_stress.Stress.CASES = len(names)
-ran = unittest.TextTestRunner().run(unittest.TestSuite(map(test_stress.Stress, names)))
-print("locked" if ran.wasSuccessful() and not test_stress.uca._HAS_INTERPRETER_LOCK else "failed")
+result = unittest.TextTestRunner().run(unittest.TestSuite(map(test_stress.Stress, names)))
+print(f"{result.testsRun} run" if result.wasSuccessful() else "failed")
 """
 
 

@@ -40,6 +40,18 @@ other 20000..20FFF
 """
 
 
+#: The beginning of a program that stands for a Python without the interpreter's lock: the module is told so, and its calls of the library let
+#: other threads run meanwhile.
+WITHOUT_LOCK = """
+import ctypes, sysconfig
+found = sysconfig.get_config_var
+sysconfig.get_config_var = lambda name: name == "Py_GIL_DISABLED" or found(name)
+ctypes.PyDLL = ctypes.CDLL
+import uca
+assert not uca._HAS_INTERPRETER_LOCK
+"""
+
+
 def hexadecimal(words):
     return bytes.fromhex(words)
 
@@ -379,9 +391,9 @@ class Opening(unittest.TestCase):
 
     def test_memory_is_given_back(self):
         closed = []
-        close = uca._library.uca_close
-        self.addCleanup(setattr, uca._library, "uca_close", close)
-        uca._library.uca_close = lambda it: (closed.append(it.is_open), close(it))
+        close = uca._Collator.close_unused
+        self.addCleanup(setattr, uca._Collator, "close_unused", close)
+        uca._Collator.close_unused = staticmethod(lambda it: (closed.append(it.is_open), close(it)))
         collator = uca.Collator(TABLE, DATA)
         self.assertRaises(RuntimeError, collator.__init__, TABLE, DATA)
         gc.collect()
@@ -432,8 +444,8 @@ builtins.kept, sys.kept, sys.modules["kept"], kept = Cycle(), Cycle(), Cycle(), 
 atexit.register(kept.collator.key, "a")
 threading.Thread(target=lambda: [kept.collator.key("a" * 1000) for _ in range(10**7)], daemon=True).start()
 """
-        for _ in range(5):
-            run = ran(program)
+        for before in 3 * ["", WITHOUT_LOCK]:
+            run = ran(before + program)
             self.assertEqual((run.returncode, run.stdout, run.stderr), (0, b"", b""))
 
 

@@ -123,10 +123,11 @@ class _Collator(ctypes.Structure):
     arguments: Tuple[Optional[str], Optional[str], Optional[str], bool] = (None, None, None, False)
     #: the fingerprint, or "" if it was never open
     fingerprint = ""
+    #: uca_close, which is here since the interpreter clears a module's names when it ends. It takes no lock: nothing else uses the collator.
+    close_unused: Callable[[_Collator], None]
 
     def __del__(self) -> None:
-        if _library is not None:  # the interpreter may have cleared it, when it ends
-            _library.uca_close(self)
+        self.close_unused(self)
 
 
 class _Error(ctypes.Structure):
@@ -203,6 +204,7 @@ def _load() -> ctypes.PyDLL:
     _declare(library, path)
     if library.uca_abi() != _ABI or library.uca_collator_size() != ctypes.sizeof(_Collator):
         raise ImportError(f"{path} has another interface than this module")
+    _Collator.close_unused = library.uca_close
     if not _HAS_INTERPRETER_LOCK:
         _take_turns(library)
     return library
@@ -304,7 +306,7 @@ class Collator:
         """Reads a table (allkeys.txt) and a data file, which are bytes, or paths of files.
 
         ``weighting`` is "non-ignorable" or "shifted", or None for that of the table. With ``identical``, texts that are not
-        canonically equivalent differ, by one more level. ``fingerprint`` is that by which stored keys were made.
+        canonically equivalent differ, by one more level. ``fingerprint`` is that of stored keys, or "unchecked" if there are none.
 
         Raises :class:`FileError` if the table, or else the data file, is rejected; :class:`FingerprintError` if the fingerprint
         is another one; MemoryError.
