@@ -43,7 +43,7 @@ SETTINGS = [[], ["non-ignorable"], ["shifted"], ["non-ignorable", "identical"], 
 SORTER = """
 import sys, uca
 weighting, identical = {None: None, **{it: it for it in ("non-ignorable", "shifted")}}[sys.argv[3] or None], sys.argv[4] == "identical"
-with uca.Collator(sys.argv[1], sys.argv[2], weighting, identical) as collator:
+with uca.Collator(sys.argv[1], sys.argv[2], weighting, identical, fingerprint=sys.argv[5]) as collator:
     lines = sys.stdin.buffer.read().removesuffix(b"\\n").split(b"\\n")
     sys.stdout.buffer.write(b"".join(it + b"\\n" for it in sorted(lines, key=collator.key)))
 """
@@ -172,7 +172,7 @@ def keys_like(program):
 
 
 def sorted_like(program):
-    """Lines sorted by the keys of the module are in the order of `uca sort`."""
+    """Lines sorted by the keys of the module are in the order of `uca sort`, and the fingerprint is that of the files."""
 
     def check(work):
         if not os.path.exists(program):
@@ -182,7 +182,8 @@ def sorted_like(program):
                 files = [f"{EXAMPLES}/table.txt", f"{EXAMPLES}/data.txt"]
                 wanted = run([program, "sort", *options(setting), *files], input=content(f"{EXAMPLES}/{lines}"))
                 weighting = next((it for it in setting if it != "identical"), "")
-                words = [sys.executable, "-c", SORTER, *files, weighting, "identical" if "identical" in setting else ""]
+                depth = "identical" if "identical" in setting else "weights"
+                words = [sys.executable, "-c", SORTER, *files, weighting, depth, fingerprint_of(*files, weighting or "shifted", depth)]
                 same(run(words, input=content(f"{EXAMPLES}/{lines}"), env=python_environment()), wanted, f"order of {lines}, {setting}")
 
     return check
@@ -201,7 +202,7 @@ def python_valgrind(work):
     need("valgrind")
     # Not of leaks and undefined values, since CPython itself has both when it ends.
     words = ["valgrind", "-q", "--error-exitcode=9", "--leak-check=no", "--undef-value-errors=no", "--fair-sched=yes", sys.executable]
-    environment = {**python_environment(), "PYTHONMALLOC": "malloc", "UCA_STRESS_SECONDS": "8"}
+    environment = {**python_environment(), "PYTHONMALLOC": "malloc", "UCA_STRESS_SECONDS": "4"}
     run([*words, "-m", "unittest", "test_uca.Keys", "test_uca.Values", "test_uca.Sharing", "test_stress"], env=environment, cwd=f"{PYTHON}/tests")
 
 
@@ -891,7 +892,7 @@ def c_words(work, table, data, keys, order):
 
 
 def python_words(work, table, data, keys, order):
-    said = run([sys.executable, "-c", SORTER, table, data, "shifted", ""], input=content(f"{work}/words.txt"), env=python_environment())
+    said = run([sys.executable, "-c", SORTER, table, data, "shifted", "weights", fingerprint_of(table, data)], input=content(f"{work}/words.txt"), env=python_environment())
     same(said, order, f"order over {table}")
 
 

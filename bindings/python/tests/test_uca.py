@@ -480,7 +480,7 @@ class Fingerprints(unittest.TestCase):
                 uca.Collator(*arguments, fingerprint=kept)
             with uca.Collator(*arguments) as collator:
                 self.assertEqual((caught.exception.wanted, caught.exception.found), (kept, collator.fingerprint))
-            self.assertIn(kept, str(caught.exception))
+            self.assertIn(f"{caught.exception.found}, and {kept} is wanted", str(caught.exception))
 
     def test_none_is_no_fingerprint(self):
         kept = fingerprint_of(TABLE, DATA, "shifted", "weights")
@@ -595,8 +595,8 @@ def open_others():
 
 class Errors(unittest.TestCase):
     def test_pickled(self):
-        errors = [uca.FileError("table", 3, "Line"), uca.TextError("Utf8"), uca.ClosedError(), uca.FingerprintError("0" * 64, "1" * 64), uca.UcaError("x")]
-        for error in errors:
+        other_files = uca.FingerprintError("0" * 64, "1" * 64)
+        for error in [uca.FileError("table", 3, "Line"), uca.TextError("Utf8"), uca.ClosedError(), other_files, uca.UcaError("x")]:
             for protocol in range(pickle.HIGHEST_PROTOCOL + 1):
                 for found in (pickle.loads(pickle.dumps(error, protocol)), copy.copy(error), copy.deepcopy(error)):
                     self.assertIs(type(found), type(error))

@@ -79,7 +79,7 @@ class FingerprintError(UcaError, ValueError):
         super().__init__(wanted, found)
 
     def __str__(self) -> str:
-        return f"the files and settings have the fingerprint {self.found}, and not {self.wanted}"
+        return f"the files and settings have the fingerprint {self.found}, and {self.wanted} is wanted"
 
 
 class TextError(UcaError, ValueError):
@@ -123,7 +123,8 @@ class _Collator(ctypes.Structure):
     arguments: Tuple[Optional[str], Optional[str], Optional[str], bool] = (None, None, None, False)
     #: the fingerprint, or "" if it was never open
     fingerprint = ""
-    #: uca_close, which is here since the interpreter clears a module's names when it ends. It takes no lock: nothing else uses the collator.
+    #: uca_close, which takes no lock, since nothing else uses the collator. The interpreter clears a module's names when it ends,
+    #: so it is kept here.
     close_unused: Callable[[_Collator], None]
 
     def __del__(self) -> None:
