@@ -1,5 +1,5 @@
 -- Accepted tailorings are accepted changes, whose changed texts are the targets.
-use Rattle.std.proofs.Common.{inl, inr, ⊎_elim, ℕ, List, [], ◌∷◌, map, Contains, refl, ap, arith}
+use Rattle.std.proofs.Common.{inl, inr, ⊎_elim, ℕ, List, [], ◌∷◌, None, map, Contains, refl, ap, arith}
 use Rattle.std.specs.List.{AllByRecursion}
 use Rattle.std.proofs.lemmas.List.Elements.{Contains-append_right}
 use Rattle.uca_weights.proofs.Lists.{each_weaker}
@@ -10,8 +10,9 @@ use Rattle.uca_tailorings.specs.KeptRows.{IsKeptRow, IsKnownRow}
 use Rattle.uca_tailorings.specs.Tailorings.{Tailoring, IsCovered, IsCoveredRow, IsPresentRow, IsUnchangedRow, IsExpectedRow, IsAccepted}
 use Rattle.uca_tailorings.specs.declared.conditions.Condition.TheVariants as conditions
 use Rattle.uca_change_lists.specs.Points.{range_pair}
+use Rattle.uca_changes.specs.Weightings.{weighting_by}
 use Rattle.uca_changes.specs.Changes.{IsChangedText, IsAcceptedChange}
-use Rattle.uca_changes.specs.declared.conditions.ChangeCondition.TheVariants.{OldIllFormed, NewIllFormed, RangeChanged, Uncovered, RowChanged, RowMissing, RowExtra, PointChanged}
+use Rattle.uca_changes.specs.declared.conditions.ChangeCondition.TheVariants.{OldIllFormed, NewIllFormed, RangeChanged, Uncovered, RowChanged, RowMissing, RowExtra, PointChanged, SettingChanged}
 use Rattle.uca_changes.specs.Laws.{change_of, TailoringsAreChanges}
 
 -- the code points of the targets
@@ -53,6 +54,7 @@ module _ (tailoring : Tailoring) (accepted : IsAccepted tailoring) where
       (λ row. ⊎_elim (λ key. inl key) (λ target. inr (target_listed tailoring.relations row.key target))) tailoring.tailored.rows
       (accepted conditions.RowExtra)
   meets PointChanged = λ point scalar outside. record { class = refl; core = refl; other = refl }
+  meets SettingChanged = ap (λ header. weighting_by None header.setting) (accepted conditions.Header)
 
 -- the law
 pub are_changes : TailoringsAreChanges

@@ -2,3 +2,4 @@ pub mod Points
 pub mod Unaffected
 pub mod FromTailorings
 pub mod SameLists
+pub mod WorkedChanges

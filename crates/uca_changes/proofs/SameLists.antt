@@ -1,5 +1,5 @@
 -- What a change with other lists of the same texts and ranges keeps.
-use Rattle.std.proofs.Common.{◌≡◌, ◌↔◌, inl, inr, ⊎_elim, ℕ, List, Contains, IsTrue, subst, sym}
+use Rattle.std.proofs.Common.{◌≡◌, ◌↔◌, inl, inr, ⊎_elim, ℕ, List, Option, Contains, IsTrue, subst, sym}
 use Rattle.std.specs.List.{AllByRecursion}
 use Rattle.std.proofs.lemmas.List.Elements.{All-contains_itself, recursion_from_All}
 use Rattle.unicode_normalization.specs.Forms.{nfd}
@@ -17,10 +17,10 @@ use Rattle.uca_change_lists.specs.Points.{IsSamePair, IsSamePoint, OutsideOf}
 use Rattle.uca_changes.specs.Changes.{Change, IsChangedText, IsUnaffected, Meets, IsAcceptedChange}
 use Rattle.uca_changes.specs.Laws.{IsStoredKey, IsUnaffectedText, UnaffectedTextsStay}
 use Rattle.uca_changes.specs.declared.conditions.ChangeCondition.{ChangeCondition}
-use Rattle.uca_changes.specs.declared.conditions.ChangeCondition.TheVariants.{OldIllFormed, NewIllFormed, RangeChanged, Uncovered, RowChanged, RowMissing, RowExtra, PointChanged}
+use Rattle.uca_changes.specs.declared.conditions.ChangeCondition.TheVariants.{OldIllFormed, NewIllFormed, RangeChanged, Uncovered, RowChanged, RowMissing, RowExtra, PointChanged, SettingChanged}
 
 -- what is true of each member is true of each member of a list that has no others
-each_of_these : {X : Type 0} (P : X → Type 0) (xs ys : List X) → ((x : X) → Contains xs x → Contains ys x) → AllByRecursion P ys → AllByRecursion P xs
+pub each_of_these : {X : Type 0} (P : X → Type 0) (xs ys : List X) → ((x : X) → Contains xs x → Contains ys x) → AllByRecursion P ys → AllByRecursion P xs
 each_of_these P xs ys no_others all =
     each_weaker (Contains xs) P (λ x there. each_contained P ys x all (no_others x there)) xs
     (recursion_from_All (Contains xs) xs (All-contains_itself xs))
@@ -63,6 +63,7 @@ module _ (change : Change) (texts : List (List ℕ)) (ranges : List CodePointRan
       (λ row. ⊎_elim (λ key. inl key) (λ listed. inr ((same_texts row.key).0 listed))) change.new.rows met
   meets_by_same PointChanged met =
       subst (λ (all : List CodePointRange). OutsideOf all (IsSamePoint change.old_properties change.new_properties)) same_ranges met
+  meets_by_same SettingChanged met = met
 
   -- so it is accepted with the other lists, if it is accepted
   pub accepted_by_same : IsAcceptedChange change → IsAcceptedChange (with_lists change texts ranges)
@@ -81,19 +82,20 @@ module _ (change : Change) (texts : List (List ℕ)) (ranges : List CodePointRan
 
   -- so what it means with the one lists it means with the others
   module _ (old new : Collation) where
-    stored_by_same : (depth : Depth) (weighting : Weighting) (text key : List ℕ)
-        → IsStoredKey (with_lists change texts ranges) old new depth weighting text key → IsStoredKey change old new depth weighting text key
-    stored_by_same depth weighting text key = ⊎_elim (λ made. inl made) (λ kept. inr (unaffected_text_by_same text kept.0, kept.1))
+    stored_by_same : (depth : Depth) (asked : Option Weighting) (text key : List ℕ)
+        → IsStoredKey (with_lists change texts ranges) old new depth asked text key → IsStoredKey change old new depth asked text key
+    stored_by_same depth asked text key = ⊎_elim (λ made. inl made) (λ kept. inr (unaffected_text_by_same text kept.0, kept.1))
 
     pub stays_by_same : UnaffectedTextsStay change old new → UnaffectedTextsStay (with_lists change texts ranges) old new
     stays_by_same stays = record {
+      chosen = stays.chosen;
       moves = λ text unaffected. stays.moves text (unaffected_text_by_same text unaffected);
-      compared = λ depth weighting left right first second.
-          stays.compared depth weighting left right (unaffected_text_by_same left first) (unaffected_text_by_same right second);
-      ordered = λ depth weighting left right left_key right_key first second.
-          stays.ordered depth weighting left right left_key right_key (stored_by_same depth weighting left left_key first)
-          (stored_by_same depth weighting right right_key second);
-      levels = λ depth weighting left right left_key right_key first second.
-          stays.levels depth weighting left right left_key right_key (stored_by_same depth weighting left left_key first)
-          (stored_by_same depth weighting right right_key second);
+      compared = λ depth asked left right first second.
+          stays.compared depth asked left right (unaffected_text_by_same left first) (unaffected_text_by_same right second);
+      ordered = λ depth asked left right left_key right_key first second.
+          stays.ordered depth asked left right left_key right_key (stored_by_same depth asked left left_key first)
+          (stored_by_same depth asked right right_key second);
+      levels = λ depth asked left right left_key right_key first second.
+          stays.levels depth asked left right left_key right_key (stored_by_same depth asked left left_key first)
+          (stored_by_same depth asked right right_key second);
     }

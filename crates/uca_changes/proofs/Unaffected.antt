@@ -1,5 +1,5 @@
 -- Unaffected texts read as the images of what they read as before an accepted change.
-use Rattle.std.proofs.Common.{◌≡◌, ℕ, List, ⊎_elim, map, sym, ap, ap₂, subst, subst₂, ◌∙◌}
+use Rattle.std.proofs.Common.{◌≡◌, ℕ, List, Option, Some, None, ⊎_elim, map, refl, sym, ap, ap₂, subst, subst₂, ◌∙◌}
 use Rattle.std.specs.Char.{IsScalar}
 use Rattle.std.specs.List.{AllByRecursion}
 use Rattle.unicode_normalization.specs.Forms.{nfd}
@@ -17,7 +17,7 @@ use Rattle.uca_elements.proofs.RelatedReading.{read_related}
 use Rattle.uca_order.specs.Levels.{lexicographic}
 use Rattle.uca_order.specs.Depths.{read_text, levels_at}
 use Rattle.uca_order.specs.StoredKeys.{stored_level}
-use Rattle.uca_order.specs.Laws.{text_key}
+use Rattle.uca_order.specs.Laws.{text_key, texts_compared}
 use Rattle.uca_order.proofs.DepthOrder.{depth_order, depth_level}
 use Rattle.uca_tailorings.specs.Images.{AreImages}
 use Rattle.uca_tailorings.specs.Moves.{KeyMoves}
@@ -28,10 +28,10 @@ use Rattle.uca_tailorings.proofs.Parts.{each_of_both}
 use Rattle.uca_tailorings.proofs.UntouchedTexts.{letters_occur, images_compare}
 use Rattle.uca_tailorings.proofs.AgreeingReadings.{same_reading}
 use Rattle.uca_tailorings.proofs.Moves.{images_move, kept_is_new}
-use Rattle.uca_changes.specs.Changes.{Change, IsChange, old_reading, new_reading, IsChangedText, IsChangedPoint, IsAcceptedChange}
+use Rattle.uca_changes.specs.Changes.{Change, IsChange, old_reading, new_reading, old_weighting, new_weighting, IsChangedText, IsChangedPoint, IsAcceptedChange}
 use Rattle.uca_change_lists.specs.Points.{IsSamePoint}
 use Rattle.uca_changes.specs.Laws.{IsUnaffectedText, IsStoredKey, UnaffectedTextsStay, ChangesKeepUnaffectedTexts}
-use Rattle.uca_changes.specs.declared.conditions.ChangeCondition.TheVariants.{RangeChanged, RowChanged, RowMissing, RowExtra, PointChanged}
+use Rattle.uca_changes.specs.declared.conditions.ChangeCondition.TheVariants.{RangeChanged, RowChanged, RowMissing, RowExtra, PointChanged, SettingChanged}
 use Rattle.uca_changes.proofs.Points.{same_classes, implicit_same}
 use borrow.Table.Char.{scalar_below}
 
@@ -99,34 +99,43 @@ module _ (change : Change) (is : IsChange change) (accepted : IsAcceptedChange c
       images_move change.maps is.maps (elements_of (old_reading change) (nfd_text change.old_properties text))
       (elements_of (new_reading change) (nfd_text change.new_properties text)) (nfd text) stays.scalars (images_read text stays)
 
+  -- runs over both tables that are asked for the same go by one weighting
+  chosen : (asked : Option Weighting) → new_weighting change asked ≡ old_weighting change asked
+  chosen None = sym (accepted SettingChanged)
+  chosen (Some weighting) = refl
+
   -- so the keys of a store are those under the new reading
-  stored_is_new : (depth : Depth) (weighting : Weighting) (text key : List ℕ) →
-      IsStoredKey change (old_reading change) (new_reading change) depth weighting text key → key ≡ text_key (new_reading change) depth weighting text
-  stored_is_new depth weighting text key stored =
+  stored_is_new : (depth : Depth) (asked : Option Weighting) (text key : List ℕ) →
+      IsStoredKey change (old_reading change) (new_reading change) depth asked text key →
+      key ≡ text_key (new_reading change) depth (new_weighting change asked) text
+  stored_is_new depth asked text key stored =
       ⊎_elim
       (λ made. made)
       (λ kept. kept_is_new change.maps (read_text (old_reading change) (nfd_text change.old_properties text))
-      (read_text (new_reading change) (nfd_text change.new_properties text)) (moves text kept.0) depth weighting key kept.1)
+      (read_text (new_reading change) (nfd_text change.new_properties text)) (moves text kept.0) depth (old_weighting change asked) key kept.1
+      ∙ ap (λ w. text_key (new_reading change) depth w text) (sym (chosen asked)))
       stored
 
   -- the law for the lookups of the tables themselves
   pub own_texts : UnaffectedTextsStay change (old_reading change) (new_reading change)
   own_texts =
       record {
+        chosen = chosen;
         moves = moves;
-        compared = λ depth weighting left right first second.
-            images_compare change.maps is.maps depth weighting (nfd left) (nfd right)
+        compared = λ depth asked left right first second.
+            ap (λ w. texts_compared (new_reading change) depth w left right) (chosen asked)
+            ∙ images_compare change.maps is.maps depth (old_weighting change asked) (nfd left) (nfd right)
             (elements_of (old_reading change) (nfd_text change.old_properties left)) (elements_of (old_reading change) (nfd_text change.old_properties right))
             (elements_of (new_reading change) (nfd_text change.new_properties left)) (elements_of (new_reading change) (nfd_text change.new_properties right))
             (images_read left first) (images_read right second);
-        ordered = λ depth weighting left right left_key right_key first second.
-            ap₂ lexicographic (stored_is_new depth weighting left left_key first) (stored_is_new depth weighting right right_key second)
-            ∙ depth_order depth weighting (read_text (new_reading change) (nfd_text change.new_properties left))
+        ordered = λ depth asked left right left_key right_key first second.
+            ap₂ lexicographic (stored_is_new depth asked left left_key first) (stored_is_new depth asked right right_key second)
+            ∙ depth_order depth (new_weighting change asked) (read_text (new_reading change) (nfd_text change.new_properties left))
             (read_text (new_reading change) (nfd_text change.new_properties right));
-        levels = λ depth weighting left right left_key right_key first second.
-            ap₂ (stored_level (levels_at depth weighting)) (stored_is_new depth weighting left left_key first)
-            (stored_is_new depth weighting right right_key second)
-            ∙ depth_level depth weighting (read_text (new_reading change) (nfd_text change.new_properties left))
+        levels = λ depth asked left right left_key right_key first second.
+            ap₂ (stored_level (levels_at depth (new_weighting change asked))) (stored_is_new depth asked left left_key first)
+            (stored_is_new depth asked right right_key second)
+            ∙ depth_level depth (new_weighting change asked) (read_text (new_reading change) (nfd_text change.new_properties left))
             (read_text (new_reading change) (nfd_text change.new_properties right));
       }
 

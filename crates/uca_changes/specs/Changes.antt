@@ -1,6 +1,7 @@
--- Changes from an old table and its data file to a new table and its data file, and when one is accepted: eight conditions.
-use Rattle.std.specs.Prelude.{ℕ, List, IsTrue, Contains}
+-- Changes from an old table and its data file to a new table and its data file, and when one is accepted: nine conditions.
+use Rattle.std.specs.Prelude.{◌≡◌, ℕ, List, Option, None, IsTrue, Contains}
 use Rattle.std.specs.List.{AllByRecursion}
+use Rattle.uca_weights.specs.declared.Weighting.{Weighting}
 use Rattle.uca_values.specs.declared.CodePointRange.{CodePointRange}
 use Rattle.uca_values.specs.Content.{Entry, TableContent, Properties, IsTable}
 use Rattle.uca_values.specs.Ranges.{is_within}
@@ -12,8 +13,9 @@ use Rattle.uca_change_lists.specs.Points.{IsSamePair, IsSamePoint, OutsideOf}
 use Rattle.uca_tailorings.specs.Images.{Maps, AreRisingMaps}
 use Rattle.uca_tailorings.specs.KeptRows.{IsKeptRow, IsKnownRow}
 use Rattle.uca_tailorings.specs.Tailorings.{reading_by, IsCovered}
+use Rattle.uca_changes.specs.Weightings.{weighting_by}
 use Rattle.uca_changes.specs.declared.conditions.ChangeCondition.{ChangeCondition}
-use Rattle.uca_changes.specs.declared.conditions.ChangeCondition.TheVariants.{OldIllFormed, NewIllFormed, RangeChanged, Uncovered, RowChanged, RowMissing, RowExtra, PointChanged}
+use Rattle.uca_changes.specs.declared.conditions.ChangeCondition.TheVariants.{OldIllFormed, NewIllFormed, RangeChanged, Uncovered, RowChanged, RowMissing, RowExtra, PointChanged, SettingChanged}
 
 -- An old table and a new one, and what the data file of each says of code points. The texts and the ranges of code points that
 -- are listed as changed, and the images of the old table's weights.
@@ -38,6 +40,13 @@ old_reading change = reading_by change.old change.old_properties
 
 abbrev pub new_reading : Change → Collation
 new_reading change = reading_by change.new change.new_properties
+
+-- the weighting of a run over the old table and of one over the new table, where both are asked for this one or for none
+abbrev pub old_weighting : Change → Option Weighting → Weighting
+old_weighting change asked = weighting_by asked change.old.header.setting
+
+abbrev pub new_weighting : Change → Option Weighting → Weighting
+new_weighting change asked = weighting_by asked change.new.header.setting
 
 -- ---- What is listed
 
@@ -73,6 +82,7 @@ Meets change RowChanged = AllByRecursion (IsKeptRow change.maps (IsChangedText c
 Meets change RowMissing = OfUnlistedRows change (λ row. IsKey (rows_of change.new.rows) row.key)
 Meets change RowExtra = AllByRecursion (IsKnownRow (IsChangedText change) (rows_of change.old.rows)) change.new.rows
 Meets change PointChanged = OutsideRanges change (IsSamePoint change.old_properties change.new_properties)
+Meets change SettingChanged = old_weighting change None ≡ new_weighting change None
 
 -- a change is accepted where all conditions are met
 abbrev pub IsAcceptedChange : Change → Type 0
@@ -88,3 +98,4 @@ number_of RowChanged = 5
 number_of RowMissing = 6
 number_of RowExtra = 7
 number_of PointChanged = 8
+number_of SettingChanged = 9

@@ -1,5 +1,5 @@
 -- Laws of changes, as statements. A text is given as its code points before normalization.
-use Rattle.std.specs.Prelude.{◌≡◌, ◌⊎◌, ℕ, List, [], map}
+use Rattle.std.specs.Prelude.{◌≡◌, ◌⊎◌, ℕ, List, [], Option, map}
 use Rattle.std.specs.Char.{IsScalar}
 use Rattle.std.specs.List.{AllByRecursion}
 use Rattle.unicode_normalization.specs.Forms.{nfd}
@@ -14,35 +14,39 @@ use Rattle.uca_order.specs.Laws.{text_key, texts_compared}
 use Rattle.uca_tailorings.specs.Moves.{KeyMoves, IsKeptKey}
 use Rattle.uca_tailorings.specs.Tailorings.{Tailoring, IsTailoring, IsAccepted}
 use Rattle.uca_tailorings.specs.Laws.{ReadsAs}
-use Rattle.uca_changes.specs.Changes.{Change, IsChange, old_reading, new_reading, IsUnaffected, IsAcceptedChange}
+use Rattle.uca_changes.specs.Changes.{Change, IsChange, old_reading, new_reading, old_weighting, new_weighting, IsUnaffected, IsAcceptedChange}
 
 -- in Normalization Form D the text has Unicode scalar values alone, and the change leaves it as it is
 pub record IsUnaffectedText (change : Change) (text : List ℕ) : Type 0 where
   pub scalars : AllByRecursion IsScalar (nfd text)
   pub unaffected : IsUnaffected change (nfd text)
 
--- A key that a store has for a text. It was made under the new reading. Or the text is unaffected, and the key was kept from
--- the old reading.
-abbrev pub IsStoredKey : Change → Collation → Collation → Depth → Weighting → List ℕ → List ℕ → Type 0
-IsStoredKey change old new depth weighting text key =
-    (key ≡ text_key new depth weighting text)
-    ⊎ (IsUnaffectedText change text × IsKeptKey change.maps depth weighting (read_text old (nfd_text old.properties text)) key)
+-- A key that a store has for a text, where each run was asked for this weighting or for none. It was made under the new reading.
+-- Or the text is unaffected, and the key was kept from the old reading.
+abbrev pub IsStoredKey : Change → Collation → Collation → Depth → Option Weighting → List ℕ → List ℕ → Type 0
+IsStoredKey change old new depth asked text key =
+    (key ≡ text_key new depth (new_weighting change asked) text)
+    ⊎ (IsUnaffectedText change text × IsKeptKey change.maps depth (old_weighting change asked) (read_text old (nfd_text old.properties text)) key)
 
--- What an accepted change means, by lookups `old` of the old table and `new` of the new one.
+-- What an accepted change means, by lookups `old` of the old table and `new` of the new one. A weighting may be asked for, as by an
+-- option of a command. Where none is, runs over the old table go by what it says, and runs over the new one by what that one says.
 pub record UnaffectedTextsStay (change : Change) (old new : Collation) : Type 0 where
+  -- this is the same weighting
+  pub chosen : (asked : Option Weighting) → new_weighting change asked ≡ old_weighting change asked
   -- the elements of an unaffected text are the images of the old ones, and its key is put through the maps
   pub moves : (text : List ℕ) → IsUnaffectedText change text →
       KeyMoves change.maps (read_text old (nfd_text old.properties text)) (read_text new (nfd_text new.properties text))
   -- two such texts compare as before, by order and level
-  pub compared : (depth : Depth) (weighting : Weighting) (left right : List ℕ) → IsUnaffectedText change left → IsUnaffectedText change right →
-      texts_compared new depth weighting left right ≡ texts_compared old depth weighting left right
+  pub compared : (depth : Depth) (asked : Option Weighting) (left right : List ℕ) → IsUnaffectedText change left → IsUnaffectedText change right →
+      texts_compared new depth (new_weighting change asked) left right ≡ texts_compared old depth (old_weighting change asked) left right
   -- the keys of a store compare as their texts do under the new reading
-  pub ordered : (depth : Depth) (weighting : Weighting) (left right left_key right_key : List ℕ) →
-      IsStoredKey change old new depth weighting left left_key → IsStoredKey change old new depth weighting right right_key →
-      lexicographic left_key right_key ≡ (texts_compared new depth weighting left right).order
-  pub levels : (depth : Depth) (weighting : Weighting) (left right left_key right_key : List ℕ) →
-      IsStoredKey change old new depth weighting left left_key → IsStoredKey change old new depth weighting right right_key →
-      stored_level (levels_at depth weighting) left_key right_key ≡ (texts_compared new depth weighting left right).level
+  pub ordered : (depth : Depth) (asked : Option Weighting) (left right left_key right_key : List ℕ) →
+      IsStoredKey change old new depth asked left left_key → IsStoredKey change old new depth asked right right_key →
+      lexicographic left_key right_key ≡ (texts_compared new depth (new_weighting change asked) left right).order
+  pub levels : (depth : Depth) (asked : Option Weighting) (left right left_key right_key : List ℕ) →
+      IsStoredKey change old new depth asked left left_key → IsStoredKey change old new depth asked right right_key →
+      stored_level (levels_at depth (new_weighting change asked)) left_key right_key
+      ≡ (texts_compared new depth (new_weighting change asked) left right).level
 
 abbrev pub ChangesKeepUnaffectedTexts : Type 0
 ChangesKeepUnaffectedTexts = (change : Change) (old new : Collation) → IsChange change → IsAcceptedChange change →

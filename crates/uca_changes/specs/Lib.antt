@@ -1,2 +1,4 @@
+pub mod Weightings
 pub mod Changes
 pub mod Laws
+pub mod Worked

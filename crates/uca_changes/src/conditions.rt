@@ -19,4 +19,6 @@ pub enum ChangeCondition {
     RowExtra,
     /// A code point outside of the changed ranges has another class, or is another kind of Han, in the new data file.
     PointChanged,
+    /// The headers say two weightings. A header without `@variable` says shifted.
+    SettingChanged,
 }

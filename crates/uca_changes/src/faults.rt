@@ -8,7 +8,7 @@ use std::alloc::AllocError;
 use std::error::Error;
 use std::fmt;
 
-/// Where a condition is not met. Its text: `old row 3`, `new row 3` or `code point 00E9`.
+/// Where a condition is not met. Its text: `old row 3`, `new row 3`, `code point 00E9`, or nothing.
 #[derive(Clone, Copy, Debug, PartialEq, Eq)]
 pub enum ChangePlace {
     /// At a row of the old table, counted from 1.
@@ -17,6 +17,8 @@ pub enum ChangePlace {
     NewRow(u32),
     /// At a code point.
     CodePoint(char),
+    /// At no row and no code point: the headers differ.
+    Nowhere,
 }
 
 impl fmt::Display for ChangePlace {
@@ -25,11 +27,12 @@ impl fmt::Display for ChangePlace {
             ChangePlace::OldRow(row) => write!(f, "old row {row}"),
             ChangePlace::NewRow(row) => write!(f, "new row {row}"),
             ChangePlace::CodePoint(point) => write!(f, "code point {:04X}", u32::from(*point)),
+            ChangePlace::Nowhere => Ok(()),
         }
     }
 }
 
-/// An audit rejects a change, or it ran out of memory. Its text: `RowChanged old row 3`.
+/// An audit rejects a change, or it ran out of memory. Its text: `RowChanged old row 3`, or `SettingChanged`.
 #[derive(Clone, Copy, Debug, PartialEq, Eq)]
 pub enum ChangeFault {
     /// The first condition that is not met, and the first position where it is not.
@@ -41,6 +44,7 @@ pub enum ChangeFault {
 impl fmt::Display for ChangeFault {
     fn fmt<W: fmt::Write>(&self, f: &mut fmt::Formatter<W>) -> fmt::Result {
         match self {
+            ChangeFault::NotMet(condition, ChangePlace::Nowhere) => write!(f, "{condition:?}"),
             ChangeFault::NotMet(condition, place) => write!(f, "{condition:?} {place}"),
             ChangeFault::Memory => f.write_str("out of memory"),
         }

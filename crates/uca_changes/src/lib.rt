@@ -8,4 +8,4 @@ mod laws;
 
 pub use conditions::ChangeCondition;
 pub use faults::{ChangeFault, ChangePlace};
-pub use laws::{changes_keep_unaffected_texts, tailorings_are_changes};
+pub use laws::{changes_keep_unaffected_texts, tailorings_are_changes, worked_changes};

@@ -2,7 +2,7 @@
 use Rattle.std.proofs.Common.{◌≡◌, ◌⊎◌, ⊎_elim, inl, ℕ, ◌+◌, ◌<◌, ◌==◌, if◌then◌else◌, refl, ap, sym, subst, ◌∙◌, arith}
 use Rattle.std.proofs.lemmas.Bool.{cases_lt}
 use Rattle.uca_changes.specs.declared.conditions.ChangeCondition.{ChangeCondition}
-use Rattle.uca_changes.specs.declared.conditions.ChangeCondition.TheVariants.{OldIllFormed, NewIllFormed, RangeChanged, Uncovered, RowChanged, RowMissing, RowExtra, PointChanged}
+use Rattle.uca_changes.specs.declared.conditions.ChangeCondition.TheVariants.{OldIllFormed, NewIllFormed, RangeChanged, Uncovered, RowChanged, RowMissing, RowExtra, PointChanged, SettingChanged}
 use Rattle.uca_changes.specs.Changes.{Change, Meets, IsAcceptedChange, number_of}
 use Rattle.uca_changes.specs.declared.faults.ChangeFault.{ChangeFault}
 use Rattle.uca_changes.specs.declared.faults.ChangeFault.TheVariants.{NotMet, Memory}
@@ -20,7 +20,8 @@ condition_of n =
     if n == 5 then RowChanged else
     if n == 6 then RowMissing else
     if n == 7 then RowExtra else
-    PointChanged
+    if n == 8 then PointChanged else
+    SettingChanged
 
 -- it is the one that has the number
 condition_of_number : (condition : ChangeCondition) → condition_of (number_of condition) ≡ condition
@@ -32,21 +33,23 @@ condition_of_number RowChanged = refl
 condition_of_number RowMissing = refl
 condition_of_number RowExtra = refl
 condition_of_number PointChanged = refl
+condition_of_number SettingChanged = refl
 
 -- no two conditions have one number
 one_of_number : (one other : ChangeCondition) → number_of one ≡ number_of other → one ≡ other
 one_of_number one other same = sym (condition_of_number one) ∙ (ap condition_of same ∙ condition_of_number other)
 
--- numbers are below 9
-number_below_9 : (condition : ChangeCondition) → number_of condition < 9
-number_below_9 OldIllFormed = omega arith
-number_below_9 NewIllFormed = omega arith
-number_below_9 RangeChanged = omega arith
-number_below_9 Uncovered = omega arith
-number_below_9 RowChanged = omega arith
-number_below_9 RowMissing = omega arith
-number_below_9 RowExtra = omega arith
-number_below_9 PointChanged = omega arith
+-- numbers are below 10
+number_below_10 : (condition : ChangeCondition) → number_of condition < 10
+number_below_10 OldIllFormed = omega arith
+number_below_10 NewIllFormed = omega arith
+number_below_10 RangeChanged = omega arith
+number_below_10 Uncovered = omega arith
+number_below_10 RowChanged = omega arith
+number_below_10 RowMissing = omega arith
+number_below_10 RowExtra = omega arith
+number_below_10 PointChanged = omega arith
+number_below_10 SettingChanged = omega arith
 
 -- one more condition is met
 pub meets_more : (change : Change) (condition : ChangeCondition) → MeetsBelow change (number_of condition) → Meets change condition →
@@ -56,8 +59,8 @@ meets_more change condition so_far met other below =
     (cases_lt (number_of other) (number_of condition))
 
 -- all conditions are met
-pub meets_all : (change : Change) → MeetsBelow change 9 → IsAcceptedChange change
-meets_all change met condition = met condition (number_below_9 condition)
+pub meets_all : (change : Change) → MeetsBelow change 10 → IsAcceptedChange change
+meets_all change met condition = met condition (number_below_10 condition)
 
 -- a condition fails at a place, after those that are met
 pub refused_at : (change : Change) (condition : ChangeCondition) (place : ChangePlace) (fault : ChangeFault) → MeetsBelow change (number_of condition)

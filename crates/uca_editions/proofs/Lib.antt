@@ -4,3 +4,6 @@ pub mod FoundRows
 pub mod SameChanges
 pub mod LeastRuns
 pub mod ListedTexts
+pub mod Refusals
+pub mod ListedKeys
+pub mod EveryKey

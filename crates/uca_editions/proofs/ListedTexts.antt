@@ -5,7 +5,7 @@ use Rattle.uca_weights.proofs.Lists.{taken_more}
 use Rattle.uca_change_lists.proofs.TextSets.{contained_first}
 
 -- what a list with one more at its end contains
-contained_last : {X : Type 0} (xs : List X) (x y : X) → Contains (xs ++ x ∷ []) y ↔ (Contains xs y ⊎ (x ≡ y))
+pub contained_last : {X : Type 0} (xs : List X) (x y : X) → Contains (xs ++ x ∷ []) y ↔ (Contains xs y ⊎ (x ≡ y))
 contained_last [] x y =
     let first = contained_first x [] y in
     (λ h. ⊎_elim (λ own. inr own) (λ none. inl none) (first.0 h), λ h. first.1 (⊎_elim (λ none. inr none) (λ own. inl own) h))

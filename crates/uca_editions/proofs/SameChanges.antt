@@ -10,7 +10,7 @@ use Rattle.uca_images.specs.UnlistedRows.{IsCoveredIfUnlisted, IsPresentIfUnlist
 use Rattle.uca_change_lists.specs.Points.{IsSamePair, IsSamePoint, IsFirstOutsideWithout}
 use Rattle.uca_changes.specs.Changes.{Change, IsChangedText}
 use Rattle.uca_changes.specs.declared.conditions.ChangeCondition.{ChangeCondition}
-use Rattle.uca_changes.specs.declared.conditions.ChangeCondition.TheVariants.{OldIllFormed, NewIllFormed, RangeChanged, Uncovered, RowChanged, RowMissing, RowExtra, PointChanged}
+use Rattle.uca_changes.specs.declared.conditions.ChangeCondition.TheVariants.{OldIllFormed, NewIllFormed, RangeChanged, Uncovered, RowChanged, RowMissing, RowExtra, PointChanged, SettingChanged}
 use Rattle.uca_changes.specs.declared.faults.ChangeFault.{ChangeFault}
 use Rattle.uca_changes.specs.declared.faults.ChangePlace.{ChangePlace}
 use Rattle.uca_changes.specs.declared.faults.ChangePlace.TheVariants.{CodePoint}
@@ -79,6 +79,7 @@ module _ (change : Change) (texts : List (List ℕ)) (ranges : List CodePointRan
   fails_by_same PointChanged place fails =
       subst (λ (all : List CodePointRange). At CodePoint place (IsFirstOutsideWithout all (IsSamePoint change.old_properties change.new_properties))) same_ranges
       fails
+  fails_by_same SettingChanged place fails = fails
 
   -- an error of the change is one with the other lists
   pub refused_by_same : (fault : ChangeFault) → IsFirstRefusal change fault → IsFirstRefusal (with_lists change texts ranges) fault

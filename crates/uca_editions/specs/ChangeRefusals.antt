@@ -7,18 +7,18 @@ use Rattle.uca_images.specs.UnlistedRows.{IsCoveredIfUnlisted, IsPresentIfUnlist
 use Rattle.uca_change_lists.specs.Points.{IsSamePair, IsSamePoint, IsFirstOutsideWithout}
 use Rattle.uca_changes.specs.Changes.{Change, IsChangedText, Meets, IsAcceptedChange, number_of}
 use Rattle.uca_changes.specs.declared.conditions.ChangeCondition.{ChangeCondition}
-use Rattle.uca_changes.specs.declared.conditions.ChangeCondition.TheVariants.{OldIllFormed, NewIllFormed, RangeChanged, Uncovered, RowChanged, RowMissing, RowExtra, PointChanged}
+use Rattle.uca_changes.specs.declared.conditions.ChangeCondition.TheVariants.{OldIllFormed, NewIllFormed, RangeChanged, Uncovered, RowChanged, RowMissing, RowExtra, PointChanged, SettingChanged}
 use Rattle.uca_changes.specs.declared.faults.ChangeFault.{ChangeFault}
 use Rattle.uca_changes.specs.declared.faults.ChangeFault.TheVariants.{NotMet}
 use Rattle.uca_changes.specs.declared.faults.ChangePlace.{ChangePlace}
-use Rattle.uca_changes.specs.declared.faults.ChangePlace.TheVariants.{OldRow, NewRow, CodePoint}
+use Rattle.uca_changes.specs.declared.faults.ChangePlace.TheVariants.{OldRow, NewRow, CodePoint, Nowhere}
 
 -- the position is such a one, with a number that has the property
 abbrev pub At : (ℕ → ChangePlace) → ChangePlace → (ℕ → Type 0) → Type 0
 At Numbered place P = (number : ℕ) × (place ≡ Numbered number) × P number
 
 -- The first position where a condition is not met: a row, counted from 1, or the least code point. For an ill-formed table it
--- is the row that the check names.
+-- is the row that the check names. Where the headers say two weightings, there is no position.
 abbrev pub FailsFirstAt : Change → ChangeCondition → ChangePlace → Type 0
 FailsFirstAt change OldIllFormed place = At OldRow place (λ row. (wf : ℕ) × IsFirstFailure change.old_properties.class change.old.rows wf row)
 FailsFirstAt change NewIllFormed place = At NewRow place (λ row. (wf : ℕ) × IsFirstFailure change.new_properties.class change.new.rows wf row)
@@ -29,6 +29,7 @@ FailsFirstAt change RowChanged place =
 FailsFirstAt change RowMissing place = At OldRow place (IsFirstWithout (IsPresentIfUnlisted (IsChangedText change) (rows_of change.new.rows)) change.old.rows)
 FailsFirstAt change RowExtra place = At NewRow place (IsFirstWithout (IsKnownRow (IsChangedText change) (rows_of change.old.rows)) change.new.rows)
 FailsFirstAt change PointChanged place = At CodePoint place (IsFirstOutsideWithout change.ranges (IsSamePoint change.old_properties change.new_properties))
+FailsFirstAt change SettingChanged place = (place ≡ Nowhere) × ¬ (Meets change SettingChanged)
 
 -- the error names the first condition that is not met, and its first position: all conditions of lower numbers are met
 pub record IsFirstRefusal (change : Change) (fault : ChangeFault) : Type 0 where

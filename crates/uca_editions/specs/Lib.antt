@@ -3,3 +3,4 @@ pub mod ChangeRefusals
 pub mod Chaining
 pub mod Found
 pub mod LeastMaps
+pub mod Everything

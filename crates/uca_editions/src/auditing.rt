@@ -14,7 +14,7 @@ use std::alloc::Allocator;
 use uca_changes::changes_keep_unaffected_texts;
 use uca_values::{Header, Table};
 
-/// Audits a change. It accepts exactly if the eight conditions are met, and then promises what follows from them.
+/// Audits a change. It accepts exactly if the nine conditions are met, and then promises what follows from them.
 ///
 /// It takes time in proportion to the two tables, and to the ranges of both data files. A row's key takes n log n steps for n
 /// listed texts.
@@ -23,7 +23,8 @@ use uca_values::{Header, Table};
 ///
 /// `NotMet` has the first condition that is not met, in the order of [`ChangeCondition`](crate::ChangeCondition), and the
 /// first position where it is not. For a table that is not well-formed that is the row that `uca_check` names, for other
-/// conditions the first row of its table or the least code point. `Memory` means that an allocation failed.
+/// conditions the first row of its table or the least code point. `SettingChanged` has no position: its place is `Nowhere`.
+/// `Memory` means that an allocation failed.
 pub fn audit_change<A: Allocator + Copy, T: Allocator>(
     alloc: A,
     inputs: &ChangeInputs<T>,
@@ -58,8 +59,8 @@ fn meaning<T: Allocator>(inputs: &ChangeInputs<T>)
     changes_keep_unaffected_texts();
 }
 
-// What a table keeps.
-fn know_table<T: Allocator>(table: &Table<T>)
+/// What a table keeps, for a proof.
+pub(crate) fn know_table<T: Allocator>(table: &Table<T>)
     ensures { IsTable table.now }
 {
     know_header(&table.header);

@@ -1,16 +1,21 @@
 //! The ranges of code points that change. A border is a code point at which a range begins or has ended. Between two borders
 //! nothing changes, so a border says how it is for all code points up to the next one.
 
+ghost use Rattle.std.specs.Prelude.{◌≡◌, OnOk};
+ghost use Rattle.uca_change_files.specs.Changes.{OfRange, put_last};
+ghost use Rattle.uca_change_files.specs.Steps.{MayAdd};
+
 use crate::Editions;
+use crate::changed_texts::unless_memory;
 use std::alloc::{AllocError, Allocator};
-use uca_change_files::{ChangeList, CodePointRange, FaultKind};
+use uca_change_files::{ChangeList, CodePointRange};
 use uca_change_lists::{have_same_pair, push_data_borders, push_implicit_borders, say_same};
 use uca_values::{Data, Table};
 
 /// The last code point below the surrogates.
 const BELOW_SURROGATES: char = '\u{D7FF}';
 /// The last code point.
-const LAST_POINT: char = '\u{10FFFF}';
+pub(crate) const LAST_POINT: char = '\u{10FFFF}';
 
 /// Lists the ranges of code points that change. An error means that it ran out of memory.
 pub(crate) fn list_ranges<A: Allocator + Copy>(
@@ -75,16 +80,20 @@ fn pass_border<A: Allocator>(
     }
 }
 
-// Lists a range. One that a list cannot have is left out: the audit names its first code point.
-fn push_range<A: Allocator>(
+/// Lists a range. One that a list cannot have is left out: the audit names its first code point. An error means that it ran
+/// out of memory.
+pub(crate) fn push_range<A: Allocator>(
     list: &mut ChangeList<A>,
     first: char,
     last: char,
-) -> Result<(), AllocError> {
-    if list.push_range(CodePointRange { first, last }) == Err(FaultKind::Memory) {
-        return Err(AllocError);
+) -> Result<(), AllocError>
+    ensures { OnOk result (MayAdd list.old (OfRange (record { first = first; last = last })) →
+        list.new ≡ put_last (OfRange (record { first = first; last = last })) list.old) }
+{
+    match list.push_range(CodePointRange { first, last }) {
+        Ok(()) => Ok(()),
+        Err(kind) => unless_memory(kind),
     }
-    Ok(())
 }
 
 // The code point before another one.

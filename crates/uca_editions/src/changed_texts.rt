@@ -1,5 +1,8 @@
 //! The texts that change: keys of rows that do not become their images, and keys of one table alone.
 
+ghost use Rattle.std.specs.Prelude.{◌≡◌, map, OnOk};
+ghost use Rattle.uca_editions.specs.Everything.{ListsAll, ListsIfItMay, MayListAll};
+
 use crate::Editions;
 use std::alloc::{AllocError, Allocator};
 use uca_certificates::Certificate;
@@ -87,12 +90,15 @@ fn push_new_keys<'a, A: Allocator + Copy>(
     pushed
 }
 
-// Sorts the texts, and lists them.
-fn push_texts<A: Allocator + Copy>(
+/// Sorts the texts, and lists them. An error means that it ran out of memory.
+pub(crate) fn push_texts<A: Allocator + Copy>(
     alloc: A,
     list: &mut ChangeList<A>,
     texts: &mut [&[char]],
-) -> Result<(), AllocError> {
+) -> Result<(), AllocError>
+    // All are listed, if a list may have them.
+    ensures { OnOk result (MayListAll list.old (map (λ t. t.now) texts.old) → ListsAll (map (λ t. t.now) texts.old) list.new) }
+{
     texts.sort_unstable();
     for text in texts.iter() {
         push_text(alloc, list, text)?;
@@ -100,15 +106,27 @@ fn push_texts<A: Allocator + Copy>(
     Ok(())
 }
 
-// Lists a text. One that a list cannot have is left out: the audit names its row.
+// Lists a text. One that is listed already is left out, and so is one that a list cannot have: the audit names its row.
 fn push_text<A: Allocator + Copy>(
     alloc: A,
     list: &mut ChangeList<A>,
     text: &[char],
-) -> Result<(), AllocError> {
+) -> Result<(), AllocError>
+    ensures { OnOk result (ListsIfItMay list.old text.now list.new) }
+{
     let points = Vec::from_slice(alloc, text)?;
     match list.push_text(ChangedText { points }) {
-        Err(FaultKind::Memory) => Err(AllocError),
+        Ok(()) => Ok(()),
+        Err(kind) => unless_memory(kind),
+    }
+}
+
+/// Only that memory ran out is an error here.
+pub(crate) fn unless_memory(kind: FaultKind) -> Result<(), AllocError>
+    ensures { OnOk result (¬ (kind ≡ FaultKind.Memory)) }
+{
+    match kind {
+        FaultKind::Memory => Err(AllocError),
         _ => Ok(()),
     }
 }

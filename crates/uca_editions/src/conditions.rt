@@ -1,10 +1,11 @@
 //! The conditions in turn. Each function tests one condition, and goes on to the next if it is met. Otherwise the error has the
 //! first position where it is not.
 
-ghost use Rattle.std.specs.Prelude.{◌≡◌, ◌<◌, ◌+◌, IfOk, length};
+ghost use Rattle.std.specs.Prelude.{◌≡◌, ◌<◌, ◌+◌, IfOk, None, length};
 ghost use Rattle.uca_check.specs.Searches.{FindsFirstWithout};
 ghost use Rattle.uca_elements.specs.Rows.{rows_of};
 ghost use Rattle.uca_tailorings.specs.KeptRows.{IsKnownRow};
+ghost use Rattle.uca_changes.specs.Weightings.{weighting_by};
 ghost use Rattle.uca_changes.specs.Changes.{IsChangedText};
 ghost use Rattle.uca_editions.specs.ChangeInputs.{change_in};
 ghost use Rattle.uca_editions.specs.Chaining.{FindsRowsOf, MeetsBelow, Passes};
@@ -17,13 +18,14 @@ use uca_elements::Lookup;
 use uca_images::{Images, first_changed, first_missing, first_uncovered, first_unknown};
 use uca_match::Trie;
 use uca_values::Table;
+use uca_weights::Weighting;
 
 /// All conditions.
 pub(crate) fn audit_conditions<A: Allocator + Copy, T: Allocator>(
     alloc: A,
     inputs: &ChangeInputs<T>,
 ) -> Result<(), ChangeFault>
-    ensures { Passes (change_in inputs.now) 9 result }
+    ensures { Passes (change_in inputs.now) 10 result }
 {
     match check(inputs.old, inputs.old_data) {
         Ok(()) => audit_new_table(alloc, inputs),
@@ -40,7 +42,7 @@ fn audit_new_table<A: Allocator + Copy, T: Allocator>(
     inputs: &ChangeInputs<T>,
 ) -> Result<(), ChangeFault>
     requires { MeetsBelow (change_in inputs.now) 2 }
-    ensures { Passes (change_in inputs.now) 9 result }
+    ensures { Passes (change_in inputs.now) 10 result }
 {
     match check(inputs.new, inputs.new_data) {
         Ok(()) => audit_ranges(alloc, inputs),
@@ -57,7 +59,7 @@ fn audit_ranges<A: Allocator + Copy, T: Allocator>(
     inputs: &ChangeInputs<T>,
 ) -> Result<(), ChangeFault>
     requires { MeetsBelow (change_in inputs.now) 3 }
-    ensures { Passes (change_in inputs.now) 9 result }
+    ensures { Passes (change_in inputs.now) 10 result }
 {
     let old = inputs.old;
     let new = inputs.new;
@@ -77,7 +79,7 @@ fn audit_rows<A: Allocator + Copy, T: Allocator>(
     inputs: &ChangeInputs<T>,
 ) -> Result<(), ChangeFault>
     requires { MeetsBelow (change_in inputs.now) 4 }
-    ensures { Passes (change_in inputs.now) 9 result }
+    ensures { Passes (change_in inputs.now) 10 result }
 {
     match audit_old_rows(alloc, inputs) {
         Ok(()) => audit_new_rows(alloc, inputs),
@@ -180,7 +182,7 @@ fn audit_new_rows<A: Allocator + Copy, T: Allocator>(
     inputs: &ChangeInputs<T>,
 ) -> Result<(), ChangeFault>
     requires { MeetsBelow (change_in inputs.now) 7 }
-    ensures { Passes (change_in inputs.now) 9 result }
+    ensures { Passes (change_in inputs.now) 10 result }
 {
     match first_not_known(alloc, inputs) {
         Ok(None) => audit_points(alloc, inputs),
@@ -207,22 +209,41 @@ fn first_not_known<A: Allocator + Copy, T: Allocator>(
     Ok(found)
 }
 
-// Condition 8.
+// Condition 8, and then 9.
 fn audit_points<A: Allocator + Copy, T: Allocator>(
     alloc: A,
     inputs: &ChangeInputs<T>,
 ) -> Result<(), ChangeFault>
     requires { MeetsBelow (change_in inputs.now) 8 }
-    ensures { Passes (change_in inputs.now) 9 result }
+    ensures { Passes (change_in inputs.now) 10 result }
 {
     match first_other_point(alloc, inputs.old_data, inputs.new_data, inputs.changes) {
-        Ok(None) => Ok(()),
+        Ok(None) => audit_settings(inputs),
         Ok(Some(point)) => Err(ChangeFault::NotMet(
             ChangeCondition::PointChanged,
             ChangePlace::CodePoint(point),
         )),
         Err(AllocError) => Err(ChangeFault::Memory),
     }
+}
+
+// Condition 9.
+fn audit_settings<T: Allocator>(inputs: &ChangeInputs<T>) -> Result<(), ChangeFault>
+    requires { MeetsBelow (change_in inputs.now) 9 }
+    ensures { Passes (change_in inputs.now) 10 result }
+{
+    if said_weighting(inputs.old) == said_weighting(inputs.new) {
+        Ok(())
+    } else {
+        Err(ChangeFault::NotMet(ChangeCondition::SettingChanged, ChangePlace::Nowhere))
+    }
+}
+
+// The weighting that a table says, or else shifted (UTS #10, section 4).
+fn said_weighting<T: Allocator>(table: &Table<T>) -> Weighting
+    ensures { result ≡ weighting_by None table.now.header.setting }
+{
+    table.header.setting.unwrap_or(Weighting::Shifted)
 }
 
 // The error of a condition at the row of the old table with this index.

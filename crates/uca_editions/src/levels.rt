@@ -52,8 +52,8 @@ fn runs_by<A: Allocator + Copy>(alloc: A, moves: &mut [Move]) -> Result<Vec<Run,
     runs_of(alloc, &chain)
 }
 
-// The map that has the weight that stays, and no other.
-fn least_map<A: Allocator>(alloc: A, level: Level) -> Result<WeightMap<A>, AllocError>
+/// The map that has the weight that stays, and no other. An error means that it ran out of memory.
+pub(crate) fn least_map<A: Allocator>(alloc: A, level: Level) -> Result<WeightMap<A>, AllocError>
     ensures { IfOk result (λ map. map.level ≡ level) }
 {
     match WeightMap::from_runs(level, least_runs(alloc, level)?) {

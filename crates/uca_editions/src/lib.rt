@@ -11,6 +11,7 @@ mod changed_ranges;
 mod changed_texts;
 mod conditions;
 mod editions;
+mod everything;
 mod found;
 mod inputs;
 mod laws;

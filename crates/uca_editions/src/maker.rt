@@ -1,12 +1,14 @@
 //! `find_changes`: what changes, and its audit.
 
-ghost use Rattle.std.specs.Prelude.{IfOk, IfErr, OnOk};
+ghost use Rattle.std.specs.Prelude.{◌≡◌, ◌⊎◌, IfOk, IfErr, OnOk};
 ghost use Rattle.uca_changes.specs.Changes.{IsAcceptedChange};
 ghost use Rattle.uca_editions.specs.ChangeInputs.{MeansUnaffectedTextsStay};
-ghost use Rattle.uca_editions.specs.Found.{change_by, RefusesChanges};
+ghost use Rattle.uca_editions.specs.ChangeRefusals.{IsFirstRefusal};
+ghost use Rattle.uca_editions.specs.Found.{change_by, MayChange, RefusesChanges};
 
 use crate::changed_ranges::list_ranges;
 use crate::changed_texts::list_texts;
+use crate::everything::everything;
 use crate::levels::level_map;
 use crate::{ChangeFault, ChangeInputs, Editions, FoundChanges, audit_change, changes_of};
 use std::alloc::{AllocError, Allocator};
@@ -21,16 +23,19 @@ use uca_weights::Level;
 /// of weights. An audit accepts them: [`audit_change`](crate::audit_change) is called on what was found.
 ///
 /// The maps send weights as most rows do that have as many elements in both tables. Each key is listed whose new row is not
-/// the image of its old row, and each key of one table alone. These need not be the fewest texts.
+/// the image of its old row, and each key of one table alone. These need not be the fewest texts. If an audit rejected them,
+/// all keys and all code points would be listed.
 ///
 /// It takes n log n steps for tables and data files of n lines. For each code point at which a range begins or has ended it looks at
 /// the ranges of both headers, at most 512.
 ///
 /// # Errors
 ///
-/// That of the audit. `NotMet` with `OldIllFormed` or `NewIllFormed` means that a table is not well-formed, and has its first
-/// row that is not. `NotMet` with another condition means that what was found is not accepted. `Memory` means that an
-/// allocation failed.
+/// `NotMet` if no change from the old edition to the new one is accepted, whatever is listed. It has the condition and the
+/// position that the audit names: `OldIllFormed` or `NewIllFormed` with the first row that is not well-formed, or
+/// `SettingChanged` if the tables say two weightings. `Memory` means that an allocation failed.
+///
+/// So for two well-formed tables that say the same weighting there is no error but `Memory`.
 pub fn find_changes<A: Allocator + Copy>(
     alloc: A,
     editions: &Editions<A>,
@@ -42,8 +47,45 @@ pub fn find_changes<A: Allocator + Copy>(
     ensures meaning { IfOk result (λ found. MeansUnaffectedTextsStay (change_by editions.now found)) }
 
     ensures refused { IfErr result (RefusesChanges editions.now) }
+
+    ensures only { MayChange editions.now → IfErr result (λ fault. fault ≡ ChangeFault.Memory) }
 {
     let found = found_changes(alloc, editions)?;
+    match audit_found(alloc, editions, &found) {
+        Ok(()) => Ok(found),
+        Err(fault) => {
+            drop(found);
+            find_after(alloc, editions, fault)
+        }
+    }
+}
+
+// What is found after an audit rejected a change.
+fn find_after<A: Allocator + Copy>(
+    alloc: A,
+    editions: &Editions<A>,
+    fault: ChangeFault,
+) -> Result<FoundChanges<A>, ChangeFault>
+    ensures accepted { IfOk result (λ found. IsAcceptedChange (change_by editions.now found)) }
+    ensures meaning { IfOk result (λ found. MeansUnaffectedTextsStay (change_by editions.now found)) }
+    ensures refused { IfErr result (RefusesChanges editions.now) }
+{
+    match fault {
+        ChangeFault::NotMet(_, _) => find_everything(alloc, editions),
+        ChangeFault::Memory => Err(ChangeFault::Memory),
+    }
+}
+
+// The change of everything. An audit rejects it only if a table is not well-formed, or if the tables say two weightings.
+fn find_everything<A: Allocator + Copy>(
+    alloc: A,
+    editions: &Editions<A>,
+) -> Result<FoundChanges<A>, ChangeFault>
+    ensures accepted { IfOk result (λ found. IsAcceptedChange (change_by editions.now found)) }
+    ensures meaning { IfOk result (λ found. MeansUnaffectedTextsStay (change_by editions.now found)) }
+    ensures refused { IfErr result (RefusesChanges editions.now) }
+{
+    let found = everything(alloc, editions)?;
     match audit_found(alloc, editions, &found) {
         Ok(()) => Ok(found),
         Err(fault) => Err(fault),
@@ -114,7 +156,7 @@ fn audit_found<A: Allocator + Copy>(
 ) -> Result<(), ChangeFault>
     ensures accepted { OnOk result (IsAcceptedChange (change_by editions.now found.now)) }
     ensures meaning { OnOk result (MeansUnaffectedTextsStay (change_by editions.now found.now)) }
-    ensures refused { IfErr result (RefusesChanges editions.now) }
+    ensures refused { IfErr result (λ fault. IsFirstRefusal (change_by editions.now found.now) fault ⊎ (fault ≡ ChangeFault.Memory)) }
 {
     let changes = changes_of(alloc, &found.list)?;
     let inputs = ChangeInputs {

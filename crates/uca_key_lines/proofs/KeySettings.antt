@@ -6,7 +6,8 @@ use Rattle.uca_values.specs.Content.{HeaderContent}
 use Rattle.uca_elements.specs.Rows.{Rows, rows_of}
 use Rattle.uca_elements.specs.Collations.{Collation}
 use Rattle.uca_run_parts.specs.Files.{TableAndData}
-use Rattle.uca_key_lines.specs.Keys.{KeySettings, IsCollation, collation, collation_in, key_settings, weighting_by}
+use Rattle.uca_changes.specs.Weightings.{weighting_by}
+use Rattle.uca_key_lines.specs.Keys.{KeySettings, IsCollation, collation, collation_in, key_settings}
 
 abbrev pub key_settings_by : Collation → Weighting → Depth → KeySettings
 key_settings_by made weighting depth = record { collation = made; weighting = weighting; depth = depth }

@@ -7,7 +7,8 @@ ghost use Rattle.uca_elements.specs.Collations.{collation_of};
 ghost use Rattle.uca_order.specs.Lengths.{HasShortRows};
 ghost use Rattle.uca_run_parts.specs.Files.{HaveFailed, Over, table_and_data, table_and_data_roles};
 ghost use Rattle.uca_run_parts.specs.EachLine.{ended_before_input};
-ghost use Rattle.uca_key_lines.specs.Keys.{IsCollation, collation_in, weighting_by};
+ghost use Rattle.uca_changes.specs.Weightings.{weighting_by};
+ghost use Rattle.uca_key_lines.specs.Keys.{IsCollation, collation_in};
 
 use crate::packed_files::read_packed_files;
 use std::alloc::{Allocator, Global};

@@ -10,7 +10,7 @@ use uca_changes::{ChangeCondition, ChangeFault, ChangePlace};
 use uca_lines::fields::six_digits;
 use uca_weights::Message;
 
-/// The text of an error of a change: `RowChanged old row 3`, `PointChanged code point 00E9`.
+/// The text of an error of a change: `RowChanged old row 3`, `PointChanged code point 00E9`, `SettingChanged`.
 pub fn change_message(fault: ChangeFault) -> Message
     ensures text { result ≡ change_fault_text fault }
     ensures short { length result ≤ 80 }
@@ -51,6 +51,7 @@ fn condition_name(condition: ChangeCondition) -> &'static str
         ChangeCondition::RowMissing => "RowMissing",
         ChangeCondition::RowExtra => "RowExtra",
         ChangeCondition::PointChanged => "PointChanged",
+        ChangeCondition::SettingChanged => "SettingChanged",
     }
 }
 
@@ -67,10 +68,11 @@ fn condition_number(condition: ChangeCondition) -> u64
         ChangeCondition::RowMissing => 6,
         ChangeCondition::RowExtra => 7,
         ChangeCondition::PointChanged => 8,
+        ChangeCondition::SettingChanged => 9,
     }
 }
 
-// The text of a position: ` old row 3`.
+// The text of a position: ` old row 3`. It is empty where there is none.
 fn place_message(place: ChangePlace) -> Message
     ensures text { result ≡ change_place_text place }
     ensures short { length result ≤ 40 }
@@ -79,6 +81,7 @@ fn place_message(place: ChangePlace) -> Message
         ChangePlace::OldRow(row) => Message::of(" old row ").number(row.into()),
         ChangePlace::NewRow(row) => Message::of(" new row ").number(row.into()),
         ChangePlace::CodePoint(point) => point_message(point),
+        ChangePlace::Nowhere => Message::of(""),
     }
 }
 

@@ -12,7 +12,8 @@ use Rattle.uca_tailorings.specs.Laws.{AcceptedTailoringsAreFaithful}
 use Rattle.uca_tailorings.specs.Meaning.{IsFaithful}
 use Rattle.uca_tailorings.specs.Tailorings.{Tailoring, base_reading}
 use Rattle.uca_tailorings.specs.declared.conditions.Condition.TheVariants.{Header}
-use Rattle.uca_key_lines.specs.Keys.{weighting_by, line_key}
+use Rattle.uca_changes.specs.Weightings.{weighting_by}
+use Rattle.uca_key_lines.specs.Keys.{line_key}
 use Rattle.uca_run_parts.specs.Print.{print_line_at}
 use Rattle.uca_runs.specs.Laws.{base_keying, tailored_keying, lines_compared, LineKeysCompareAsLines, IsUntouchedLine, UntouchedLinesKeepTheirOrder}
 use Rattle.uca_runs.proofs.NormalLines.{normal_line}
