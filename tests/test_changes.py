@@ -121,6 +121,22 @@ class Changes(ProgramTest):
             self.expect("changes t d n e c", status=1, err=f"changes: {line}\n")
             self.assertEqual(self.read("c"), b"old\n")
 
+    def test_tables_that_say_two_weightings(self):
+        """Nothing is found, and the certificate that was there stays. A table without `@variable` says shifted."""
+        shifted, other = (TABLE.replace("@version 1\n", f"@version 1\n@variable {said}\n") for said in ("shifted", "non-ignorable"))
+        for old, new in (TABLE, other), (other, TABLE), (shifted, other), (other, shifted):
+            for data in DATA, DATA.replace("230", "231"):
+                self.write(t=old, d=DATA, n=new, e=data, x=listed("range 0300..0314"), c="old\n")
+                self.expect("changes t d n e c", status=1, err="changes: SettingChanged\n")
+                self.assertEqual(self.read("c"), b"old\n")
+                self.write(c=UNMOVED)
+                self.expect("audit-changes t d n e x c", status=1, out="refused 9 SettingChanged\n")
+        for old, new in (TABLE, shifted), (shifted, TABLE), (shifted, shifted), (other, other):
+            self.find(old, new, DATA, listed(), UNMOVED)
+        # a table that is not well-formed comes first
+        self.write(t=other, d=DATA, n=ILL_FORMED, e=DATA, c="old\n")
+        self.expect("changes t d n e c", status=1, err="changes: NewIllFormed new row 6\n")
+
     def test_rejected_files(self):
         """Each file is read in the order of the arguments, up to the first that is rejected."""
         good = {"t": TABLE, "d": DATA, "n": TABLE, "e": DATA, "x": listed(), "c": UNMOVED}

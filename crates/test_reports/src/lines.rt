@@ -253,7 +253,7 @@ fn check_change(
 }
 
 /// A condition on changes, where it is not met, what is said, and the verdict of an audit. The last line is the longest.
-const CHANGES: [(ChangeCondition, ChangePlace, &str, &str); 11] = [
+const CHANGES: [(ChangeCondition, ChangePlace, &str, &str); 12] = [
     (
         ChangeCondition::OldIllFormed,
         ChangePlace::OldRow(3),
@@ -319,6 +319,12 @@ const CHANGES: [(ChangeCondition, ChangePlace, &str, &str); 11] = [
         ChangePlace::CodePoint('\u{10FFFD}'),
         "changes: PointChanged code point 10FFFD\n",
         "refused 8 PointChanged code point 10FFFD",
+    ),
+    (
+        ChangeCondition::SettingChanged,
+        ChangePlace::Nowhere,
+        "changes: SettingChanged\n",
+        "refused 9 SettingChanged",
     ),
 ];
 

@@ -6,7 +6,7 @@ use Rattle.uca_change_files.specs.Changes.{ChangeContent}
 use Rattle.uca_changes.specs.Changes.{IsAcceptedChange}
 use Rattle.uca_changes.specs.declared.faults.ChangeFault.{ChangeFault}
 use Rattle.uca_editions.specs.ChangeInputs.{MeansUnaffectedTextsStay}
-use Rattle.uca_editions.specs.ChangeRefusals.{IsFirstRefusal}
+use Rattle.uca_editions.specs.Found.{HaveNoChange}
 use Rattle.uca_editions.specs.declared.found.FoundChanges.{FoundChanges}
 use Rattle.uca_run_parts.specs.declared.faults.RunFault.{RunFault}
 use Rattle.uca_run_parts.specs.declared.faults.RunFault.TheVariants.{Changes, File, Memory}
@@ -18,12 +18,12 @@ pub record IsFound (editions : EditionsContent) (list : ChangeContent) (certific
   pub accepted : IsAcceptedChange (change_between editions list certificate)
   pub meaning : MeansUnaffectedTextsStay (change_between editions list certificate)
 
--- an audit rejects what was found, with this error
+-- no change between the editions is accepted, whatever is listed, and this is the error of an audit
 abbrev pub IsNotFound : EditionsContent → ChangeFault → Type 0
 IsNotFound editions fault =
-    (list : ChangeContent) × (certificate : CertificateContent) × IsFirstRefusal (change_between editions list certificate) fault
+    HaveNoChange (λ changes certificate. change_between editions (record { texts = changes.texts; ranges = changes.ranges }) certificate) fault
 
--- what a run of changes returns for what its files mean: what changes, or why an audit rejects what was found, or an allocation failed
+-- what a run of changes returns for what its files mean: what changes, or why no change is accepted, or an allocation failed
 abbrev pub RunsChanges : {A : Type 0} → Result (FoundChanges A) RunFault → EditionsContent → Type 0
 RunsChanges (Ok found) editions = IsFound editions found.list found.certificate
 RunsChanges (Err (Changes fault)) editions = IsNotFound editions fault

@@ -16,7 +16,7 @@ use uca_weights::Source;
 ///
 /// # Errors
 ///
-/// `File` for the first file that is rejected. `Changes` if a table is not well-formed, or if an audit rejects what was found.
+/// `File` for the first file that is rejected. `Changes` if a table is not well-formed, or if the tables say two weightings.
 /// `Memory` if an allocation failed after the files were read.
 pub fn run_changes<A: Read, B: Read, C: Read, D: Read>(
     alloc: Global,

@@ -11,7 +11,7 @@ use Rattle.uca_rules.specs.declared.relations.Relation.{Relation}
 use Rattle.uca_tailorings.specs.Moves.{KeyMoves}
 use Rattle.uca_tailorings.specs.Tailorings.{IsAccepted}
 use Rattle.uca_changes.specs.Changes.{Change, IsChange, IsAcceptedChange, old_reading, new_reading}
-use Rattle.uca_changes.specs.Laws.{ChangesKeepUnaffectedTexts, TailoringsAreChanges, change_of}
+use Rattle.uca_changes.specs.Laws.{ChangesKeepUnaffectedTexts, TailoringsAreChanges, UnaffectedTextsStay, change_of}
 use Rattle.uca_run_parts.specs.AffectedRun.{if_so, is_affected, occurs_in_order}
 use Rattle.uca_run_parts.specs.Files.{audit_files}
 use Rattle.uca_change_runs.specs.AffectedRun.{is_affected_by, listed_in}
@@ -43,15 +43,21 @@ unaffected_text upgrade line is = not_so upgrade.affects (nfd (chars line)) line
 
 -- ---- Changes
 
+-- what the change means for the lookups of the tables themselves
+stays_by : ChangesKeepUnaffectedTexts → (change : Change) → IsChange change → IsAcceptedChange change →
+    UnaffectedTextsStay change (old_reading change) (new_reading change)
+stays_by law change is accepted =
+    law change (old_reading change) (new_reading change) is accepted
+    (record { rows = λ key. refl; ranges = refl; properties = refl })
+    (record { rows = λ key. refl; ranges = refl; properties = refl })
+
 -- the key of a line moves whose text the change does not affect
 change_moves : ChangesKeepUnaffectedTexts → (change : Change) → IsChange change → IsAcceptedChange change → (text : List ℕ) →
     AllByRecursion IsScalar (nfd text) → is_affected_by (listed_in change) (nfd text) ≡ false →
     KeyMoves change.maps (read_text (old_reading change) (nfd_text change.old_properties text)) (read_text (new_reading change) (nfd_text change.new_properties text))
 change_moves law change is accepted text scalars none =
-    let stays = law change (old_reading change) (new_reading change) is accepted
-    (record { rows = λ key. refl; ranges = refl; properties = refl })
-    (record { rows = λ key. refl; ranges = refl; properties = refl }) in
-    stays.moves text (record { scalars = scalars; unaffected = (affected_are_the_others change (nfd text)).0 none })
+    (stays_by law change is accepted).moves text
+    (record { scalars = scalars; unaffected = (affected_are_the_others change (nfd text)).0 none })
 
 pub changes_keep : ChangesKeepUnaffectedTexts → AcceptedChangesKeepOrder
 changes_keep law old old_data new new_data changes certificate change means accepted =
@@ -59,6 +65,7 @@ changes_keep law old old_data new new_data changes certificate change means acce
     keeps_order (change_upgrade change) is.old (λ line unaffected.
     change_moves law change is accepted (chars line) (line_scalars (change_upgrade change) line unaffected)
     (unaffected_text (change_upgrade change) line unaffected))
+    (stays_by law change is accepted).chosen
 
 -- a run that accepts does so for a change that its files mean
 pub audited_changes_keep : AcceptedChangesKeepOrder → AuditedChangesKeepOrder
@@ -93,6 +100,7 @@ tailorings_keep law are base properties rules tailored certificate tailoring mea
     change_moves law (change_of tailoring) change.0 change.1 (chars line) (line_scalars upgrade line unaffected)
     (or_from (list_any (λ text. occurs_in_order text points) (map (λ r. r.target.points) tailoring.relations)) (list_any (is_within []) points)
     (same_targets points tailoring.relations ∙ unaffected_text upgrade line unaffected) (none_within points)))
+    (stays_by law (change_of tailoring) change.0 change.1).chosen
 
 pub audited_tailorings_keep : AcceptedTailoringsKeepOrder → AuditedTailoringsKeepOrder
 audited_tailorings_keep law base properties rules tailored certificate news out out_new audit =

@@ -1,5 +1,5 @@
 -- The keys of lines after an upgrade, from what is true of the texts of unaffected lines.
-use Rattle.std.proofs.Common.{◌≡◌, ℕ, List, Some, ⊎_elim, chars, sym, ap₂, ◌∙◌}
+use Rattle.std.proofs.Common.{◌≡◌, ℕ, List, Option, Some, ⊎_elim, chars, sym, ap, ap₂, ◌∙◌}
 use Rattle.std.specs.Char.{IsScalar}
 use Rattle.std.specs.List.{AllByRecursion, flat_map}
 use Rattle.uca_weights.specs.declared.Depth.{Depth}
@@ -19,9 +19,9 @@ use Rattle.uca_run_parts.specs.Print.{keyed_line_of}
 use Rattle.uca_rekey.specs.Laws.{AreBytes, LinesMove}
 use Rattle.uca_rekey.specs.RekeyedLines.{rekeyed}
 use Rattle.uca_rekey.proofs.MovedLines.{lines_move}
-use Rattle.uca_key_lines.specs.Keys.{collation, keyed_line, printed_key}
+use Rattle.uca_key_lines.specs.Keys.{KeySettings, collation, key_settings, keyed_line, printed_key}
 use Rattle.uca_runs.proofs.NormalLines.{normal_line}
-use Rattle.uca_upgrades.specs.Upgrades.{Upgrade, AreUnaffectedLines, IsRekeyed, IsStoredLineKey, IsUnaffectedLine, KeepsOrder, new_key, new_settings, old_key, old_settings}
+use Rattle.uca_upgrades.specs.Upgrades.{Upgrade, AreUnaffectedLines, IsRekeyed, IsStoredLineKey, IsUnaffectedLine, KeepsOrder, new_key, new_settings, new_weighting, old_key, old_settings, stored_weighting}
 use Rattle.uca_upgrades.proofs.KeyBytes.{text_key_is_bytes}
 use Rattle.uca_upgrades.proofs.Outputs.{keyed_body, keyed_body_lacks, keyed_is, lines_lack, output_rekeyed, printed_body, printed_body_lacks, printed_is}
 
@@ -38,12 +38,27 @@ line_scalars upgrade line is = (normal_line is.properties is.before line is.faul
 abbrev pub Moves : Upgrade → Type 0
 Moves upgrade = (line : List ℕ) → IsUnaffectedLine upgrade line → KeyMoves upgrade.maps (read_line upgrade.old line) (read_line upgrade.new line)
 
-module _ (upgrade : Upgrade) (is : IsTable upgrade.old.table) (moves : Moves upgrade) (weighting : Weighting) (depth : Depth) where
+-- runs over the new files and over the old ones that are asked for the same go by one weighting
+abbrev pub KeepsWeighting : Upgrade → Type 0
+KeepsWeighting upgrade = (asked : Option Weighting) → new_weighting upgrade asked ≡ stored_weighting upgrade asked
+
+-- what keys go by under some files, by this weighting
+abbrev settings_by : TableAndData → Depth → Weighting → KeySettings
+settings_by files depth weighting = key_settings (Some weighting) depth files.table files.properties
+
+module _ (upgrade : Upgrade) (is : IsTable upgrade.old.table) (moves : Moves upgrade) (keeps : KeepsWeighting upgrade) (asked : Option Weighting)
+    (depth : Depth) where
+  -- the weighting of the stored keys
+  abbrev weighting : Weighting
+  weighting = stored_weighting upgrade asked
+
   -- a key that is stored is the new one
-  stored_is_new : (line key : List ℕ) → IsStoredLineKey upgrade weighting depth line key → key ≡ new_key upgrade weighting depth line
+  stored_is_new : (line key : List ℕ) → IsStoredLineKey upgrade asked depth line key → key ≡ new_key upgrade asked depth line
   stored_is_new line key stored =
       ⊎_elim (λ made. made)
-      (λ kept. kept_is_new upgrade.maps (read_line upgrade.old line) (read_line upgrade.new line) (moves line kept.0) depth weighting key kept.1) stored
+      (λ kept. kept_is_new upgrade.maps (read_line upgrade.old line) (read_line upgrade.new line) (moves line kept.0) depth weighting key kept.1
+      ∙ ap (λ w. key_at depth w (read_line upgrade.new line)) (sym (keeps asked)))
+      stored
 
   -- the old key is of bytes
   old_bytes : (line : List ℕ) → IsUnaffectedLine upgrade line → AreBytes (key_at depth weighting (read_line upgrade.old line))
@@ -56,21 +71,25 @@ module _ (upgrade : Upgrade) (is : IsTable upgrade.old.table) (moves : Moves upg
   lines line unaffected = lines_move upgrade.maps (read_line upgrade.old line) (read_line upgrade.new line) (moves line unaffected)
 
   -- The line of output of an unaffected line, with its key alone or before a row, and how it changes.
-  printed_line : (line before after : List ℕ) → IsUnaffectedLine upgrade line → ended before ≡ printed_key (old_settings upgrade weighting depth) line →
-      ended after ≡ printed_key (new_settings upgrade weighting depth) line → rekeyed upgrade.maps depth weighting before ≡ Some after
-  printed_line line before after unaffected was is_now = (lines line unaffected).printed depth weighting (old_bytes line unaffected) before after was is_now
+  printed_line : (line before after : List ℕ) → IsUnaffectedLine upgrade line → ended before ≡ printed_key (old_settings upgrade asked depth) line →
+      ended after ≡ printed_key (new_settings upgrade asked depth) line → rekeyed upgrade.maps depth weighting before ≡ Some after
+  printed_line line before after unaffected was is_now =
+      (lines line unaffected).printed depth weighting (old_bytes line unaffected) before after was
+      (is_now ∙ ap (λ w. printed_key (settings_by upgrade.new depth w) line) (keeps asked))
 
-  keyed_row : (line row before after : List ℕ) → IsUnaffectedLine upgrade line → ended before ≡ keyed_line_of (old_key upgrade weighting depth line) row →
-      ended after ≡ keyed_line_of (new_key upgrade weighting depth line) row → rekeyed upgrade.maps depth weighting before ≡ Some after
-  keyed_row line row before after unaffected was is_now = (lines line unaffected).keyed depth weighting (old_bytes line unaffected) row before after was is_now
+  keyed_row : (line row before after : List ℕ) → IsUnaffectedLine upgrade line → ended before ≡ keyed_line_of (old_key upgrade asked depth line) row →
+      ended after ≡ keyed_line_of (new_key upgrade asked depth line) row → rekeyed upgrade.maps depth weighting before ≡ Some after
+  keyed_row line row before after unaffected was is_now =
+      (lines line unaffected).keyed depth weighting (old_bytes line unaffected) row before after was
+      (is_now ∙ ap (λ w. keyed_line_of (key_at depth w (read_line upgrade.new line)) row) (keeps asked))
 
   -- so the output of a run changes
   printed : (input : List ℕ) → AreUnaffectedLines upgrade input →
-      IsRekeyed upgrade weighting depth (flat_map (printed_key (old_settings upgrade weighting depth)) (lines_of input))
-      (flat_map (printed_key (new_settings upgrade weighting depth)) (lines_of input))
+      IsRekeyed upgrade asked depth (flat_map (printed_key (old_settings upgrade asked depth)) (lines_of input))
+      (flat_map (printed_key (new_settings upgrade asked depth)) (lines_of input))
   printed input unaffected =
-      let old = old_settings upgrade weighting depth in
-      let new = new_settings upgrade weighting depth in
+      let old = old_settings upgrade asked depth in
+      let new = new_settings upgrade asked depth in
       output_rekeyed (moved_key upgrade.maps depth weighting) (printed_key old) (printed_body old) (printed_key new) (printed_body new)
       (printed_is old) (printed_is new) (lines_of input)
       (each_any (λ line. Lacks is_lf (printed_body old line)) (printed_body_lacks old) (lines_of input))
@@ -79,11 +98,11 @@ module _ (upgrade : Upgrade) (is : IsTable upgrade.old.table) (moves : Moves upg
       (lines_of input) unaffected)
 
   keyed : (input : List ℕ) → AreUnaffectedLines upgrade input →
-      IsRekeyed upgrade weighting depth (flat_map (keyed_line (old_settings upgrade weighting depth)) (lines_of input))
-      (flat_map (keyed_line (new_settings upgrade weighting depth)) (lines_of input))
+      IsRekeyed upgrade asked depth (flat_map (keyed_line (old_settings upgrade asked depth)) (lines_of input))
+      (flat_map (keyed_line (new_settings upgrade asked depth)) (lines_of input))
   keyed input unaffected =
-      let old = old_settings upgrade weighting depth in
-      let new = new_settings upgrade weighting depth in
+      let old = old_settings upgrade asked depth in
+      let new = new_settings upgrade asked depth in
       output_rekeyed (moved_key upgrade.maps depth weighting) (keyed_line old) (keyed_body old) (keyed_line new) (keyed_body new)
       (keyed_is old) (keyed_is new) (lines_of input)
       (each_weaker (Lacks is_lf) (λ line. Lacks is_lf (keyed_body old line)) (keyed_body_lacks old) (lines_of input) (lines_lack input))
@@ -91,20 +110,25 @@ module _ (upgrade : Upgrade) (is : IsTable upgrade.old.table) (moves : Moves upg
       (λ line one. keyed_row line line (keyed_body old line) (keyed_body new line) one (sym (keyed_is old line)) (sym (keyed_is new line)))
       (lines_of input) unaffected)
 
-pub keeps_order : (upgrade : Upgrade) → IsTable upgrade.old.table → Moves upgrade → KeepsOrder upgrade
-keeps_order upgrade is moves weighting depth =
-    let new_of = stored_is_new upgrade is moves weighting depth in
+pub keeps_order : (upgrade : Upgrade) → IsTable upgrade.old.table → Moves upgrade → KeepsWeighting upgrade → KeepsOrder upgrade
+keeps_order upgrade is moves keeps asked depth =
+    let old_one = stored_weighting upgrade asked in
+    let new_one = new_weighting upgrade asked in
+    let new_of = stored_is_new upgrade is moves keeps asked depth in
     record {
-      moved = λ line unaffected. (moves line unaffected).mended depth weighting;
+      chosen = keeps asked;
+      moved = λ line unaffected.
+          (moves line unaffected).mended depth old_one ∙ ap (λ w. Some (key_at depth w (read_line upgrade.new line))) (sym (keeps asked));
       stored = new_of;
       ordered = λ left right left_key right_key first second.
           ap₂ lexicographic (new_of left left_key first) (new_of right right_key second)
-          ∙ depth_order depth weighting (read_line upgrade.new left) (read_line upgrade.new right);
+          ∙ depth_order depth new_one (read_line upgrade.new left) (read_line upgrade.new right);
       levels = λ left right left_key right_key first second.
-          ap₂ (stored_level (levels_at depth weighting)) (new_of left left_key first) (new_of right right_key second)
-          ∙ depth_level depth weighting (read_line upgrade.new left) (read_line upgrade.new right);
-      printed_line = printed_line upgrade is moves weighting depth;
-      keyed_row = keyed_row upgrade is moves weighting depth;
-      printed = printed upgrade is moves weighting depth;
-      keyed = keyed upgrade is moves weighting depth;
+          ap (λ w. stored_level (levels_at depth w) left_key right_key) (sym (keeps asked))
+          ∙ (ap₂ (stored_level (levels_at depth new_one)) (new_of left left_key first) (new_of right right_key second)
+          ∙ depth_level depth new_one (read_line upgrade.new left) (read_line upgrade.new right));
+      printed_line = printed_line upgrade is moves keeps asked depth;
+      keyed_row = keyed_row upgrade is moves keeps asked depth;
+      printed = printed upgrade is moves keeps asked depth;
+      keyed = keyed upgrade is moves keeps asked depth;
     }

@@ -1,5 +1,5 @@
 -- Stored keys of lines where a table and a data file give way to new ones: what a store may have, and what is true of it then.
-use Rattle.std.specs.Prelude.{◌≡◌, ◌⊎◌, ℕ, List, [], Bool, Some, None, chars}
+use Rattle.std.specs.Prelude.{◌≡◌, ◌⊎◌, ℕ, List, [], Bool, Option, Some, None, chars}
 use Rattle.std.specs.List.{AllByRecursion, flat_map}
 use Rattle.uca_weights.specs.declared.Depth.{Depth}
 use Rattle.uca_weights.specs.declared.Element.{Element}
@@ -15,6 +15,7 @@ use Rattle.uca_tailorings.specs.Images.{Maps, AreImages}
 use Rattle.uca_tailorings.specs.Moves.{moved_key}
 use Rattle.uca_tailorings.specs.Tailorings.{Tailoring}
 use Rattle.uca_changes.specs.Changes.{Change}
+use Rattle.uca_changes.specs.Weightings.{weighting_by}
 use Rattle.uca_run_parts.specs.AffectedRun.{is_affected, line_if}
 use Rattle.uca_run_parts.specs.Files.{TableAndData, table_with}
 use Rattle.uca_run_parts.specs.Input.{cause_of}
@@ -53,19 +54,27 @@ tailoring_upgrade tailoring = record {
   affects = is_affected tailoring.relations;
 }
 
--- what keys go by under the old files, and under the new ones
-abbrev pub old_settings : Upgrade → Weighting → Depth → KeySettings
-old_settings upgrade weighting depth = key_settings (Some weighting) depth upgrade.old.table upgrade.old.properties
+-- What keys go by under the old files, and under the new ones. Both runs are asked for this weighting, or for none: then each goes
+-- by what its table says, or else shifted.
+abbrev pub old_settings : Upgrade → Option Weighting → Depth → KeySettings
+old_settings upgrade asked depth = key_settings asked depth upgrade.old.table upgrade.old.properties
 
-abbrev pub new_settings : Upgrade → Weighting → Depth → KeySettings
-new_settings upgrade weighting depth = key_settings (Some weighting) depth upgrade.new.table upgrade.new.properties
+abbrev pub new_settings : Upgrade → Option Weighting → Depth → KeySettings
+new_settings upgrade asked depth = key_settings asked depth upgrade.new.table upgrade.new.properties
+
+-- the weighting that the keys of a store were made by under the old files, and that of new keys
+abbrev pub stored_weighting : Upgrade → Option Weighting → Weighting
+stored_weighting upgrade asked = weighting_by asked upgrade.old.table.header.setting
+
+abbrev pub new_weighting : Upgrade → Option Weighting → Weighting
+new_weighting upgrade asked = weighting_by asked upgrade.new.table.header.setting
 
 -- the key of a line under the old files, and under the new ones
-abbrev pub old_key : Upgrade → Weighting → Depth → List ℕ → List ℕ
-old_key upgrade weighting depth line = line_key (old_settings upgrade weighting depth) line
+abbrev pub old_key : Upgrade → Option Weighting → Depth → List ℕ → List ℕ
+old_key upgrade asked depth line = line_key (old_settings upgrade asked depth) line
 
-abbrev pub new_key : Upgrade → Weighting → Depth → List ℕ → List ℕ
-new_key upgrade weighting depth line = line_key (new_settings upgrade weighting depth) line
+abbrev pub new_key : Upgrade → Option Weighting → Depth → List ℕ → List ℕ
+new_key upgrade asked depth line = line_key (new_settings upgrade asked depth) line
 
 -- ---- What a store may have
 
@@ -83,15 +92,15 @@ old_elements upgrade line = elements_of (collation upgrade.old.table upgrade.old
 
 -- A key that was kept for a line: its old key put through the maps, as `uca rekey` does it. Or its old key as it was, where each
 -- weight of the line is its own image.
-abbrev pub IsKeptLineKey : Upgrade → Weighting → Depth → List ℕ → List ℕ → Type 0
-IsKeptLineKey upgrade weighting depth line key =
-    (moved_key upgrade.maps depth weighting (old_key upgrade weighting depth line) ≡ Some key)
-    ⊎ (AreImages upgrade.maps (old_elements upgrade line) (old_elements upgrade line) × (key ≡ old_key upgrade weighting depth line))
+abbrev pub IsKeptLineKey : Upgrade → Option Weighting → Depth → List ℕ → List ℕ → Type 0
+IsKeptLineKey upgrade asked depth line key =
+    (moved_key upgrade.maps depth (stored_weighting upgrade asked) (old_key upgrade asked depth line) ≡ Some key)
+    ⊎ (AreImages upgrade.maps (old_elements upgrade line) (old_elements upgrade line) × (key ≡ old_key upgrade asked depth line))
 
 -- A key that a store has for a line: its new key. Or, if the line is unaffected, one that was kept.
-abbrev pub IsStoredLineKey : Upgrade → Weighting → Depth → List ℕ → List ℕ → Type 0
-IsStoredLineKey upgrade weighting depth line key =
-    (key ≡ new_key upgrade weighting depth line) ⊎ (IsUnaffectedLine upgrade line × IsKeptLineKey upgrade weighting depth line key)
+abbrev pub IsStoredLineKey : Upgrade → Option Weighting → Depth → List ℕ → List ℕ → Type 0
+IsStoredLineKey upgrade asked depth line key =
+    (key ≡ new_key upgrade asked depth line) ⊎ (IsUnaffectedLine upgrade line × IsKeptLineKey upgrade asked depth line key)
 
 -- ---- What is true of it
 
@@ -101,43 +110,46 @@ AreUnaffectedLines upgrade input = AllByRecursion (IsUnaffectedLine upgrade) (li
 
 -- `uca rekey` reads the first bytes and writes the second: these are the lines of the first with their keys put through the maps,
 -- each with LF.
-abbrev pub IsRekeyed : Upgrade → Weighting → Depth → List ℕ → List ℕ → Type 0
-IsRekeyed upgrade weighting depth bytes now =
-    (lines : List (List ℕ)) × AreRekeyed (moved_key upgrade.maps depth weighting) (lines_of bytes) lines × (now ≡ flat_map ended lines)
+abbrev pub IsRekeyed : Upgrade → Option Weighting → Depth → List ℕ → List ℕ → Type 0
+IsRekeyed upgrade asked depth bytes now =
+    (lines : List (List ℕ)) × AreRekeyed (moved_key upgrade.maps depth (stored_weighting upgrade asked)) (lines_of bytes) lines × (now ≡ flat_map ended lines)
 
--- what is true of the keys of a store that were made by this weighting and to this depth
-pub record KeysAreUpgraded (upgrade : Upgrade) (weighting : Weighting) (depth : Depth) : Type 0 where
+-- What is true of the keys of a store that were made to this depth, where each run was asked for this weighting or for none. A run of
+-- `uca rekey` has to be asked for the weighting of the stored keys, since it reads no table.
+pub record KeysAreUpgraded (upgrade : Upgrade) (asked : Option Weighting) (depth : Depth) : Type 0 where
+  -- this is the weighting of new keys too
+  pub chosen : new_weighting upgrade asked ≡ stored_weighting upgrade asked
   -- the old key of an unaffected line, put through the maps, is its new key
   pub moved : (line : List ℕ) → IsUnaffectedLine upgrade line →
-      moved_key upgrade.maps depth weighting (old_key upgrade weighting depth line) ≡ Some (new_key upgrade weighting depth line)
+      moved_key upgrade.maps depth (stored_weighting upgrade asked) (old_key upgrade asked depth line) ≡ Some (new_key upgrade asked depth line)
   -- so each key of the store is the new key of its line
-  pub stored : (line key : List ℕ) → IsStoredLineKey upgrade weighting depth line key → key ≡ new_key upgrade weighting depth line
+  pub stored : (line key : List ℕ) → IsStoredLineKey upgrade asked depth line key → key ≡ new_key upgrade asked depth line
   -- two keys of the store, compared as bytes, have the order of their lines under the new files
   pub ordered : (left right left_key right_key : List ℕ) →
-      IsStoredLineKey upgrade weighting depth left left_key → IsStoredLineKey upgrade weighting depth right right_key →
-      lexicographic left_key right_key ≡ (lines_compared (new_settings upgrade weighting depth) left right).order
+      IsStoredLineKey upgrade asked depth left left_key → IsStoredLineKey upgrade asked depth right right_key →
+      lexicographic left_key right_key ≡ (lines_compared (new_settings upgrade asked depth) left right).order
   -- and they give the level at which these differ
   pub levels : (left right left_key right_key : List ℕ) →
-      IsStoredLineKey upgrade weighting depth left left_key → IsStoredLineKey upgrade weighting depth right right_key →
-      stored_level (levels_at depth weighting) left_key right_key ≡ (lines_compared (new_settings upgrade weighting depth) left right).level
+      IsStoredLineKey upgrade asked depth left left_key → IsStoredLineKey upgrade asked depth right right_key →
+      stored_level (levels_at depth (stored_weighting upgrade asked)) left_key right_key ≡ (lines_compared (new_settings upgrade asked depth) left right).level
   -- What `uca keys` printed of an unaffected line under the old files becomes, by `uca rekey`, what it prints under the new ones.
   -- Both are given here without their LF.
   pub printed_line : (line before after : List ℕ) → IsUnaffectedLine upgrade line →
-      ended before ≡ printed_key (old_settings upgrade weighting depth) line →
-      ended after ≡ printed_key (new_settings upgrade weighting depth) line → rekeyed upgrade.maps depth weighting before ≡ Some after
+      ended before ≡ printed_key (old_settings upgrade asked depth) line →
+      ended after ≡ printed_key (new_settings upgrade asked depth) line → rekeyed upgrade.maps depth (stored_weighting upgrade asked) before ≡ Some after
   -- The same for the digits of the key, a tab, and what a store has after it, such as the line itself or its number.
   pub keyed_row : (line row before after : List ℕ) → IsUnaffectedLine upgrade line →
-      ended before ≡ keyed_line_of (old_key upgrade weighting depth line) row →
-      ended after ≡ keyed_line_of (new_key upgrade weighting depth line) row → rekeyed upgrade.maps depth weighting before ≡ Some after
+      ended before ≡ keyed_line_of (old_key upgrade asked depth line) row →
+      ended after ≡ keyed_line_of (new_key upgrade asked depth line) row → rekeyed upgrade.maps depth (stored_weighting upgrade asked) before ≡ Some after
   -- So the whole output of `uca keys` over an input of unaffected lines becomes its output under the new files.
   pub printed : (input : List ℕ) → AreUnaffectedLines upgrade input →
-      IsRekeyed upgrade weighting depth (flat_map (printed_key (old_settings upgrade weighting depth)) (lines_of input))
-      (flat_map (printed_key (new_settings upgrade weighting depth)) (lines_of input))
+      IsRekeyed upgrade asked depth (flat_map (printed_key (old_settings upgrade asked depth)) (lines_of input))
+      (flat_map (printed_key (new_settings upgrade asked depth)) (lines_of input))
   -- the same for `uca keys --lines`
   pub keyed : (input : List ℕ) → AreUnaffectedLines upgrade input →
-      IsRekeyed upgrade weighting depth (flat_map (keyed_line (old_settings upgrade weighting depth)) (lines_of input))
-      (flat_map (keyed_line (new_settings upgrade weighting depth)) (lines_of input))
+      IsRekeyed upgrade asked depth (flat_map (keyed_line (old_settings upgrade asked depth)) (lines_of input))
+      (flat_map (keyed_line (new_settings upgrade asked depth)) (lines_of input))
 
--- that for each weighting and depth
+-- that for each weighting that is asked for, for what the tables say where none is, and for each depth
 abbrev pub KeepsOrder : Upgrade → Type 0
-KeepsOrder upgrade = (weighting : Weighting) (depth : Depth) → KeysAreUpgraded upgrade weighting depth
+KeepsOrder upgrade = (asked : Option Weighting) (depth : Depth) → KeysAreUpgraded upgrade asked depth
