@@ -5,3 +5,4 @@ mod read;
 mod so_far;
 
 pub use read::read_data;
+pub use so_far::DataSoFar;

@@ -14,8 +14,9 @@ mod read;
 mod rows;
 
 pub use canonical::write_table;
-pub use data_file::read_data;
+pub use data_file::{DataSoFar, read_data};
 pub use laws::{canonical_text_means_its_table, canonical_text_means_the_same, worked_lines};
+pub use lines::TableLines;
 pub use read::{read_packed_table, read_table};
 pub use uca_check::{IllFormed, check};
 pub use uca_values::{Data, FaultKind, Header, ImplicitRange, PackedTable, Row, Table, TableFault};
