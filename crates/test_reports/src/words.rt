@@ -79,7 +79,9 @@ changes c e -- n d --changes | Changes(ChangesWords { editions: EditionNames { o
 audit-changes o d n e h c | AuditChanges(AuditChangesWords { editions: EditionNames { old: "o", old_data: "d", new: "n", new_data: "e" }, changes: "h", certificate: "c" })
 rekey c | Rekey(RekeyWords { weighting: None, depth: Weights, certificate: "c" })
 rekey --identical c --weighting shifted | Rekey(RekeyWords { weighting: Some(Shifted), depth: Identical, certificate: "c" })
-rekey --weighting=non-ignorable -- --identical | Rekey(RekeyWords { weighting: Some(NonIgnorable), depth: Weights, certificate: "--identical" })"#;
+rekey --weighting=non-ignorable -- --identical | Rekey(RekeyWords { weighting: Some(NonIgnorable), depth: Weights, certificate: "--identical" })
+fingerprint t d | Fingerprint(FingerprintWords { weighting: None, depth: Weights, table: "t", properties: "d" })
+fingerprint --identical t --weighting shifted d | Fingerprint(FingerprintWords { weighting: Some(Shifted), depth: Identical, table: "t", properties: "d" })"#;
 
 #[test]
 fn words_that_are_read(rt: HostRuntime) -> Result<(), Fail> {
@@ -91,6 +93,7 @@ const NO_WEIGHTINGS: &str = r#"keys --weighting x t d | Weighting
 sort --weighting Shifted t d | Weighting
 compare --weighting=shift t d a b | Weighting
 rekey --weighting x c | Weighting
+fingerprint --weighting x t d | Weighting
 keys --weighting= t d | Weighting
 sort --weighting x no-such-table no-such-data | Weighting
 keys --weighting x t | MissingRequiredArgument

@@ -14,7 +14,7 @@ use Rattle.uca_certificates.specs.Certificates.{CertificateContent}
 use Rattle.uca_change_files.specs.ChangeTexts.{changes_text}
 use Rattle.uca_editions.specs.declared.found.FoundChanges.{FoundChanges}
 use Rattle.uca_words.specs.declared.Words.{Words as WordsType}
-use Rattle.uca_words.specs.declared.Words.TheVariants.{Check, Keys, Sort, Compare, Tailor, Audit, Affected, Changes, AuditChanges, Rekey}
+use Rattle.uca_words.specs.declared.Words.TheVariants.{Check, Keys, Sort, Compare, Tailor, Audit, Affected, Changes, AuditChanges, Rekey, Fingerprint}
 use Rattle.uca_words.specs.declared.CheckWords.{CheckWords}
 use Rattle.uca_words.specs.declared.KeysWords.{KeysWords}
 use Rattle.uca_words.specs.declared.SortWords.{SortWords}
@@ -25,6 +25,7 @@ use Rattle.uca_words.specs.declared.AffectedWords.{AffectedWords}
 use Rattle.uca_words.specs.declared.ChangesWords.{ChangesWords}
 use Rattle.uca_words.specs.declared.AuditChangesWords.{AuditChangesWords}
 use Rattle.uca_words.specs.declared.RekeyWords.{RekeyWords}
+use Rattle.uca_words.specs.declared.FingerprintWords.{FingerprintWords}
 use Rattle.uca_words.specs.Words.{AreRead, IsFaultOf}
 use Rattle.uca_words.specs.declared.WordFault.{WordFault}
 use Rattle.uca_run_parts.specs.declared.faults.Role.{Role}
@@ -40,6 +41,7 @@ use Rattle.uca_change_runs.specs.ChangesRun.{FindsChanges}
 use Rattle.uca_change_runs.specs.AuditRun.{AuditsChanges}
 use Rattle.uca_change_runs.specs.AffectedRun.{PrintsAffectedByChanges}
 use Rattle.uca_rekey.specs.RekeyRun.{RekeysLines}
+use Rattle.uca_fingerprint_runs.specs.FingerprintRun.{PrintsFingerprint}
 use Rattle.uca_named_files.specs.NamedFiles.{FileSystem, NamedFile, file_for, table_and_data, tailor_files, affected_files, audit_files, edition_files, change_files, AreOpened, DoesNotOpen, AreOthers, IsFirstSame, KeepsCertificate}
 use Rattle.uca_tailor_runs.specs.AuditRun.{Audits}
 use Rattle.uca_tailor_runs.specs.TailorRun.{TailorsFiles}
@@ -130,6 +132,14 @@ DoesCompare files old new words out out_new result =
     OpensAndRuns files old new (table_and_data words.table.now words.properties.now) (out_new ≡ out)
     (λ olds news. Ran (done_result {A = Unit {0}})
     (Compares (comparing words.weighting words.depth words.left.now words.right.now) olds news out out_new) result) result
+
+-- what `fingerprint` does
+abbrev pub DoesFingerprint : {O F M : Type 0} → FileSystem O F M → O → O → FingerprintWords → SinkState → SinkState
+    → Result ℕ RunFault → Type 0
+DoesFingerprint files old new words out out_new result =
+    OpensAndRuns files old new (table_and_data words.table.now words.properties.now) (out_new ≡ out)
+    (λ olds news. Ran (done_result {A = Unit {0}})
+    (PrintsFingerprint words.weighting words.depth olds news out out_new) result) result
 
 -- ---- Tailor and changes
 
@@ -296,6 +306,8 @@ DoesWords files old new (Changes words) start end result =
 DoesWords files old new (AuditChanges words) start end result =
     (end.input ≡ start.input) × DoesAuditChanges files old new words start.out end.out result
 DoesWords files old new (Rekey words) start end result = DoesRekey files old new words start end result
+DoesWords files old new (Fingerprint words) start end result =
+    (end.input ≡ start.input) × DoesFingerprint files old new words start.out end.out result
 
 -- how the command ends after a run: with its status, or with what its error reports
 abbrev pub EndsWith : Result ℕ RunFault → ℕ → SinkState → SinkState → SinkState → SinkState → Type 0

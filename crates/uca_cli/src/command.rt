@@ -2,7 +2,7 @@
 
 ghost use Rattle.std.specs.Prelude.{◌∷◌, [], ⊤, ℕ, Bool, List, Result, ◌≡◌};
 ghost use Rattle.clap.specs.Walk.{texts};
-ghost use Rattle.uca_cli.specs.Command.{DoesAffected, DoesAudit, DoesCheck, DoesCommand, DoesCompare, DoesKeys, DoesSort, DoesTailor, DoesWords, EndsWith, KeepsAndPrints, KeepsMade, MakesOpened, Prints, PrintsLines, files_of_tailor, made_table, streams};
+ghost use Rattle.uca_cli.specs.Command.{DoesAffected, DoesAudit, DoesCheck, DoesCommand, DoesCompare, DoesFingerprint, DoesKeys, DoesSort, DoesTailor, DoesWords, EndsWith, KeepsAndPrints, KeepsMade, MakesOpened, Prints, PrintsLines, files_of_tailor, made_table, streams};
 ghost use Rattle.uca_named_files.specs.NamedFiles.{affected_role, file_system};
 ghost use Rattle.uca_tailor_runs.specs.TailorRun.{TailorsFiles};
 
@@ -13,6 +13,7 @@ use std::alloc::Global;
 use std::io::{Read, Write};
 use uca_certificates::Certificate;
 use uca_change_runs::run_affected_by_changes;
+use uca_fingerprint_runs::run_fingerprint;
 use uca_named_files::Opens;
 use uca_named_files::keeping::{find_certificate, keep_certificate};
 use uca_named_files::opening::{open_audit_files, open_files, open_three, open_two};
@@ -25,8 +26,8 @@ use uca_tailor_runs::{run_audit, run_tailor};
 use uca_values::Table;
 use uca_weights::{Sink, Source};
 use uca_words::{
-    AffectedWords, AuditWords, CheckWords, CompareWords, KeysWords, SortWords, TailorWords, Words,
-    read_words,
+    AffectedWords, AuditWords, CheckWords, CompareWords, FingerprintWords, KeysWords, SortWords,
+    TailorWords, Words, read_words,
 };
 
 // `check`.
@@ -145,6 +146,29 @@ fn compare<O: Opens, W: Write>(
             &mut properties,
             words.left,
             words.right,
+            out,
+            words.weighting,
+            words.depth,
+        )),
+        Err(role) => Err(RunFault::Open(role)),
+    }
+}
+
+// `fingerprint`.
+fn fingerprint<O: Opens, W: Write>(
+    alloc: Global,
+    opener: &mut O,
+    words: &FingerprintWords,
+    out: &mut Sink<W>,
+) -> Result<u8, RunFault>
+    ensures { DoesFingerprint (file_system O.open_gives O.same_gives O.create_gives O.keep_gives O.remove_gives O.File.remaining O.Made.contents)
+        opener.old opener.new words.now out.old out.new result }
+{
+    match open_files(opener, words.table, words.properties) {
+        Ok((mut table, mut properties)) => done(run_fingerprint(
+            alloc,
+            &mut table,
+            &mut properties,
             out,
             words.weighting,
             words.depth,
@@ -354,6 +378,7 @@ fn run_words<O: Opens, I: Read, W: Write>(
         Words::Changes(words) => changes(alloc, opener, words, out),
         Words::AuditChanges(words) => audit_changes(alloc, opener, words, out),
         Words::Rekey(words) => rekey(alloc, opener, words, input, out),
+        Words::Fingerprint(words) => fingerprint(alloc, opener, words, out),
     }
 }
 

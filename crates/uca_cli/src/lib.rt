@@ -1,5 +1,6 @@
 //! The command: it opens the files that its arguments name, runs over them, and reports what comes of it. The runs are those of
-//! `uca_run_parts`, `uca_runs`, `uca_sort_runs`, `uca_tailor_runs`, `uca_change_runs` and `uca_rekey`, and the reports those of `uca_reports`.
+//! `uca_run_parts`, `uca_runs`, `uca_sort_runs`, `uca_tailor_runs`, `uca_change_runs`, `uca_rekey` and `uca_fingerprint_runs`, and the reports those of
+//! `uca_reports`.
 #![tactic(auto)]
 
 mod change_commands;
@@ -12,6 +13,7 @@ pub use uca_change_runs::{
     affected_by_changes_are_the_others, run_affected_by_changes, run_affected_by_changes_in,
     run_audit_changes, run_audit_changes_in, run_changes, run_changes_in,
 };
+pub use uca_fingerprint_runs::run_fingerprint;
 pub use uca_named_files::{MakeFault, OpenFault, Opens};
 pub use uca_rekey::{lines_move_with_keys, run_rekey, run_rekey_in};
 pub use uca_reports::{STREAM_FAILED, report};
@@ -29,5 +31,6 @@ pub use uca_sort_runs::{run_sort, run_sort_in, sort_lines};
 pub use uca_tailor_runs::{run_audit, run_audit_in, run_tailor, run_tailor_in, write_tailored};
 pub use uca_words::{
     AffectedWords, AuditChangesWords, AuditWords, ChangesWords, CheckWords, CompareWords,
-    EditionNames, KeysWords, RekeyWords, SortWords, TailorWords, WordFault, Words, read_words,
+    EditionNames, FingerprintWords, KeysWords, RekeyWords, SortWords, TailorWords, WordFault,
+    Words, read_words,
 };

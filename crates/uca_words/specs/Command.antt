@@ -75,6 +75,10 @@ audit_changes_app = with_rule (with_rule (with_editions (new_app (codes "audit-c
 abbrev pub rekey_app : App
 rekey_app = with_rule (with_settings (new_app (codes "rekey"))) (word_rule (codes "certificate"))
 
+-- `fingerprint [--weighting W] [--identical] TABLE DATA`
+abbrev pub fingerprint_app : App
+fingerprint_app = with_options (new_app (codes "fingerprint"))
+
 -- The command before its subcommands: one of them has to be named. It has a version, so `clap` adds `--version`, and it
 -- adds the subcommand `help`, which is always an error.
 abbrev pub bare_app : App
@@ -82,7 +86,7 @@ bare_app = on_top (λ s. record s { subcommand_required = true; has_version = tr
 
 -- the subcommands, in the order of the help
 abbrev pub subcommands : List App
-subcommands = check_app ∷ keys_app ∷ sort_app ∷ compare_app ∷ tailor_app ∷ audit_app ∷ affected_app ∷ changes_app ∷ audit_changes_app ∷ rekey_app ∷ []
+subcommands = check_app ∷ keys_app ∷ sort_app ∷ compare_app ∷ tailor_app ∷ audit_app ∷ affected_app ∷ changes_app ∷ audit_changes_app ∷ rekey_app ∷ fingerprint_app ∷ []
 
 abbrev pub uca_app : App
 uca_app = fold (λ app sub. with_subcommand app sub.top) bare_app subcommands

@@ -15,7 +15,7 @@ use Rattle.uca_words.specs.declared.WordFault.TheVariants.{Refused, Weighting, M
 use Rattle.uca_words.specs.Command.{uca_app}
 use Rattle.uca_words.specs.declared.EditionNames.{EditionNames}
 use Rattle.uca_words.specs.declared.Words.{Words}
-use Rattle.uca_words.specs.declared.Words.TheVariants.{Check, Keys, Sort, Compare, Tailor, Audit, Affected, Changes, AuditChanges, Rekey}
+use Rattle.uca_words.specs.declared.Words.TheVariants.{Check, Keys, Sort, Compare, Tailor, Audit, Affected, Changes, AuditChanges, Rekey, Fingerprint}
 
 -- `--weighting` is given this value, or is not given
 abbrev pub HasWeighting : List Row → Option WeightingType → Type 0
@@ -66,6 +66,8 @@ Says name rows (AuditChanges words) =
     × HasWord rows (codes "changes") words.changes × HasWord rows (codes "certificate") words.certificate
 Says name rows (Rekey words) =
     (name ≡ codes "rekey") × HasWeighting rows words.weighting × HasDepth rows words.depth × HasWord rows (codes "certificate") words.certificate
+Says name rows (Fingerprint words) =
+    (name ≡ codes "fingerprint") × HasWeighting rows words.weighting × HasDepth rows words.depth × HasFiles rows words.table words.properties
 
 -- the subcommand that was met, with the rows of its arguments, says these `Words`
 abbrev pub SayWords : Option (Text × List Row) → Words → Type 0

@@ -15,7 +15,7 @@ ghost use Rattle.std.specs.Prelude.{◌≡◌, Some, IfOk, IfErr, IfSome, IfNone
 ghost use Rattle.clap.specs.Words.{found_of, rows_of, first_of};
 ghost use Rattle.clap.specs.Takes.{is_given};
 ghost use Rattle.clap.specs.Walk.{texts};
-ghost use Rattle.uca_words.specs.Command.{check_app, keys_app, sort_app, compare_app, tailor_app, audit_app, affected_app, changes_app, audit_changes_app, rekey_app};
+ghost use Rattle.uca_words.specs.Command.{check_app, keys_app, sort_app, compare_app, tailor_app, audit_app, affected_app, changes_app, audit_changes_app, rekey_app, fingerprint_app};
 ghost use Rattle.uca_words.specs.Met.{has_words, is_met, IsWeightingFault};
 ghost use Rattle.uca_words.specs.Words.{HasEditions, HasFiles, HasWord, HasWeighting, HasDepth, Says, AreRead, IsFaultOf};
 
@@ -55,6 +55,8 @@ pub enum Words<'a> {
     /// `rekey [--weighting W] [--identical] CERTIFICATE`: put the key of each line of standard input through the maps of a
     /// certificate.
     Rekey(RekeyWords<'a>),
+    /// `fingerprint [--weighting W] [--identical] TABLE DATA`: print the fingerprint of what keys are made by.
+    Fingerprint(FingerprintWords<'a>),
 }
 
 /// The arguments of `check`.
@@ -192,6 +194,19 @@ pub struct RekeyWords<'a> {
     pub depth: Depth,
     /// The name of the file of the certificate.
     pub certificate: &'a str,
+}
+
+/// The arguments of `fingerprint`.
+#[derive(Clone, Copy, Debug)]
+pub struct FingerprintWords<'a> {
+    /// The weighting, if one is given.
+    pub weighting: Option<Weighting>,
+    /// How far texts are compared: `Identical` if `--identical` is given.
+    pub depth: Depth,
+    /// The name of the table file.
+    pub table: &'a str,
+    /// The name of the data file.
+    pub properties: &'a str,
 }
 
 /// Why a command line is rejected.
@@ -424,6 +439,19 @@ fn rekey_words<'a>(found: &ArgMatches<'a>, weighting: Option<Weighting>) -> Word
     })
 }
 
+fn fingerprint_words<'a>(found: &ArgMatches<'a>, weighting: Option<Weighting>) -> Words<'a>
+    requires { has_words fingerprint_app (rows_of (found_of found.now)) ≡ true }
+    ensures { HasWeighting (rows_of (found_of found.now)) weighting → Says (codes "fingerprint") (rows_of (found_of found.now)) result }
+{
+    let (table, properties) = files_of(found);
+    Words::Fingerprint(FingerprintWords {
+        weighting,
+        depth: given_depth(found),
+        table,
+        properties,
+    })
+}
+
 // The arguments of the subcommand of this name, with the weighting that is given.
 fn subcommand_words<'a>(
     name: &str,
@@ -444,6 +472,7 @@ fn subcommand_words<'a>(
         "changes" => changes_words(found),
         "audit-changes" => audit_changes_words(found),
         "rekey" => rekey_words(found, weighting),
+        "fingerprint" => fingerprint_words(found, weighting),
         _ => unreachable!(),
     }
 }

@@ -270,6 +270,17 @@ const REKEY_COMMAND: Subcommand<'static> = Subcommand {
     arguments: &[MADE_WEIGHTING, MADE_IDENTICAL, ANY_CERTIFICATE],
 };
 
+const FINGERPRINT_COMMAND: Subcommand<'static> = Subcommand {
+    name: "fingerprint",
+    line: "Print the fingerprint of what keys are made by",
+    text: "Prints the fingerprint of what `uca keys` makes keys by, as 64 hexadecimal digits. It is the SHA-256 of\n\
+           a text that names the edition of the normalization, the weighting, the depth, and both files by their\n\
+           SHA-256. Keep it beside stored keys: two runs with one fingerprint make the same keys. It changes with\n\
+           each byte of a file, also in a comment.",
+    example: "Example: uca fingerprint allkeys.txt data.txt",
+    arguments: &[WEIGHTING, IDENTICAL, TABLE, DATA],
+};
+
 /// The subcommands that read a table, and lines or texts, in the order of the help.
 pub(crate) const LINE_COMMANDS: &[Subcommand<'static>] = &[
     CHECK_COMMAND,
@@ -285,9 +296,10 @@ pub(crate) const RULES_COMMANDS: &[Subcommand<'static>] = &[
     AFFECTED_COMMAND,
 ];
 
-/// Those of changes, which come last.
+/// Those of changes and of stored keys, which come last.
 pub(crate) const CHANGES_COMMANDS: &[Subcommand<'static>] = &[
     CHANGES_COMMAND,
     AUDIT_CHANGES_COMMAND,
     REKEY_COMMAND,
+    FINGERPRINT_COMMAND,
 ];

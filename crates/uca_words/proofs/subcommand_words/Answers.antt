@@ -1,7 +1,7 @@
 -- The subcommand that was met is one of those that the function knows, and has the arguments that it requires.
 use Rattle.std.proofs.Common.{◌≡◌, ◌||◌, Bool, List, true, false, refl, subst, sym, true≢false}
 use Rattle.clap.specs.Words.{Row, Text, found_of, rows_of}
-use Rattle.uca_words.specs.Command.{check_app, keys_app, sort_app, compare_app, tailor_app, audit_app, affected_app, changes_app, audit_changes_app, rekey_app}
+use Rattle.uca_words.specs.Command.{check_app, keys_app, sort_app, compare_app, tailor_app, audit_app, affected_app, changes_app, audit_changes_app, rekey_app, fingerprint_app}
 use Rattle.uca_words.specs.Met.{is_met}
 use Rattle.uca_words.specs.Words.{Says}
 use Rattle.uca_words.specs.declared.Words.{Words}
@@ -33,7 +33,8 @@ unreachable-requires c =
     let seven = is_of_rest affected_app name rows _ six c.in_default.not-affected in
     let eight = is_of_rest changes_app name rows _ seven c.in_default.not-changes in
     let nine = is_of_rest audit_changes_app name rows _ eight c.in_default.not-text in
-    true≢false (sym (is_of_rest rekey_app name rows _ nine c.in_default.not-rekey))
+    let ten = is_of_rest rekey_app name rows _ nine c.in_default.not-rekey in
+    true≢false (sym (is_of_rest fingerprint_app name rows _ ten c.in_default.not-fingerprint))
 
 pub check_words-requires : goal.check_words-requires
 check_words-requires c = by_name _ (subst (IsMet (rows_of (found_of c.args.found.now))) c.in-check.is c.requires)
@@ -65,6 +66,9 @@ audit_changes_words-requires c = by_name _ (subst (IsMet (rows_of (found_of c.ar
 pub rekey_words-requires : goal.rekey_words-requires
 rekey_words-requires c = by_name _ (subst (IsMet (rows_of (found_of c.args.found.now))) c.in-rekey.is c.requires)
 
+pub fingerprint_words-requires : goal.fingerprint_words-requires
+fingerprint_words-requires c = by_name _ (subst (IsMet (rows_of (found_of c.args.found.now))) c.in-fingerprint.is c.requires)
+
 pub returns-in-check : goal.returns-in-check
 returns-in-check c weighs = of_name _ _ (rows_of (found_of c.args.found.now)) _ c.in-check.is c.check_words.ensures
 
@@ -94,3 +98,6 @@ returns-in-text c weighs = of_name _ _ (rows_of (found_of c.args.found.now)) _ c
 
 pub returns-in-rekey : goal.returns-in-rekey
 returns-in-rekey c weighs = of_name _ _ (rows_of (found_of c.args.found.now)) _ c.in-rekey.is (c.rekey_words.ensures weighs)
+
+pub returns-in-fingerprint : goal.returns-in-fingerprint
+returns-in-fingerprint c weighs = of_name _ _ (rows_of (found_of c.args.found.now)) _ c.in-fingerprint.is (c.fingerprint_words.ensures weighs)

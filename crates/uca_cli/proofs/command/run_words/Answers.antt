@@ -31,3 +31,6 @@ returns-in-AuditChanges g c = rw c.in-AuditChanges.is (refl, c.audit_changes.ens
 
 pub returns-in-Rekey : goal.returns-in-Rekey
 returns-in-Rekey g c = rw c.in-Rekey.is c.rekey.ensures
+
+pub returns-in-Fingerprint : goal.returns-in-Fingerprint
+returns-in-Fingerprint g c = rw c.in-Fingerprint.is (refl, c.fingerprint.ensures)

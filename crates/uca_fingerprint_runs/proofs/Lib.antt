@@ -1,0 +1,2 @@
+pub mod SummedMeanings
+pub mod Writing

@@ -1,0 +1,42 @@
+-- What a run of fingerprint returns and writes.
+use Rattle.std.specs.Prelude.{◌≡◌, ℕ, List, [], ◌∷◌, ◌++◌, ◌||◌, true, Option, Result, Ok, Err, unwrap_or}
+use Rattle.std.specs.Io.KnownBytes.{Appends}
+use Rattle.hex.specs.Hex.{encode_lower}
+use Rattle.sha2.specs.Sha256.{sha256}
+use Rattle.uca_weights.specs.declared.Depth.{Depth}
+use Rattle.uca_weights.specs.declared.Weighting.{Weighting}
+use Rattle.uca_weights.specs.declared.Weighting.TheVariants.{Shifted}
+use Rattle.uca_weights.specs.Streams.{SourceState, SinkState}
+use Rattle.uca_fingerprint.specs.Fingerprints.{fingerprint_text}
+use Rattle.uca_run_parts.specs.declared.faults.RunFault.{RunFault}
+use Rattle.uca_run_parts.specs.declared.faults.RunFault.TheVariants.{Write}
+use Rattle.uca_run_parts.specs.Files.{HaveFailed, Over, table_and_data_roles}
+use Rattle.uca_run_parts.specs.Runs.{PartWentOut, ended_before_output, ended_by_output}
+use Rattle.uca_fingerprint_runs.specs.SummedFiles.{SummedContent, summed_files}
+
+-- the weighting that is asked for, or else the table's, or else shifted (UTS #10, section 4)
+abbrev pub weighting_by : Option Weighting → Option Weighting → Weighting
+weighting_by asked setting = unwrap_or asked (unwrap_or setting Shifted)
+
+-- the fingerprint of what texts are keyed by under files that were summed
+abbrev pub fingerprint_under : Option Weighting → Depth → SummedContent → List ℕ
+fingerprint_under asked depth files = sha256 (fingerprint_text (weighting_by asked files.table.header.setting) depth files.table_sum files.data_sum)
+
+-- its line: lower-case hexadecimal digits and LF
+abbrev pub fingerprint_line : Option Weighting → Depth → SummedContent → List ℕ
+fingerprint_line asked depth files = encode_lower (fingerprint_under asked depth files) ++ 10 ∷ []
+
+-- a text is written by a writer that had `begun` and has `now`, or as much of it as an error of the writer leaves
+abbrev pub WritesText : {A : Type 0} → List ℕ → Option (List ℕ) → Option (List ℕ) → Result A RunFault → Type 0
+WritesText text begun now (Ok x) = Appends begun now text
+WritesText text begun now (Err (Write written)) = PartWentOut begun now text written
+WritesText text begun now (Err _) = ⊥
+
+-- A run of fingerprint: what it writes if the bytes of its files are known. And for any files and output, when nothing is
+-- written, and what has failed.
+pub record PrintsFingerprint {A : Type 0} (asked : Option Weighting) (depth : Depth) (olds news : List SourceState) (out out_new : SinkState)
+    (result : Result A RunFault) : Type 0 where
+  pub runs : Over summed_files olds news (λ files. WritesText (fingerprint_line asked depth files) out.contents out_new.contents result) result
+  pub nothing_written : ended_before_output result ≡ true → out_new ≡ out
+  pub failed : HaveFailed table_and_data_roles olds news result
+  pub out_failed : out_new.failed ≡ (out.failed || ended_by_output result)

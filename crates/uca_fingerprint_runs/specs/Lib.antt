@@ -1,0 +1,2 @@
+pub mod FingerprintRun
+pub mod SummedFiles

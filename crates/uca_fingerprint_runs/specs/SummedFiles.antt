@@ -1,0 +1,32 @@
+-- A table and a data file with their sums, as a run reads them.
+use Rattle.std.specs.Prelude.{ℕ, List}
+use Rattle.uca_values.specs.Content.{Properties, TableContent}
+use Rattle.uca_table.specs.DataSoFar as data_files
+use Rattle.uca_table.specs.TableLines as tables
+use Rattle.uca_run_parts.specs.declared.faults.Role.TheVariants as roles
+use Rattle.uca_run_parts.specs.Files.{OfLines, Reading, Done, Then}
+use Rattle.uca_summed_files.specs.Sums.{MeansSummed}
+
+-- what both files mean, and the SHA-256 of the bytes of each
+pub record SummedContent : Type 0 where
+  pub table : TableContent
+  pub table_sum : List ℕ
+  pub properties : Properties
+  pub data_sum : List ℕ
+
+-- the same from what each of them gives
+abbrev pub summed_with : TableContent × List ℕ → Properties × List ℕ → SummedContent
+summed_with table properties = record { table = table.0; table_sum = table.1; properties = properties.0; data_sum = properties.1 }
+
+-- the table alone
+abbrev pub summed_table : Reading (TableContent × List ℕ)
+summed_table = Then roles.Table (MeansSummed tables.Means) (OfLines tables.Refuses) Done
+
+-- the data file alone
+abbrev pub summed_data : Reading (Properties × List ℕ)
+summed_data = Then roles.Data (MeansSummed data_files.Means) (OfLines data_files.Refuses) Done
+
+-- the table, and then the data file
+abbrev pub summed_files : Reading SummedContent
+summed_files = Then roles.Table (MeansSummed tables.Means) (OfLines tables.Refuses)
+    (λ table. Then roles.Data (MeansSummed data_files.Means) (OfLines data_files.Refuses) (λ properties. Done (summed_with table properties)))
