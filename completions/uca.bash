@@ -23,7 +23,7 @@ _uca_options_of() {
     case $1 in
         '') echo "-h --help -V --version" ;;
         keys) echo "--weighting --identical --lines -h --help" ;;
-        sort | compare | rekey) echo "--weighting --identical -h --help" ;;
+        sort | compare | rekey | fingerprint) echo "--weighting --identical -h --help" ;;
         affected) echo "--changes -h --help" ;;
         check | tailor | audit | changes | audit-changes) echo "-h --help" ;;
     esac
@@ -32,7 +32,7 @@ _uca_options_of() {
 _uca_file_count() {
     case $1 in
         rekey) echo 1 ;;
-        check | keys | sort | compare | affected) echo 2 ;;
+        check | keys | sort | compare | affected | fingerprint) echo 2 ;;
         tailor) echo 4 ;;
         audit | changes) echo 5 ;;
         audit-changes) echo 6 ;;
@@ -60,7 +60,7 @@ _uca_read() {
 
 _uca() {
     local current=${COMP_WORDS[COMP_CWORD]} before=" ${COMP_WORDS[*]:0:COMP_CWORD} " command count ended
-    local commands="check keys sort compare tailor audit affected changes audit-changes rekey help"
+    local commands="check keys sort compare tailor audit affected changes audit-changes rekey fingerprint help"
     local weightings="non-ignorable shifted"
     COMPREPLY=()
     _uca_read

@@ -33,7 +33,7 @@ function __uca_wants_file
 end
 
 complete -c uca -f
-complete -c uca -n 'not __uca_has_command check keys sort compare tailor audit affected changes audit-changes rekey help' -s V -l version -d 'Print the version'
+complete -c uca -n 'not __uca_has_command check keys sort compare tailor audit affected changes audit-changes rekey fingerprint help' -s V -l version -d 'Print the version'
 complete -c uca -n 'not __uca_has_command help' -s h -l help -d 'Print help'
 
 complete -c uca -n __fish_use_subcommand -a check -d 'Say whether a weight table is well-formed'
@@ -46,16 +46,17 @@ complete -c uca -n __fish_use_subcommand -a affected -d 'Print the lines of stan
 complete -c uca -n __fish_use_subcommand -a changes -d 'Find what changes from an old weight table to a new one'
 complete -c uca -n __fish_use_subcommand -a audit-changes -d 'Say whether changes and their certificate are right'
 complete -c uca -n __fish_use_subcommand -a rekey -d 'Mend the stored keys on standard input by a certificate'
+complete -c uca -n __fish_use_subcommand -a fingerprint -d 'Print the fingerprint of what keys are made by'
 complete -c uca -n __fish_use_subcommand -a help -d 'Print the help of a command'
-complete -c uca -n '__uca_wants_file 1 help' -a 'check keys sort compare tailor audit affected changes audit-changes rekey help'
+complete -c uca -n '__uca_wants_file 1 help' -a 'check keys sort compare tailor audit affected changes audit-changes rekey fingerprint help'
 
-complete -c uca -n '__uca_has_command keys sort compare rekey' -l weighting -x -a 'non-ignorable shifted' -d 'How spaces and punctuation count'
-complete -c uca -n '__uca_wants_option identical keys sort compare rekey' -l identical -d 'Order texts of equal weight by their code points'
+complete -c uca -n '__uca_has_command keys sort compare rekey fingerprint' -l weighting -x -a 'non-ignorable shifted' -d 'How spaces and punctuation count'
+complete -c uca -n '__uca_wants_option identical keys sort compare rekey fingerprint' -l identical -d 'Order texts of equal weight by their code points'
 complete -c uca -n '__uca_wants_option lines keys' -l lines -d 'Print the line after its key'
 complete -c uca -n '__uca_wants_option changes affected' -l changes -d 'Take a file of changes in place of rules'
 
 complete -c uca -n '__uca_wants_file 1 rekey' -F
-complete -c uca -n '__uca_wants_file 2 check keys sort compare affected' -F
+complete -c uca -n '__uca_wants_file 2 check keys sort compare affected fingerprint' -F
 complete -c uca -n '__uca_wants_file 4 tailor' -F
 complete -c uca -n '__uca_wants_file 5 audit changes' -F
 complete -c uca -n '__uca_wants_file 6 audit-changes' -F

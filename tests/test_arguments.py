@@ -5,7 +5,7 @@ import random
 from program import DATA, TABLE, ProgramTest
 
 HELP = os.path.join(os.path.dirname(os.path.realpath(__file__)), "help")
-COMMANDS = ["check", "keys", "sort", "compare", "tailor", "audit", "affected", "changes", "audit-changes", "rekey"]
+COMMANDS = ["check", "keys", "sort", "compare", "tailor", "audit", "affected", "changes", "audit-changes", "rekey", "fingerprint"]
 MORE = "For more information, try '--help'.\n"
 
 
@@ -63,6 +63,8 @@ class Help(ProgramTest):
             ("sort --lines t d", unexpected("--lines", sort)),
             ("changes --changes o d n e c", unexpected("--changes", changes)),
             ("rekey --lines c", unexpected("--lines", "rekey [OPTIONS] <CERTIFICATE>")),
+            ("fingerprint t", missing("DATA", "fingerprint <TABLE> <DATA>")),
+            ("fingerprint --lines t d", unexpected("--lines", "fingerprint [OPTIONS] <TABLE> <DATA>")),
             ("sort --weighting x --weighting x t d", twice("--weighting <W>", sort)),
             ("sort --identical --identical t d", twice("--identical", sort)),
             ("affected --changes --changes d c", twice("--changes", affected)),
@@ -87,6 +89,7 @@ class Model:
         "changes": (5, []),
         "audit-changes": (6, []),
         "rekey": (1, ["--weighting", "--identical"]),
+        "fingerprint": (2, ["--weighting", "--identical"]),
     }
 
     def __init__(self, line):
@@ -136,9 +139,10 @@ affected d r
 affected --changes d h
 changes b d t d c
 audit-changes b d t d h c
-rekey --weighting shifted c --identical""".splitlines()
+rekey --weighting shifted c --identical
+fingerprint --identical t --weighting=shifted d""".splitlines()
 
-PUT_IN = """check keys sort compare tailor audit affected changes audit-changes rekey help order t - -- ---
+PUT_IN = """check keys sort compare tailor audit affected changes audit-changes rekey fingerprint help order t - -- ---
 --weighting --weighting= --weighting=shifted --weightings shifted non-ignorable Shifted --identical --identical= --lines --linest
 --changes --changes= --change -i -h --help -V --version é =""".split()
 

@@ -61,6 +61,8 @@ LINES = [
     ("uca audit-changes table.txt data.txt table.txt data.txt new newer ", set()),
     ("uca rekey --weighting shifted ", FILES),
     ("uca rekey new ", set()),
+    ("uca fingerprint --identical table.txt ", FILES),
+    ("uca fingerprint table.txt data.txt ", set()),
     ("uca sort table.txt data.txt < ", FILES),
     ("uca keys -- table.txt ", FILES),
     ("uca help ke", {"keys"}),

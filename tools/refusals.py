@@ -52,6 +52,7 @@ ROLES = {
     "changes": ("old", "old-data", "new", "new-data"),
     "audit-changes": ("old", "old-data", "new", "new-data", "changes", "certificate"),
     "rekey": ("certificate", "input"),
+    "fingerprint": ("table", "data"),
 }
 
 # Each command line, the file of its standard input if it reads one, and what must be among the lines of its failed
@@ -85,6 +86,7 @@ CASES = (
     ("affected --changes new_data.txt changes.txt", "affected.txt", ""),
     ("rekey images.txt", "stored.txt", ""),
     ("rekey images.txt", "wrong.txt", ""),
+    ("fingerprint --identical table.txt data.txt", None, ""),
     ("sort table.txt missing.txt", None, ""),
     ("tailor --help", None, "memory\n"),
     ("keys --weighting none table.txt data.txt", None, "memory\n"),

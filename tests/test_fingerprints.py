@@ -1,0 +1,98 @@
+"""`uca fingerprint`: the SHA-256 of a text that names what keys are made by."""
+import hashlib
+
+from program import DATA, TABLE, TOP, ProgramTest
+
+# What `sha256sum` printed of the text for examples/table.txt and examples/data.txt, after it had printed the sum of each.
+VALUES = [
+    ("", "e7f57a6e4d62231e80b6600c0dd402ad409c5ac624c44f4db1e4265ba4627407"),
+    ("--identical", "57aa1a1867dcae884148b2d4e0179b55e2e76aa563c2a47ef2441b2d030252ec"),
+    ("--weighting non-ignorable", "5126fb54de1f1f4e6954a78b739662995c7e533e1dfd15a14a43e96d36545cd1"),
+    ("--identical --weighting non-ignorable", "ee2df62493dacb2a89b38ad344000dd14ad965b91dca7e249d5a4a7724c9fa1c"),
+]
+
+SETTINGS = [(weighting, depth) for weighting in ("shifted", "non-ignorable") for depth in ("weights", "identical")]
+
+
+def fingerprint(table, data, weighting, depth):
+    """The line that is printed, worked out from docs/FORMATS.md."""
+
+    def digits(file):
+        return hashlib.sha256(file.encode()).hexdigest()
+
+    made_by = ["uca keys 1", "unicode 18.0.0", f"weighting {weighting}", f"depth {depth}", f"table {digits(table)}", f"data {digits(data)}"]
+    return digits("".join(line + "\n" for line in made_by)) + "\n"
+
+
+def options_of(weighting, depth):
+    return ["--weighting", weighting] + ["--identical"] * (depth == "identical")
+
+
+def example(name):
+    with open(f"{TOP}/examples/{name}", encoding="utf-8", newline="") as file:
+        return file.read()
+
+
+class Fingerprints(ProgramTest):
+    def test_values_of_sha256sum(self):
+        self.write(t=example("table.txt"), d=example("data.txt"))
+        for options, printed in VALUES:
+            self.expect(f"fingerprint {options} t d", out=printed + "\n")
+
+    def test_settings(self):
+        """Each weighting and each depth has a fingerprint of its own."""
+        self.write(t=TABLE, d=DATA)
+        for weighting, depth in SETTINGS:
+            self.expect(["fingerprint", *options_of(weighting, depth), "t", "d"], out=fingerprint(TABLE, DATA, weighting, depth))
+        self.assertEqual(len({fingerprint(TABLE, DATA, *setting) for setting in SETTINGS}), 4)
+
+    def test_the_weighting_that_holds(self):
+        """The one that is asked for, or else the table's, or else shifted."""
+        for setting in "", "non-ignorable", "shifted":
+            table = TABLE.replace("@version 1\n", f"@version 1\n@variable {setting}\n" if setting else "@version 1\n")
+            self.write(t=table, d=DATA)
+            for asked in "", "non-ignorable", "shifted":
+                options = f"--weighting {asked}" if asked else ""
+                out = fingerprint(table, DATA, asked or setting or "shifted", "weights")
+                self.expect(f"fingerprint {options} t d", out=out)
+
+    def test_bytes_that_mean_nothing(self):
+        """Comments, empty lines and blanks count, and files of many sizes are read to their ends."""
+        for more in "# a comment\n", "\n", " \t\n", "#" * 63 + "\n", "# é\n" * 30000:
+            table, data = TABLE + more, DATA + more
+            self.write(t=table, d=DATA)
+            self.expect("fingerprint t d", out=fingerprint(table, DATA, "shifted", "weights"))
+            self.write(t=TABLE, d=data)
+            self.expect("fingerprint t d", out=fingerprint(TABLE, data, "shifted", "weights"))
+
+    def test_files_that_are_rejected(self):
+        """The table is read first. Nothing is printed."""
+        bad = "@data 2\n"
+        for table, data, said in [
+            (TABLE + "0061 ; [.1C47.0020.0002]\n", bad, f"table line {TABLE.count(chr(10)) + 1}: DuplicateKey\n"),
+            ("", bad, "table line 1: Order\n"),
+            (TABLE[:-1], bad, f"table line {TABLE.count(chr(10))}: Line\n"),
+            (TABLE, bad, "data line 1: Order\n"),
+            (TABLE, "", "data line 1: Order\n"),
+            (TABLE, DATA[:-1], f"data line {DATA.count(chr(10))}: Line\n"),
+        ]:
+            self.write(t=table, d=data)
+            self.expect("fingerprint t d", status=1, err=said)
+
+    def test_files_that_do_not_open(self):
+        self.write(t=TABLE, d=DATA)
+        self.expect("fingerprint none d", status=3, err="table: Open\n")
+        self.expect("fingerprint t none", status=3, err="data: Open\n")
+        self.expect("fingerprint . d", status=3, err="table line 1: Read\n")
+
+    def test_a_file_without_an_end(self):
+        """A device that never ends is rejected at its first line, which has no LF, and takes no memory."""
+        self.write(t=TABLE, d=DATA)
+        self.expect("fingerprint /dev/zero d", status=1, err="table line 1: Limit\n")
+        self.expect("fingerprint t /dev/zero", status=1, err="data line 1: Limit\n")
+
+    def test_an_output_that_fails(self):
+        self.write(t=TABLE, d=DATA)
+        with open("/dev/full", "wb") as full:
+            ended = self.run_uca("fingerprint", "t", "d", stdout=full)
+        self.assertEqual((ended.status, ended.err), (3, b"output: Write\n"))
