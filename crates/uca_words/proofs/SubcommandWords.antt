@@ -15,8 +15,8 @@ use Rattle.clap.proofs.OnLiterals.{clap_on_literals}
 use Rattle.uca_words.specs.declared.WordFault.{WordFault}
 use Rattle.uca_words.specs.declared.Words.{Words}
 use Rattle.uca_words.specs.Command.{StandsFor, uca_app}
-use Rattle.uca_words.specs.Met.{IsWeightingFault, has_words, is_met}
-use Rattle.uca_words.specs.Words.{AreRead, AskForOtherWeighting, IsFaultOf, SayWords, Says, refused, refused_by_kind}
+use Rattle.uca_words.specs.Met.{IsValueFault, has_words, is_met}
+use Rattle.uca_words.specs.Words.{AreRead, AskForOtherFingerprints, AskForOtherWeighting, IsFaultOf, SayWords, Says, refused, refused_by_kind}
 use Rattle.uca_words.proofs.Taken.{taken}
 
 -- clap's specification gives the matches of this command
@@ -77,10 +77,11 @@ pub reads : (words : List Text) (met : Met) (o : Result Words WordFault) → Mee
 reads words met (Ok said) meet says = (meet.passes, subst (λ p. SayWords p said) (sym meet.is) says)
 reads words met (Err fault) meet says = tt
 
-pub names_none : (words : List Text) (met : Met) (o : Result Words WordFault) → Meets words met → IfErr o (IsWeightingFault (rows_met met))
+pub names_none : (words : List Text) (met : Met) (o : Result Words WordFault) → Meets words met → IfErr o (IsValueFault (rows_met met))
     → IfErr o (IsFaultOf words)
 names_none words met (Ok said) meet other = tt
-names_none words met (Err fault) meet other = subst (IsFaultOf words) (sym other.0) (meet.passes, subst AskForOtherWeighting (sym meet.is) other.1)
+names_none words met (Err fault) meet (inl other) = subst (IsFaultOf words) (sym other.0) (meet.passes, subst AskForOtherWeighting (sym meet.is) other.1)
+names_none words met (Err fault) meet (inr other) = subst (IsFaultOf words) (sym other.0) (meet.passes, subst AskForOtherFingerprints (sym meet.is) other.1)
 
 -- an error of the command
 pub refuses : (command : Command) (words : List Text) (error : Error) → StandsFor uca_app command → (takes (app_of command) words ≡ true → kind_of error ≡ OutOfMemory)

@@ -10,9 +10,9 @@ use Rattle.clap.specs.Simple.{on_top}
 abbrev pub word_rule : Text → Rule
 word_rule id = record (new_rule id) { required = true; value_names = 1 }
 
--- `--weighting W`
-abbrev pub weighting_rule : Rule
-weighting_rule = record (new_rule (codes "weighting")) { long = Some (codes "weighting"); value_names = 1 }
+-- an option with a value, such as `--weighting W`
+abbrev pub value_rule : Text → Rule
+value_rule id = record (new_rule id) { long = Some id; value_names = 1 }
 
 -- an option without a value, such as `--identical`
 abbrev pub flag_rule : Text → Rule
@@ -24,7 +24,7 @@ with_files app = with_rule (with_rule app (word_rule (codes "table"))) (word_rul
 
 -- `[--weighting W] [--identical]` come next
 abbrev pub with_settings : App → App
-with_settings app = with_rule (with_rule app weighting_rule) (flag_rule (codes "identical"))
+with_settings app = with_rule (with_rule app (value_rule (codes "weighting"))) (flag_rule (codes "identical"))
 
 -- `[--weighting W] [--identical] TABLE DATA` come next
 abbrev pub with_options : App → App
@@ -33,9 +33,9 @@ with_options app = with_files (with_settings app)
 abbrev pub check_app : App
 check_app = with_files (new_app (codes "check"))
 
--- `keys [--weighting W] [--identical] [--lines] TABLE DATA`
+-- `keys [--weighting W] [--identical] [--lines] [--header] TABLE DATA`
 abbrev pub keys_app : App
-keys_app = with_rule (with_options (new_app (codes "keys"))) (flag_rule (codes "lines"))
+keys_app = with_rule (with_rule (with_options (new_app (codes "keys"))) (flag_rule (codes "lines"))) (flag_rule (codes "header"))
 
 abbrev pub sort_app : App
 sort_app = with_options (new_app (codes "sort"))
@@ -71,9 +71,9 @@ changes_app = with_rule (with_editions (new_app (codes "changes"))) (word_rule (
 abbrev pub audit_changes_app : App
 audit_changes_app = with_rule (with_rule (with_editions (new_app (codes "audit-changes"))) (word_rule (codes "changes"))) (word_rule (codes "certificate"))
 
--- `rekey [--weighting W] [--identical] CERTIFICATE`
+-- `rekey [--weighting W] [--identical] [--from FINGERPRINT] [--to FINGERPRINT] CERTIFICATE`
 abbrev pub rekey_app : App
-rekey_app = with_rule (with_settings (new_app (codes "rekey"))) (word_rule (codes "certificate"))
+rekey_app = with_rule (with_rule (with_rule (with_settings (new_app (codes "rekey"))) (value_rule (codes "from"))) (value_rule (codes "to"))) (word_rule (codes "certificate"))
 
 -- `fingerprint [--weighting W] [--identical] TABLE DATA`
 abbrev pub fingerprint_app : App

@@ -1,14 +1,14 @@
 -- What the table of the subcommands says. Only private contracts cite this.
 use Rattle.std.specs.Prelude.{List, fold}
 use Rattle.clap.specs.Words.{App, Rule, new_app, with_rule, with_subcommand}
-use Rattle.uca_words.specs.Command.{word_rule, weighting_rule, flag_rule}
+use Rattle.uca_words.specs.Command.{word_rule, value_rule, flag_rule}
 use Rattle.uca_words.specs.declared.subcommands.Argument.{Argument}
-use Rattle.uca_words.specs.declared.subcommands.Argument.TheVariants.{Word, Weighting, Flag}
+use Rattle.uca_words.specs.declared.subcommands.Argument.TheVariants.{Word, Value, Flag}
 use Rattle.uca_words.specs.declared.subcommands.Subcommand.{Subcommand}
 
 abbrev pub argument_rule : Argument → Rule
 argument_rule (Word id name help) = word_rule id.now
-argument_rule (Weighting help) = weighting_rule
+argument_rule (Value id name help) = value_rule id.now
 argument_rule (Flag id help) = flag_rule id.now
 
 abbrev pub with_argument : App → Argument → App

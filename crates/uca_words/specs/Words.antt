@@ -1,5 +1,6 @@
 -- What the arguments of a subcommand say.
-use Rattle.std.specs.Prelude.{◌≡◌, ◌≢◌, ⊤, true, false, List, [], Option, Some, None, codes, option_map}
+use Rattle.std.specs.Prelude.{◌≡◌, ◌≢◌, ◌⊎◌, ⊤, ℕ, true, false, List, [], Option, Some, None, codes, length, option_map}
+use Rattle.hex.specs.Hex.{IsBytes, encode_lower}
 use Rattle.std.specs.Borrow.{Bor}
 use Rattle.clap.specs.declared.error.Error.{Error}
 use Rattle.clap.specs.declared.error.kind.ErrorKind.{ErrorKind}
@@ -11,11 +12,12 @@ use Rattle.uca_weights.specs.declared.Depth.TheVariants.{Weights, Identical}
 use Rattle.uca_weights.specs.declared.Weighting.{Weighting as WeightingType}
 use Rattle.uca_weights.specs.WeightingText.{weighting_text, IsNoWeighting}
 use Rattle.uca_words.specs.declared.WordFault.{WordFault}
-use Rattle.uca_words.specs.declared.WordFault.TheVariants.{Refused, Weighting, Memory}
+use Rattle.uca_words.specs.declared.WordFault.TheVariants.{Refused, Weighting, Fingerprint, Memory}
 use Rattle.uca_words.specs.Command.{uca_app}
 use Rattle.uca_words.specs.declared.EditionNames.{EditionNames}
+use Rattle.uca_words.specs.declared.Fingerprints.{Fingerprints}
 use Rattle.uca_words.specs.declared.Words.{Words}
-use Rattle.uca_words.specs.declared.Words.TheVariants.{Check, Keys, Sort, Compare, Tailor, Audit, Affected, Changes, AuditChanges, Rekey, Fingerprint}
+use Rattle.uca_words.specs.declared.Words.TheVariants as words
 
 -- `--weighting` is given this value, or is not given
 abbrev pub HasWeighting : List Row → Option WeightingType → Type 0
@@ -25,6 +27,12 @@ HasWeighting rows weighting = first_of (codes "weighting") rows ≡ option_map w
 abbrev pub HasDepth : List Row → Depth → Type 0
 HasDepth rows Identical = is_given (codes "identical") rows ≡ true
 HasDepth rows Weights = is_given (codes "identical") rows ≡ false
+
+-- `--from` and `--to` are given the digits of these fingerprints, or neither is given
+abbrev pub HasFingerprints : List Row → Option Fingerprints → Type 0
+HasFingerprints rows None = (first_of (codes "from") rows ≡ None) × (first_of (codes "to") rows ≡ None)
+HasFingerprints rows (Some given) =
+    (first_of (codes "from") rows ≡ Some (encode_lower given.from)) × (first_of (codes "to") rows ≡ Some (encode_lower given.to))
 
 -- the argument of this name is this one
 abbrev pub HasWord : List Row → Text → Bor Text → Type 0
@@ -41,32 +49,33 @@ HasEditions rows names =
 
 -- the subcommand of this name, with these rows of its arguments, says these `Words`
 abbrev pub Says : Text → List Row → Words → Type 0
-Says name rows (Check words) = (name ≡ codes "check") × HasFiles rows words.table words.properties
-Says name rows (Keys words) =
+Says name rows (words.Check words) = (name ≡ codes "check") × HasFiles rows words.table words.properties
+Says name rows (words.Keys words) =
     (name ≡ codes "keys") × HasWeighting rows words.weighting × HasDepth rows words.depth × (is_given (codes "lines") rows ≡ words.lines)
-    × HasFiles rows words.table words.properties
-Says name rows (Sort words) =
+    × (is_given (codes "header") rows ≡ words.header) × HasFiles rows words.table words.properties
+Says name rows (words.Sort words) =
     (name ≡ codes "sort") × HasWeighting rows words.weighting × HasDepth rows words.depth × HasFiles rows words.table words.properties
-Says name rows (Compare words) =
+Says name rows (words.Compare words) =
     (name ≡ codes "compare") × HasWeighting rows words.weighting × HasDepth rows words.depth × HasFiles rows words.table words.properties
     × HasWord rows (codes "left") words.left × HasWord rows (codes "right") words.right
-Says name rows (Tailor words) =
+Says name rows (words.Tailor words) =
     (name ≡ codes "tailor") × HasFiles rows words.table words.properties × HasWord rows (codes "rules") words.rules
     × HasWord rows (codes "certificate") words.certificate
-Says name rows (Audit words) =
+Says name rows (words.Audit words) =
     (name ≡ codes "audit") × HasWord rows (codes "base") words.base × HasWord rows (codes "data") words.properties × HasWord rows (codes "rules") words.rules
     × HasWord rows (codes "tailored") words.tailored × HasWord rows (codes "certificate") words.certificate
-Says name rows (Affected words) =
+Says name rows (words.Affected words) =
     (name ≡ codes "affected") × (is_given (codes "changes") rows ≡ words.changes) × HasWord rows (codes "data") words.properties
     × HasWord rows (codes "rules") words.rules
-Says name rows (Changes words) =
+Says name rows (words.Changes words) =
     (name ≡ codes "changes") × HasEditions rows words.editions × HasWord rows (codes "certificate") words.certificate
-Says name rows (AuditChanges words) =
+Says name rows (words.AuditChanges words) =
     (name ≡ codes "audit-changes") × HasEditions rows words.editions
     × HasWord rows (codes "changes") words.changes × HasWord rows (codes "certificate") words.certificate
-Says name rows (Rekey words) =
-    (name ≡ codes "rekey") × HasWeighting rows words.weighting × HasDepth rows words.depth × HasWord rows (codes "certificate") words.certificate
-Says name rows (Fingerprint words) =
+Says name rows (words.Rekey words) =
+    (name ≡ codes "rekey") × HasWeighting rows words.weighting × HasDepth rows words.depth × HasFingerprints rows words.fingerprints
+    × HasWord rows (codes "certificate") words.certificate
+Says name rows (words.Fingerprint words) =
     (name ≡ codes "fingerprint") × HasWeighting rows words.weighting × HasDepth rows words.depth × HasFiles rows words.table words.properties
 
 -- the subcommand that was met, with the rows of its arguments, says these `Words`
@@ -82,7 +91,26 @@ IsOtherWeighting (Some text) = IsNoWeighting text
 abbrev pub HasOtherWeighting : List Row → Type 0
 HasOtherWeighting rows = IsOtherWeighting (first_of (codes "weighting") rows)
 
+-- the text has the digits of no fingerprint
+abbrev pub IsNoFingerprint : Text → Type 0
+IsNoFingerprint text = (sum : List ℕ) → length sum ≡ 32 → IsBytes sum → encode_lower sum ≢ text
+
+-- one of two values is there and not the other, or one of them is no fingerprint
+abbrev pub AreOtherFingerprints : Option Text → Option Text → Type 0
+AreOtherFingerprints None None = ⊥
+AreOtherFingerprints None (Some to) = ⊤
+AreOtherFingerprints (Some from) None = ⊤
+AreOtherFingerprints (Some from) (Some to) = IsNoFingerprint from ⊎ IsNoFingerprint to
+
+-- `--from` and `--to` are given such values
+abbrev pub HasOtherFingerprints : List Row → Type 0
+HasOtherFingerprints rows = AreOtherFingerprints (first_of (codes "from") rows) (first_of (codes "to") rows)
+
 -- so it is of the subcommand that was met
+abbrev pub AskForOtherFingerprints : Option (Text × List Row) → Type 0
+AskForOtherFingerprints None = ⊥
+AskForOtherFingerprints (Some met) = HasOtherFingerprints met.1
+
 abbrev pub AskForOtherWeighting : Option (Text × List Row) → Type 0
 AskForOtherWeighting None = ⊥
 AskForOtherWeighting (Some met) = HasOtherWeighting met.1
@@ -92,10 +120,11 @@ abbrev pub AreRead : List Text → Words → Type 0
 AreRead words said = (fault_of uca_app words ≡ []) × SayWords (subcommand_of uca_app words) said
 
 -- What an error says of the arguments. The command has this kind of error at them, and does not take
--- them. Or it has none, and they give a weighting with no known name. Or an allocation failed.
+-- them. Or it has none, and they give a weighting with no known name, or what is no two fingerprints. Or an allocation failed.
 abbrev pub IsFaultOf : List Text → WordFault → Type 0
 IsFaultOf words (Refused error) = IsAmong (kind_of error) (fault_of uca_app words) × (takes uca_app words ≢ true)
 IsFaultOf words Weighting = (fault_of uca_app words ≡ []) × AskForOtherWeighting (subcommand_of uca_app words)
+IsFaultOf words Fingerprint = (fault_of uca_app words ≡ []) × AskForOtherFingerprints (subcommand_of uca_app words)
 IsFaultOf words Memory = ⊤
 
 -- how an error of `clap` is returned

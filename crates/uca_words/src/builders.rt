@@ -24,9 +24,9 @@ fn described<'a>(alloc: Global, argument: Argument<'a>) -> Arg<'a>
             .required(true)
             .value_name(name)
             .help(help),
-        Argument::Weighting { help } => Arg::new(alloc, "weighting")
-            .long("weighting")
-            .value_name("W")
+        Argument::Value { id, name, help } => Arg::new(alloc, id)
+            .long(id)
+            .value_name(name)
             .help(help),
         Argument::Flag { id, help } => Arg::new(alloc, id)
             .long(id)

@@ -7,17 +7,19 @@
 //!   where `--changes` is.
 //! - `Refused` has an error of a kind that the specification gives for the arguments. It is never returned for arguments
 //!   that the command accepts.
-//! - `Weighting` is returned only for arguments that the command accepts and whose weighting has no known name.
+//! - `Weighting` is returned only for arguments that the command accepts and whose weighting has no known name, and `Fingerprint`
+//!   only for such arguments whose values of `--from` and `--to` are not two fingerprints.
 //! - No contract says when an allocation fails, or what the text of an error is. Tests compare the whole texts.
 #![tactic(auto)]
 
-ghost use Rattle.std.specs.Prelude.{◌≡◌, Some, IfOk, IfErr, IfSome, IfNone, true, is_some, codes, option_map};
+ghost use Rattle.std.specs.Prelude.{◌≡◌, ◌⊎◌, Some, IfOk, IfErr, IfSome, IfNone, MatchOption, true, is_some, codes, option_map};
+ghost use Rattle.hex.specs.Hex.{encode_lower};
 ghost use Rattle.clap.specs.Words.{found_of, rows_of, first_of};
 ghost use Rattle.clap.specs.Takes.{is_given};
 ghost use Rattle.clap.specs.Walk.{texts};
 ghost use Rattle.uca_words.specs.Command.{check_app, keys_app, sort_app, compare_app, tailor_app, audit_app, affected_app, changes_app, audit_changes_app, rekey_app, fingerprint_app};
-ghost use Rattle.uca_words.specs.Met.{has_words, is_met, IsWeightingFault};
-ghost use Rattle.uca_words.specs.Words.{HasEditions, HasFiles, HasWord, HasWeighting, HasDepth, Says, AreRead, IsFaultOf};
+ghost use Rattle.uca_words.specs.Met.{has_words, is_met, IsFingerprintFault, IsValueFault, IsWeightingFault};
+ghost use Rattle.uca_words.specs.Words.{HasEditions, HasFiles, HasFingerprints, HasWord, HasWeighting, HasDepth, IsNoFingerprint, Says, AreRead, IsFaultOf};
 
 mod builders;
 mod subcommands;
@@ -28,6 +30,7 @@ use clap::error::ErrorKind;
 use clap::parser::ValueSource;
 use std::alloc::{AllocError, Global};
 use thiserror::Error;
+use uca_fingerprint::fingerprint_of_digits;
 use uca_weights::{Depth, Weighting};
 
 /// The arguments of a command line.
@@ -35,7 +38,7 @@ use uca_weights::{Depth, Weighting};
 pub enum Words<'a> {
     /// `check TABLE DATA`: say whether a weight table is well-formed.
     Check(CheckWords<'a>),
-    /// `keys [--weighting W] [--identical] [--lines] TABLE DATA`: print the sort key of each line of standard input.
+    /// `keys [--weighting W] [--identical] [--lines] [--header] TABLE DATA`: print the sort key of each line of standard input.
     Keys(KeysWords<'a>),
     /// `sort [--weighting W] [--identical] TABLE DATA`: sort the lines of standard input.
     Sort(SortWords<'a>),
@@ -52,8 +55,8 @@ pub enum Words<'a> {
     Changes(ChangesWords<'a>),
     /// `audit-changes OLD OLD-DATA NEW NEW-DATA CHANGES CERTIFICATE`: say whether changes and their certificate are right.
     AuditChanges(AuditChangesWords<'a>),
-    /// `rekey [--weighting W] [--identical] CERTIFICATE`: put the key of each line of standard input through the maps of a
-    /// certificate.
+    /// `rekey [--weighting W] [--identical] [--from FINGERPRINT] [--to FINGERPRINT] CERTIFICATE`: put the key of each line of
+    /// standard input through the maps of a certificate.
     Rekey(RekeyWords<'a>),
     /// `fingerprint [--weighting W] [--identical] TABLE DATA`: print the fingerprint of what keys are made by.
     Fingerprint(FingerprintWords<'a>),
@@ -77,6 +80,8 @@ pub struct KeysWords<'a> {
     pub depth: Depth,
     /// Whether the line is printed after its key: `--lines` is given.
     pub lines: bool,
+    /// Whether a first line says what made the keys: `--header` is given.
+    pub header: bool,
     /// The name of the table file.
     pub table: &'a str,
     /// The name of the data file.
@@ -185,6 +190,15 @@ pub struct AuditChangesWords<'a> {
     pub certificate: &'a str,
 }
 
+/// The fingerprints of what old keys were made by, and of what new ones are made by.
+#[derive(Clone, Copy, Debug)]
+pub struct Fingerprints {
+    /// The value of `--from`, as bytes.
+    pub from: [u8; 32],
+    /// The value of `--to`, as bytes.
+    pub to: [u8; 32],
+}
+
 /// The arguments of `rekey`.
 #[derive(Clone, Copy, Debug)]
 pub struct RekeyWords<'a> {
@@ -192,6 +206,8 @@ pub struct RekeyWords<'a> {
     pub weighting: Option<Weighting>,
     /// The depth that made the keys: `Identical` if `--identical` is given.
     pub depth: Depth,
+    /// The fingerprints of the old header and of the new one: `--from` and `--to` are given.
+    pub fingerprints: Option<Fingerprints>,
     /// The name of the file of the certificate.
     pub certificate: &'a str,
 }
@@ -218,6 +234,9 @@ pub enum WordFault {
     /// The value of `--weighting` is neither `non-ignorable` nor `shifted`.
     #[error("weighting: unknown")]
     Weighting,
+    /// A value of `--from` or `--to` is no fingerprint, or only one of the two is given.
+    #[error("fingerprint: unknown")]
+    Fingerprint,
     /// An allocation failed.
     #[error("memory")]
     Memory,
@@ -277,6 +296,40 @@ fn given_weighting(found: &ArgMatches) -> Result<Option<Weighting>, WordFault>
     }
 }
 
+// The fingerprints that are given.
+fn given_fingerprints(found: &ArgMatches) -> Result<Option<Fingerprints>, WordFault>
+    ensures ok { IfOk result (HasFingerprints (rows_of (found_of found.now))) }
+    ensures err { IfErr result (IsFingerprintFault (rows_of (found_of found.now))) }
+{
+    let Some(from) = value_of(found, "from") else {
+        return match value_of(found, "to") {
+            None => Ok(None),
+            Some(_) => Err(WordFault::Fingerprint),
+        };
+    };
+    match value_of(found, "to") {
+        Some(to) => match fingerprints_of(from, to) {
+            Some(given) => Ok(Some(given)),
+            None => Err(WordFault::Fingerprint),
+        },
+        None => Err(WordFault::Fingerprint),
+    }
+}
+
+// The fingerprints of these digits.
+fn fingerprints_of(from: &str, to: &str) -> Option<Fingerprints>
+    ensures { MatchOption result (IsNoFingerprint from.now ⊎ IsNoFingerprint to.now)
+        (λ given. (encode_lower given.from ≡ from.now) × (encode_lower given.to ≡ to.now)) }
+{
+    match fingerprint_of_digits(from) {
+        Some(from) => match fingerprint_of_digits(to) {
+            Some(to) => Some(Fingerprints { from, to }),
+            None => None,
+        },
+        None => None,
+    }
+}
+
 // Whether the command line has this argument. Its default does not count; a value without a source does.
 fn is_in_words(found: &ArgMatches, id: &str) -> bool
     ensures { result ≡ is_given id.now (rows_of (found_of found.now)) }
@@ -324,6 +377,7 @@ fn keys_words<'a>(found: &ArgMatches<'a>, weighting: Option<Weighting>) -> Words
         weighting,
         depth: given_depth(found),
         lines: is_in_words(found, "lines"),
+        header: is_in_words(found, "header"),
         table,
         properties,
     })
@@ -428,13 +482,19 @@ fn audit_changes_words<'a>(found: &ArgMatches<'a>) -> Words<'a>
     })
 }
 
-fn rekey_words<'a>(found: &ArgMatches<'a>, weighting: Option<Weighting>) -> Words<'a>
+fn rekey_words<'a>(
+    found: &ArgMatches<'a>,
+    weighting: Option<Weighting>,
+    fingerprints: Option<Fingerprints>,
+) -> Words<'a>
     requires { has_words rekey_app (rows_of (found_of found.now)) ≡ true }
-    ensures { HasWeighting (rows_of (found_of found.now)) weighting → Says (codes "rekey") (rows_of (found_of found.now)) result }
+    ensures { HasWeighting (rows_of (found_of found.now)) weighting → HasFingerprints (rows_of (found_of found.now)) fingerprints →
+        Says (codes "rekey") (rows_of (found_of found.now)) result }
 {
     Words::Rekey(RekeyWords {
         weighting,
         depth: given_depth(found),
+        fingerprints,
         certificate: word_of(found, "certificate"),
     })
 }
@@ -452,14 +512,16 @@ fn fingerprint_words<'a>(found: &ArgMatches<'a>, weighting: Option<Weighting>) -
     })
 }
 
-// The arguments of the subcommand of this name, with the weighting that is given.
+// The arguments of the subcommand of this name, with the weighting and the fingerprints that are given.
 fn subcommand_words<'a>(
     name: &str,
     found: &ArgMatches<'a>,
     weighting: Option<Weighting>,
+    fingerprints: Option<Fingerprints>,
 ) -> Words<'a>
     requires { is_met name.now (rows_of (found_of found.now)) ≡ true }
-    ensures { HasWeighting (rows_of (found_of found.now)) weighting → Says name.now (rows_of (found_of found.now)) result }
+    ensures { HasWeighting (rows_of (found_of found.now)) weighting → HasFingerprints (rows_of (found_of found.now)) fingerprints →
+        Says name.now (rows_of (found_of found.now)) result }
 {
     match name {
         "check" => check_words(found),
@@ -471,20 +533,23 @@ fn subcommand_words<'a>(
         "affected" => affected_words(found),
         "changes" => changes_words(found),
         "audit-changes" => audit_changes_words(found),
-        "rekey" => rekey_words(found, weighting),
+        "rekey" => rekey_words(found, weighting, fingerprints),
         "fingerprint" => fingerprint_words(found, weighting),
         _ => unreachable!(),
     }
 }
 
-// The same, or the error of the weighting. A subcommand without `--weighting` is given none.
+// The same, or the error of a value. A subcommand without `--weighting` is given none, and one without `--from` no fingerprints.
 fn words_of<'a>(name: &str, found: &ArgMatches<'a>) -> Result<Words<'a>, WordFault>
     requires { is_met name.now (rows_of (found_of found.now)) ≡ true }
     ensures ok { IfOk result (Says name.now (rows_of (found_of found.now))) }
-    ensures err { IfErr result (IsWeightingFault (rows_of (found_of found.now))) }
+    ensures err { IfErr result (IsValueFault (rows_of (found_of found.now))) }
 {
     match given_weighting(found) {
-        Ok(weighting) => Ok(subcommand_words(name, found, weighting)),
+        Ok(weighting) => match given_fingerprints(found) {
+            Ok(fingerprints) => Ok(subcommand_words(name, found, weighting, fingerprints)),
+            Err(fault) => Err(fault),
+        },
         Err(fault) => Err(fault),
     }
 }
@@ -496,6 +561,7 @@ fn words_of<'a>(name: &str, found: &ArgMatches<'a>) -> Result<Words<'a>, WordFau
 ///
 /// - `Refused`: `clap` rejects the arguments, or help or the version is asked for. It has the error of `clap`.
 /// - `Weighting`: `clap` accepts the arguments, and the value of `--weighting` is not known.
+/// - `Fingerprint`: `clap` accepts the arguments, and the values of `--from` and `--to` are not two fingerprints.
 /// - `Memory`: an allocation failed.
 pub fn read_words<'a>(alloc: Global, words: &'a [&'a str]) -> Result<Words<'a>, WordFault>
     ensures ok { IfOk result (AreRead (texts words.entry.now)) }

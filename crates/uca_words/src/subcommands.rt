@@ -9,8 +9,10 @@ pub(crate) enum Argument<'a> {
         name: &'a str,
         help: &'a str,
     },
-    /// The option `--weighting W`: its help.
-    Weighting {
+    /// An option with a value: its id, which is its name too, the name of its value, and its help.
+    Value {
+        id: &'a str,
+        name: &'a str,
         help: &'a str,
     },
     /// An option without a value: its id, which is its name too, and its help.
@@ -35,11 +37,15 @@ pub(crate) struct Subcommand<'a> {
     pub(crate) arguments: &'a [Argument<'a>],
 }
 
-const WEIGHTING: Argument<'static> = Argument::Weighting {
+const WEIGHTING: Argument<'static> = Argument::Value {
+    id: "weighting",
+    name: "W",
     help: "non-ignorable or shifted [default: what the table's @variable says, else shifted]",
 };
 
-const MADE_WEIGHTING: Argument<'static> = Argument::Weighting {
+const MADE_WEIGHTING: Argument<'static> = Argument::Value {
+    id: "weighting",
+    name: "W",
     help: "non-ignorable or shifted, as the keys were made [default: shifted]",
 };
 
@@ -56,6 +62,23 @@ const MADE_IDENTICAL: Argument<'static> = Argument::Flag {
 const LINES: Argument<'static> = Argument::Flag {
     id: "lines",
     help: "Print the key without blanks, a tab and the line",
+};
+
+const HEADER: Argument<'static> = Argument::Flag {
+    id: "header",
+    help: "Print a first line that says what made the keys",
+};
+
+const FROM: Argument<'static> = Argument::Value {
+    id: "from",
+    name: "FINGERPRINT",
+    help: "The input has a header with this fingerprint",
+};
+
+const TO: Argument<'static> = Argument::Value {
+    id: "to",
+    name: "FINGERPRINT",
+    help: "Print a header with this fingerprint, that of the new table and data file",
 };
 
 const CHANGED: Argument<'static> = Argument::Flag {
@@ -174,11 +197,13 @@ const KEYS_COMMAND: Subcommand<'static> = Subcommand {
     text: "Prints the sort key (UTS #10, S3) of each line of standard input on a line of its own, in groups\n\
            of four hexadecimal digits. `0000` is between two levels. With `--identical` the code points\n\
            of Normalization Form D follow as one more level, six digits each. With `--lines` each key has no\n\
-           blanks, and after it come a tab and the line: a database or `sort` can read that.",
+           blanks, and after it come a tab and the line: a database or `sort` can read that. With `--header` a\n\
+           first line has the weighting, the depth and the fingerprint. `rekey` tests it, and `sort` in the locale C\n\
+           leaves it first.",
     example: "Examples:\n\
          \x20 uca keys allkeys.txt data.txt < lines.txt\n\
-         \x20 uca keys --lines allkeys.txt data.txt < lines.txt > keyed.tsv",
-    arguments: &[WEIGHTING, IDENTICAL, TABLE, DATA, LINES],
+         \x20 uca keys --lines --header allkeys.txt data.txt < lines.txt > keyed.tsv",
+    arguments: &[WEIGHTING, IDENTICAL, TABLE, DATA, LINES, HEADER],
 };
 
 const SORT_COMMAND: Subcommand<'static> = Subcommand {
@@ -265,9 +290,10 @@ const REKEY_COMMAND: Subcommand<'static> = Subcommand {
     text: "Reads lines as `uca keys` or `uca keys --lines` prints them, and prints each with its key put through\n\
            the maps of CERTIFICATE: each old weight becomes its new one. The rest of the line stays. So a text in\n\
            which no change occurs gets its key under the new table. `--weighting` and `--identical` have to be\n\
-           those that made the keys.",
+           those that made the keys. `--from` and `--to` belong together: the input then begins with a header of\n\
+           that weighting, depth and fingerprint, and so does the output, with the other fingerprint.",
     example: "Example: uca rekey certificate.txt < keyed.tsv > mended.tsv",
-    arguments: &[MADE_WEIGHTING, MADE_IDENTICAL, ANY_CERTIFICATE],
+    arguments: &[MADE_WEIGHTING, MADE_IDENTICAL, FROM, TO, ANY_CERTIFICATE],
 };
 
 const FINGERPRINT_COMMAND: Subcommand<'static> = Subcommand {

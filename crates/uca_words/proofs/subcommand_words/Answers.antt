@@ -70,34 +70,34 @@ pub fingerprint_words-requires : goal.fingerprint_words-requires
 fingerprint_words-requires c = by_name _ (subst (IsMet (rows_of (found_of c.args.found.now))) c.in-fingerprint.is c.requires)
 
 pub returns-in-check : goal.returns-in-check
-returns-in-check c weighs = of_name _ _ (rows_of (found_of c.args.found.now)) _ c.in-check.is c.check_words.ensures
+returns-in-check c weighs prints = of_name _ _ (rows_of (found_of c.args.found.now)) _ c.in-check.is c.check_words.ensures
 
 pub returns-in-keys : goal.returns-in-keys
-returns-in-keys c weighs = of_name _ _ (rows_of (found_of c.args.found.now)) _ c.in-keys.is (c.keys_words.ensures weighs)
+returns-in-keys c weighs prints = of_name _ _ (rows_of (found_of c.args.found.now)) _ c.in-keys.is (c.keys_words.ensures weighs)
 
 pub returns-in-sort : goal.returns-in-sort
-returns-in-sort c weighs = of_name _ _ (rows_of (found_of c.args.found.now)) _ c.in-sort.is (c.sort_words.ensures weighs)
+returns-in-sort c weighs prints = of_name _ _ (rows_of (found_of c.args.found.now)) _ c.in-sort.is (c.sort_words.ensures weighs)
 
 pub returns-in-compare : goal.returns-in-compare
-returns-in-compare c weighs = of_name _ _ (rows_of (found_of c.args.found.now)) _ c.in-compare.is (c.compare_words.ensures weighs)
+returns-in-compare c weighs prints = of_name _ _ (rows_of (found_of c.args.found.now)) _ c.in-compare.is (c.compare_words.ensures weighs)
 
 pub returns-in-tailor : goal.returns-in-tailor
-returns-in-tailor c weighs = of_name _ _ (rows_of (found_of c.args.found.now)) _ c.in-tailor.is c.tailor_words.ensures
+returns-in-tailor c weighs prints = of_name _ _ (rows_of (found_of c.args.found.now)) _ c.in-tailor.is c.tailor_words.ensures
 
 pub returns-in-audit : goal.returns-in-audit
-returns-in-audit c weighs = of_name _ _ (rows_of (found_of c.args.found.now)) _ c.in-audit.is c.audit_words.ensures
+returns-in-audit c weighs prints = of_name _ _ (rows_of (found_of c.args.found.now)) _ c.in-audit.is c.audit_words.ensures
 
 pub returns-in-affected : goal.returns-in-affected
-returns-in-affected c weighs = of_name _ _ (rows_of (found_of c.args.found.now)) _ c.in-affected.is c.affected_words.ensures
+returns-in-affected c weighs prints = of_name _ _ (rows_of (found_of c.args.found.now)) _ c.in-affected.is c.affected_words.ensures
 
 pub returns-in-changes : goal.returns-in-changes
-returns-in-changes c weighs = of_name _ _ (rows_of (found_of c.args.found.now)) _ c.in-changes.is c.changes_words.ensures
+returns-in-changes c weighs prints = of_name _ _ (rows_of (found_of c.args.found.now)) _ c.in-changes.is c.changes_words.ensures
 
 pub returns-in-text : goal.returns-in-text
-returns-in-text c weighs = of_name _ _ (rows_of (found_of c.args.found.now)) _ c.in-text.is c.audit_changes_words.ensures
+returns-in-text c weighs prints = of_name _ _ (rows_of (found_of c.args.found.now)) _ c.in-text.is c.audit_changes_words.ensures
 
 pub returns-in-rekey : goal.returns-in-rekey
-returns-in-rekey c weighs = of_name _ _ (rows_of (found_of c.args.found.now)) _ c.in-rekey.is (c.rekey_words.ensures weighs)
+returns-in-rekey c weighs prints = of_name _ _ (rows_of (found_of c.args.found.now)) _ c.in-rekey.is (c.rekey_words.ensures weighs prints)
 
 pub returns-in-fingerprint : goal.returns-in-fingerprint
-returns-in-fingerprint c weighs = of_name _ _ (rows_of (found_of c.args.found.now)) _ c.in-fingerprint.is (c.fingerprint_words.ensures weighs)
+returns-in-fingerprint c weighs prints = of_name _ _ (rows_of (found_of c.args.found.now)) _ c.in-fingerprint.is (c.fingerprint_words.ensures weighs)
