@@ -426,9 +426,10 @@ fn check_stored_key(
 }
 
 /// A line with a stored key, its error, what is said, and the status. The last line is the longest of all.
-const STORED_KEYS: [(u64, StoredKeyKind, &str, u8); 6] = [
+const STORED_KEYS: [(u64, StoredKeyKind, &str, u8); 7] = [
     (1, StoredKeyKind::NoKey, "input line 1: NoKey\n", 1),
     (7, StoredKeyKind::NoImage, "input line 7: NoImage\n", 1),
+    (1, StoredKeyKind::Header, "input line 1: Header\n", 1),
     (8, StoredKeyKind::TooLong, "input line 8: TooLong\n", 1),
     (9, StoredKeyKind::Read, "input line 9: Read\n", 3),
     (10, StoredKeyKind::Memory, "input line 10: Memory\n", 4),

@@ -2,4 +2,5 @@ pub mod LineKeys
 pub mod Places
 pub mod LinesRead
 pub mod Rekeying
+pub mod Headers
 pub mod MovedLines

@@ -89,6 +89,7 @@ module _ (moved : List ℕ → Option (List ℕ)) where
       → IsAfter bytes xs at_end before → at_end ≡ false → FindsLine (Some xs) new unread line (Err kind) → HasCause moved bytes unread before (lines_of xs) kind
   cause_found bytes xs at_end new unread before line kinds.NoKey after more found = absurd found
   cause_found bytes xs at_end new unread before line kinds.NoImage after more found = absurd found
+  cause_found bytes xs at_end new unread before line kinds.Header after more found = absurd found
   cause_found bytes xs at_end new unread before line kinds.TooLong after more found =
       begins xs (λ line. IsLineCause moved before line kinds.TooLong) (longer_some xs (2 ^ 30) found) (λ first long. inl (omega (arith, long, found)))
   cause_found bytes xs at_end new None before line kinds.Read after more found = absurd found.1

@@ -29,16 +29,16 @@ use Rattle.uca_run_parts.specs.LinesSoFar.{OnKnown}
 use Rattle.uca_rekey.specs.RekeyedLines.{key_in, rekeyed_by, with_digits, with_key}
 use Rattle.uca_rekey.specs.RekeyRun.{AreRekeyed, HasCause, IsLineCause, IsLineFault, RunsRekey, WritesRekeyed}
 use Rattle.uca_rekey.specs.LinesInPlace.{LinesState, HasRead, IsAfter, left_of}
-use Rattle.uca_rekey.specs.RekeySoFar.{mover_of, moved_by, IsBegun, HasNextLine, HasRekeyed, RekeysLine, RekeysRest, WritesLine, WrittenState}
+use Rattle.uca_rekey.specs.RekeySoFar.{mover_of, moved_by, AreReplaced, IsBegun, HasNextLine, HasRekeyed, RekeysLine, RekeysRest, WritesLine, WritesReplaced, WrittenState}
 
 -- ---- The beginning
 
 -- nothing was read and nothing written
 pub begun_so : (by mover : MoverState) (lines : LinesState) (written : WrittenState) (input : SourceState) (out : SinkState) → IsBegun by mover lines written
-    → HasRekeyed (moved_by by) input.remaining out.contents [] [] lines input written out
+    → HasRekeyed (moved_by by) [] [] input.remaining out.contents [] [] lines input written out
 begun_so by mover lines written input out begun = record {
   read = go input.remaining;
-  rekeyed = refl;
+  rekeyed = record { keyed = []; rekeyed = []; old = refl; now = refl; are = refl; sizes = refl };
   text = none_buffered out.contents written.buffer begun.held begun.count;
   count = begun.number;
 }
@@ -104,6 +104,34 @@ module _ (moved : List ℕ → Option (List ℕ)) where
         length-append line (10 ∷ []),
       )
 
+  -- the lines that come first have as many bytes as those in their place
+  same_sizes : (from to lines new : List (List ℕ)) → AreReplaced moved from to lines new → length (flat_map ended new) ≡ length (flat_map ended lines)
+  same_sizes from to lines new r =
+      let old = ap (λ ls. length (flat_map ended ls)) r.old ∙ ap length (flat_map-append ended from r.keyed) in
+      let now = ap (λ ls. length (flat_map ended ls)) r.now ∙ ap length (flat_map-append ended to r.rekeyed) in
+      omega (
+        arith,
+        old,
+        now,
+        r.sizes,
+        same_lengths r.keyed r.rekeyed r.are,
+        length-append (flat_map ended from) (flat_map ended r.keyed),
+        length-append (flat_map ended to) (flat_map ended r.rekeyed),
+      )
+
+  -- one more line is rekeyed
+  replaced_more : (from to before new : List (List ℕ)) (line now : List ℕ) → AreReplaced moved from to before new → rekeyed_by moved line ≡ Some now
+      → AreReplaced moved from to (before ++ line ∷ []) (new ++ now ∷ [])
+  replaced_more from to before new line now r is = record {
+    keyed = r.keyed ++ line ∷ [];
+    rekeyed = r.rekeyed ++ now ∷ [];
+    old = ap (λ ls. ls ++ line ∷ []) r.old ∙ append_assoc from r.keyed (line ∷ []);
+    now = ap (λ ls. ls ++ now ∷ []) r.now ∙ append_assoc to r.rekeyed (now ∷ []);
+    are = map_push (rekeyed_by moved) r.keyed line ∙ ap (λ ls. ls ++ rekeyed_by moved line ∷ []) r.are
+        ∙ ap (λ l. map (λ line. Some line) r.rekeyed ++ l ∷ []) is ∙ sym (map_push (λ (line : List ℕ). Some line) r.rekeyed now);
+    sizes = r.sizes;
+  }
+
   -- ---- The next line
 
   -- what was read stays while the line changes
@@ -116,6 +144,7 @@ module _ (moved : List ℕ → Option (List ℕ)) where
       → HasCause moved bytes left before (line ∷ later) kind
   cause_there bytes left before later line kinds.NoKey cause = cause
   cause_there bytes left before later line kinds.NoImage cause = cause
+  cause_there bytes left before later line kinds.Header cause = absurd cause
   cause_there bytes left before later line kinds.TooLong cause = cause
   cause_there bytes left before later line kinds.Read cause = absurd cause
   cause_there bytes left before later line kinds.Memory cause = cause
@@ -124,6 +153,7 @@ module _ (moved : List ℕ → Option (List ℕ)) where
   pub cause_of_line : (before : List (List ℕ)) (line : List ℕ) (kind : StoredKeyKind) → IsLineCause moved before line kind → is_stored_key_read kind ≡ false
   cause_of_line before line kinds.NoKey cause = refl
   cause_of_line before line kinds.NoImage cause = refl
+  cause_of_line before line kinds.Header cause = absurd cause
   cause_of_line before line kinds.TooLong cause = refl
   cause_of_line before line kinds.Read cause = absurd cause
   cause_of_line before line kinds.Memory cause = refl
@@ -146,7 +176,7 @@ module _ (moved : List ℕ → Option (List ℕ)) where
       }
 
   -- some lines come first
-  begins_with : (start : Option (List ℕ)) (before : List (List ℕ)) (lines : LinesState) (input : SourceState) → HasRead start before lines input
+  pub begins_with : (start : Option (List ℕ)) (before : List (List ℕ)) (lines : LinesState) (input : SourceState) → HasRead start before lines input
       → IfSome start (λ bytes. (rest : List (List ℕ)) × (lines_of bytes ≡ before ++ rest))
   begins_with start before lines input read = go start (left_of lines input) read
     where
@@ -157,16 +187,16 @@ module _ (moved : List ℕ → Option (List ℕ)) where
 
   -- ---- The end
 
-  module _ (start begun left : Option (List ℕ)) (out now : SinkState) (buffer : BufferState) (written : ℕ)
+  module _ (from to : List (List ℕ)) (start begun left : Option (List ℕ)) (out now : SinkState) (buffer : BufferState) (written : ℕ)
       (flush : (text : List ℕ) → IsBuffered begun out.contents text buffer → PartWentOut begun now.contents text written) where
     -- the new lines of some first lines did not go out whole
-    first_lines : (before new : List (List ℕ)) → IfSome start (λ bytes. (rest : List (List ℕ)) × (lines_of bytes ≡ before ++ rest)) → AreRekeyed moved before new
+    first_lines : (before new : List (List ℕ)) → IfSome start (λ bytes. (rest : List (List ℕ)) × (lines_of bytes ≡ before ++ rest)) → AreReplaced moved from to before new
         → IsBuffered begun out.contents (flat_map ended new) buffer
-        → IfSome start (λ bytes. WritesRekeyed {A = Unit {0}} moved bytes left begun now.contents (Err (Write written)))
+        → IfSome start (λ bytes. WritesReplaced {A = Unit {0}} moved from to bytes left begun now.contents (Err (Write written)))
     first_lines before new first are text = go start first
       where
         go : (s : Option (List ℕ)) → IfSome s (λ bytes. (rest : List (List ℕ)) × (lines_of bytes ≡ before ++ rest))
-            → IfSome s (λ bytes. WritesRekeyed {A = Unit {0}} moved bytes left begun now.contents (Err (Write written)))
+            → IfSome s (λ bytes. WritesReplaced {A = Unit {0}} moved from to bytes left begun now.contents (Err (Write written)))
         go None first = tt
         go (Some bytes) first = (before, new, first.0, first.1, are, flush (flat_map ended new) text)
 
@@ -189,71 +219,81 @@ module _ (moved : List ℕ → Option (List ℕ)) where
         go (Some bytes) fault = (fault.rest, fault.lines)
 
     -- what waited did not go out whole
-    pub not_flushed : (input : SourceState) (end : Result (Unit {0}) RunFault) → RekeysRest moved start begun input buffer out end → ended_by_output end ≡ false
-        → IfSome start (λ bytes. WritesRekeyed {A = Unit {0}} moved bytes left begun now.contents (Err (Write written)))
+    pub not_flushed : (input : SourceState) (end : Result (Unit {0}) RunFault) → RekeysRest moved from to start begun input buffer out end → ended_by_output end ≡ false
+        → IfSome start (λ bytes. WritesReplaced {A = Unit {0}} moved from to bytes left begun now.contents (Err (Write written)))
     not_flushed input (Ok x) rest no_write = first_lines rest.0 rest.1 (of_all rest.0 rest.2) rest.3 rest.4
     not_flushed input (Err (StoredKey number kind)) rest no_write = first_lines rest.0 rest.1 (of_fault input rest.0 number kind rest.2) rest.3 rest.4
     not_flushed input (Err (Write count)) rest no_write = let never : ⊥ = cc in absurd never
     not_flushed input (Err _) rest no_write = absurd rest
 
-  module _ (start begun : Option (List ℕ)) (input : SourceState) (out : SinkState) (buffer : BufferState) where
+  module _ (from to : List (List ℕ)) (start begun : Option (List ℕ)) (input : SourceState) (out : SinkState) (buffer : BufferState) where
     -- the writer had failed
-    pub had_failed : (end : Result (Unit {0}) RunFault) → RekeysRest moved start begun input buffer out end → ended_by_output end ≡ true
-        → IfSome start (λ bytes. WritesRekeyed {A = Unit {0}} moved bytes input.remaining begun out.contents end)
+    pub had_failed : (end : Result (Unit {0}) RunFault) → RekeysRest moved from to start begun input buffer out end → ended_by_output end ≡ true
+        → IfSome start (λ bytes. WritesReplaced {A = Unit {0}} moved from to bytes input.remaining begun out.contents end)
     had_failed (Ok x) rest write = let never : ⊥ = cc in absurd never
     had_failed (Err (StoredKey number kind)) rest write = let never : ⊥ = cc in absurd never
     had_failed (Err (Write written)) rest write = go start rest.2
       where
         go : (s : Option (List ℕ)) → IfSome s (λ bytes. (later : List (List ℕ)) × (lines_of bytes ≡ rest.0 ++ later))
-            → IfSome s (λ bytes. WritesRekeyed {A = Unit {0}} moved bytes input.remaining begun out.contents (Err (Write written)))
+            → IfSome s (λ bytes. WritesReplaced {A = Unit {0}} moved from to bytes input.remaining begun out.contents (Err (Write written)))
         go None first = tt
         go (Some bytes) first = (rest.0, rest.1, first.0, first.1, rest.3, rest.4)
     had_failed (Err _) rest write = absurd rest
 
     -- what waited went out
     pub all_flushed : (now : SinkState) (end : Result (Unit {0}) RunFault) → ((text : List ℕ) → IsBuffered begun out.contents text buffer → Appends begun now.contents text)
-        → RekeysRest moved start begun input buffer out end → ended_by_output end ≡ false
-        → IfSome start (λ bytes. WritesRekeyed {A = Unit {0}} moved bytes input.remaining begun now.contents end)
+        → RekeysRest moved from to start begun input buffer out end → ended_by_output end ≡ false
+        → IfSome start (λ bytes. WritesReplaced {A = Unit {0}} moved from to bytes input.remaining begun now.contents end)
     all_flushed now (Ok x) flush rest no_write = go start rest.2
       where
-        go : (s : Option (List ℕ)) → IfSome s (λ bytes. lines_of bytes ≡ rest.0) → IfSome s (λ bytes. WritesRekeyed {A = Unit {0}} moved bytes input.remaining begun now.contents (Ok x))
+        go : (s : Option (List ℕ)) → IfSome s (λ bytes. lines_of bytes ≡ rest.0) → IfSome s (λ bytes. WritesReplaced {A = Unit {0}} moved from to bytes input.remaining begun now.contents (Ok x))
         go None all = tt
-        go (Some bytes) all = (rest.1, subst (λ (ls : List (List ℕ)). AreRekeyed moved ls rest.1) (sym all) rest.3, flush (flat_map ended rest.1) rest.4)
+        go (Some bytes) all = (rest.1, subst (λ (ls : List (List ℕ)). AreReplaced moved from to ls rest.1) (sym all) rest.3, flush (flat_map ended rest.1) rest.4)
     all_flushed now (Err (StoredKey number kind)) flush rest no_write = go start rest.2
       where
         go : (s : Option (List ℕ)) → IfSome s (λ bytes. IsLineFault moved bytes input.remaining rest.0 number kind)
-            → IfSome s (λ bytes. WritesRekeyed {A = Unit {0}} moved bytes input.remaining begun now.contents (Err (StoredKey number kind)))
+            → IfSome s (λ bytes. WritesReplaced {A = Unit {0}} moved from to bytes input.remaining begun now.contents (Err (StoredKey number kind)))
         go None fault = tt
         go (Some bytes) fault = (rest.0, rest.1, fault, rest.3, flush (flat_map ended rest.1) rest.4)
     all_flushed now (Err (Write written)) flush rest no_write = let never : ⊥ = cc in absurd never
     all_flushed now (Err _) flush rest no_write = absurd rest
 
-  module _ (start begun : Option (List ℕ)) (before new : List (List ℕ)) (lines : LinesState) (input : SourceState) (written : WrittenState) (out : SinkState)
-      (so_far : HasRekeyed moved start begun before new lines input written out) where
+  -- where nothing comes first, all lines are rekeyed
+  all_keyed : (lines new : List (List ℕ)) → AreReplaced moved [] [] lines new → AreRekeyed moved lines new
+  all_keyed lines new r = subst₂ (λ (ls ns : List (List ℕ)). AreRekeyed moved ls ns) (sym r.old) (sym r.now) r.are
+
+  pub writes_rekeyed : (start left begun now : Option (List ℕ)) (end : Result (Unit {0}) RunFault) → IfSome start (λ bytes. WritesReplaced moved [] [] bytes left begun now end)
+      → IfSome start (λ bytes. WritesRekeyed moved bytes left begun now end)
+  writes_rekeyed None left begun now end w = tt
+  writes_rekeyed (Some bytes) left begun now (Ok x) w = (w.0, all_keyed (lines_of bytes) w.0 w.1, w.2)
+  writes_rekeyed (Some bytes) left begun now (Err (StoredKey number kind)) w = (w.0, w.1, w.2, all_keyed w.0 w.1 w.3, w.4)
+  writes_rekeyed (Some bytes) left begun now (Err (Write written)) w = (w.0, w.1, w.2, w.3, all_keyed w.0 w.1 w.4, w.5)
+  writes_rekeyed (Some bytes) left begun now (Err _) w = absurd w
+
+  module _ (from to : List (List ℕ)) (start begun : Option (List ℕ)) (before new : List (List ℕ)) (lines : LinesState) (input : SourceState) (written : WrittenState) (out : SinkState)
+      (so_far : HasRekeyed moved from to start begun before new lines input written out) where
     -- no line is left
-    pub all_rekeyed : (now : SourceState) → IfSome start (λ bytes. lines_of bytes ≡ before) → RekeysRest {A = Unit {0}} moved start begun now written.buffer out (Ok tt)
+    pub all_rekeyed : (now : SourceState) → IfSome start (λ bytes. lines_of bytes ≡ before) → RekeysRest {A = Unit {0}} moved from to start begun now written.buffer out (Ok tt)
     all_rekeyed now all = (before, new, all, so_far.rekeyed, so_far.text)
 
     -- the next line is not rekeyed
     pub none_rekeyed : (after : LinesState) (now : SourceState) (held : WrittenState) (fault : RunFault) → held ≡ written → RekeysLine moved start before after now (Err fault)
-        → RekeysRest {A = Unit {0}} moved start begun now held.buffer out (Err fault)
+        → RekeysRest {A = Unit {0}} moved from to start begun now held.buffer out (Err fault)
     none_rekeyed after now held (StoredKey number kind) same fault =
         (before, new, fault, so_far.rekeyed, subst (λ (w : WrittenState). IsBuffered begun out.contents (flat_map ended new) w.buffer) (sym same) so_far.text)
     none_rekeyed after now held _ same fault = absurd fault
 
     module _ (after : LinesState) (now : SourceState) (next : HasNextLine moved start before after now) where
       -- the new lines with one more
-      rekeyed_more : AreRekeyed moved (before ++ next.0 ∷ []) (new ++ after.line ∷ [])
-      rekeyed_more =
-          map_push (rekeyed_by moved) before next.0 ∙ ap (λ ls. ls ++ rekeyed_by moved next.0 ∷ []) so_far.rekeyed
-          ∙ ap (λ l. map (λ line. Some line) new ++ l ∷ []) next.2 ∙ sym (map_push (λ (line : List ℕ). Some line) new after.line)
+      rekeyed_more : AreReplaced moved from to (before ++ next.0 ∷ []) (new ++ after.line ∷ [])
+      rekeyed_more = replaced_more from to before new next.0 after.line so_far.rekeyed next.2
 
       text_more : flat_map ended new ++ ended after.line ≡ flat_map ended (new ++ after.line ∷ [])
       text_more = sym (flat_map-append ended new (after.line ∷ []) ∙ ap (λ l. flat_map ended new ++ l) (append-nil (ended after.line)))
 
       -- it was written
       pub line_rekeyed : (held : WrittenState) (sink : SinkState) → HasWrittenThrough (ended after.line) written.buffer held.buffer out sink → held.number ≡ written.number + 1
-          → HasRekeyed moved start begun (before ++ next.0 ∷ []) (new ++ after.line ∷ []) after now held sink
+          → HasRekeyed moved from to start begun (before ++ next.0 ∷ []) (new ++ after.line ∷ []) after now held sink
       line_rekeyed held sink writes number = record {
         read = next.1;
         rekeyed = rekeyed_more;
@@ -263,7 +303,7 @@ module _ (moved : List ℕ → Option (List ℕ)) where
 
       -- it was not
       pub line_not_written : (held : WrittenState) (sink : SinkState) (fault : RunFault) → WritesLine {A = Unit {0}} after.line written held out sink (Err fault)
-          → RekeysRest {A = Unit {0}} moved start begun now held.buffer sink (Err fault)
+          → RekeysRest {A = Unit {0}} moved from to start begun now held.buffer sink (Err fault)
       line_not_written held sink (Write count) stops = (
         before ++ next.0 ∷ [],
         new ++ after.line ∷ [],
@@ -276,7 +316,7 @@ module _ (moved : List ℕ → Option (List ℕ)) where
           let all = count_is begun out.contents (flat_map ended new) written.buffer so_far.text in
           let too_long : IsLineCause moved before next.0 kind =
           subst (λ (k : StoredKeyKind). IsLineCause moved before next.0 k) (sym stops.1)
-          (inr (omega (arith, stops.2, all, same_lengths before new so_far.rekeyed, long, length-append after.line (10 ∷ []), length-append next.0 (10 ∷ [])))) in
+          (inr (omega (arith, stops.2, all, same_sizes from to before new so_far.rekeyed, long, length-append after.line (10 ∷ []), length-append next.0 (10 ∷ [])))) in
           let text = subst (λ (w : WrittenState). IsBuffered begun out.contents (flat_map ended new) w.buffer) (sym stops.3) so_far.text in (
             before,
             new,

@@ -32,10 +32,11 @@ AreRekeyed moved lines new = map (rekeyed_by moved) lines ≡ map (λ line. Some
 abbrev pub IsTooLong : List (List ℕ) → List ℕ → Type 0
 IsTooLong before line = (2 ^ 30 < length line) ⊎ (2 ^ 63 < length (flat_map ended before) + length (ended line))
 
--- why a line after these is not rekeyed; an allocation may fail at any line
+-- why a line after these is not rekeyed; an allocation may fail at any line, and no line has to be a header
 abbrev pub IsLineCause : (List ℕ → Option (List ℕ)) → List (List ℕ) → List ℕ → StoredKeyKind → Type 0
 IsLineCause moved before line kinds.NoKey = key_in line ≡ None
 IsLineCause moved before line kinds.NoImage = IsSomeAnd (key_in line) (λ key. moved key ≡ None)
+IsLineCause moved before line kinds.Header = ⊥
 IsLineCause moved before line kinds.TooLong = IsTooLong before line
 IsLineCause moved before line kinds.Read = ⊥
 IsLineCause moved before line kinds.Memory = ⊤

@@ -1,5 +1,6 @@
 -- A run that rekeys lines, after some of its lines. Only contracts of private functions cite this: no promise of the crate rests on it.
-use Rattle.std.specs.Prelude.{◌≡◌, ℕ, suc, ◌+◌, ◌^◌, ◌<◌, Bool, MatchBool, List, [], ◌∷◌, ◌++◌, false, length, Option, Some, Result, Ok, Err, IfSome}
+use Rattle.std.specs.Prelude.{◌≡◌, ℕ, suc, ◌+◌, ◌^◌, ◌<◌, Bool, MatchBool, List, [], ◌∷◌, ◌++◌, false, length, Option, Some, Result, Ok, Err, IfSome, ⊤}
+use Rattle.std.specs.Io.KnownBytes.{Appends}
 use Rattle.std.specs.List.{flat_map}
 use Rattle.uca_weights.specs.declared.Depth.{Depth}
 use Rattle.uca_weights.specs.declared.Weighting.{Weighting}
@@ -11,12 +12,14 @@ use Rattle.uca_certificates.specs.Certificates.{CertificateContent}
 use Rattle.uca_images.specs.Moving.{MoverState}
 use Rattle.uca_run_parts.specs.declared.faults.RunFault.{RunFault}
 use Rattle.uca_run_parts.specs.declared.faults.RunFault.TheVariants.{StoredKey, Write}
+use Rattle.uca_run_parts.specs.declared.faults.StoredKeyKind.{StoredKeyKind}
 use Rattle.uca_run_parts.specs.declared.faults.StoredKeyKind.TheVariants as kinds
 use Rattle.uca_run_parts.specs.Runs.{PartWentOut}
 use Rattle.uca_tailorings.specs.Inputs.{maps_of}
 use Rattle.uca_tailorings.specs.Moves.{moved_key}
 use Rattle.uca_rekey.specs.RekeyedLines.{rekeyed_by}
 use Rattle.uca_rekey.specs.RekeyRun.{AreRekeyed, IsLineFault}
+use Rattle.uca_rekey.specs.HeadedRun.{HasHeaderCause}
 use Rattle.uca_rekey.specs.LinesInPlace.{LinesState, HasRead}
 
 -- the new key of a key, if it has one
@@ -50,11 +53,20 @@ WritesLine line old new out now (Err (StoredKey number kind)) =
 WritesLine line old new out now (Err (Write written)) = FailsToWriteThrough (ended line) old.buffer out now written
 WritesLine line old new out now (Err _) = ⊥
 
+-- The lines are `from`, in whose place `to` is written, and then lines that are rekeyed. A header is such a line. Both have as many bytes.
+pub record AreReplaced (moved : List ℕ → Option (List ℕ)) (from to lines new : List (List ℕ)) : Type 0 where
+  pub keyed : List (List ℕ)
+  pub rekeyed : List (List ℕ)
+  pub old : lines ≡ from ++ keyed
+  pub now : new ≡ to ++ rekeyed
+  pub are : AreRekeyed moved keyed rekeyed
+  pub sizes : length (flat_map ended to) ≡ length (flat_map ended from)
+
 -- These lines were read since the input had `start` and the output held `begun`, and their new lines were written.
-pub record HasRekeyed (moved : List ℕ → Option (List ℕ)) (start begun : Option (List ℕ)) (before new : List (List ℕ)) (lines : LinesState) (input : SourceState)
-    (written : WrittenState) (out : SinkState) : Type 0 where
+pub record HasRekeyed (moved : List ℕ → Option (List ℕ)) (from to : List (List ℕ)) (start begun : Option (List ℕ)) (before new : List (List ℕ)) (lines : LinesState)
+    (input : SourceState) (written : WrittenState) (out : SinkState) : Type 0 where
   pub read : HasRead start before lines input
-  pub rekeyed : AreRekeyed moved before new
+  pub rekeyed : AreReplaced moved from to before new
   pub text : IsBuffered begun out.contents (flat_map ended new) written.buffer
   pub count : written.number ≡ length before
 
@@ -69,13 +81,43 @@ RekeysLine moved start before lines input (Err (StoredKey number kind)) = IfSome
 RekeysLine moved start before lines input (Err _) = ⊥
 
 -- what is returned of all lines that are left: their new lines were written, or why that of one was not
-abbrev pub RekeysRest : {A : Type 0} → (List ℕ → Option (List ℕ)) → Option (List ℕ) → Option (List ℕ) → SourceState → BufferState → SinkState → Result A RunFault → Type 0
-RekeysRest moved start begun input buffer out (Ok x) =
-    (before new : List (List ℕ)) × IfSome start (λ bytes. lines_of bytes ≡ before) × AreRekeyed moved before new × IsBuffered begun out.contents (flat_map ended new) buffer
-RekeysRest moved start begun input buffer out (Err (StoredKey number kind)) =
-    (before new : List (List ℕ)) × IfSome start (λ bytes. IsLineFault moved bytes input.remaining before number kind) × AreRekeyed moved before new
+abbrev pub RekeysRest : {A : Type 0} → (List ℕ → Option (List ℕ)) → List (List ℕ) → List (List ℕ) → Option (List ℕ) → Option (List ℕ) → SourceState → BufferState → SinkState → Result A RunFault → Type 0
+RekeysRest moved from to start begun input buffer out (Ok x) =
+    (before new : List (List ℕ)) × IfSome start (λ bytes. lines_of bytes ≡ before) × AreReplaced moved from to before new × IsBuffered begun out.contents (flat_map ended new) buffer
+RekeysRest moved from to start begun input buffer out (Err (StoredKey number kind)) =
+    (before new : List (List ℕ)) × IfSome start (λ bytes. IsLineFault moved bytes input.remaining before number kind) × AreReplaced moved from to before new
     × IsBuffered begun out.contents (flat_map ended new) buffer
-RekeysRest moved start begun input buffer out (Err (Write written)) =
-    (before new : List (List ℕ)) × IfSome start (λ bytes. (rest : List (List ℕ)) × (lines_of bytes ≡ before ++ rest)) × AreRekeyed moved before new
+RekeysRest moved from to start begun input buffer out (Err (Write written)) =
+    (before new : List (List ℕ)) × IfSome start (λ bytes. (rest : List (List ℕ)) × (lines_of bytes ≡ before ++ rest)) × AreReplaced moved from to before new
     × PartWentOut begun out.contents (flat_map ended new) written
-RekeysRest moved start begun input buffer out (Err _) = ⊥
+RekeysRest moved from to start begun input buffer out (Err _) = ⊥
+
+-- what all this leaves once what waits was written
+abbrev pub WritesReplaced : {A : Type 0} → (List ℕ → Option (List ℕ)) → List (List ℕ) → List (List ℕ) → List ℕ → Option (List ℕ) → Option (List ℕ) → Option (List ℕ) → Result A RunFault → Type 0
+WritesReplaced moved from to bytes left begun now (Ok x) =
+    (new : List (List ℕ)) × AreReplaced moved from to (lines_of bytes) new × Appends begun now (flat_map ended new)
+WritesReplaced moved from to bytes left begun now (Err (StoredKey number kind)) =
+    (before new : List (List ℕ)) × IsLineFault moved bytes left before number kind × AreReplaced moved from to before new × Appends begun now (flat_map ended new)
+WritesReplaced moved from to bytes left begun now (Err (Write written)) =
+    (before new rest : List (List ℕ)) × (lines_of bytes ≡ before ++ rest) × AreReplaced moved from to before new × PartWentOut begun now (flat_map ended new) written
+WritesReplaced moved from to bytes left begun now (Err _) = ⊥
+
+-- ---- A header
+
+-- whether an error of a line is none of its key: the line is not read
+abbrev pub IsUnread : StoredKeyKind → Type 0
+IsUnread kinds.TooLong = ⊤
+IsUnread kinds.Read = ⊤
+IsUnread kinds.Memory = ⊤
+IsUnread _ = ⊥
+
+-- what is returned where a first line has to be this header
+abbrev pub ReadsHeader : {A : Type 0} → List ℕ → Option (List ℕ) → LinesState → SourceState → Result A StoredKeyKind → Type 0
+ReadsHeader header start lines input (Ok x) = HasRead start (header ∷ []) lines input
+ReadsHeader header start lines input (Err kind) = IfSome start (λ bytes. HasHeaderCause header bytes input.remaining (lines_of bytes) kind)
+
+-- the header was read, and nothing was written
+pub record HasReadHeader (header : List ℕ) (start begun : Option (List ℕ)) (lines : LinesState) (input : SourceState) (written : WrittenState) (out : SinkState) : Type 0 where
+  pub read : HasRead start (header ∷ []) lines input
+  pub text : IsBuffered begun out.contents [] written.buffer
+  pub count : written.number ≡ 0

@@ -8,7 +8,7 @@ ghost use Rattle.uca_lines.specs.Lines.{is_lf, Lacks};
 ghost use Rattle.uca_rekey.specs.LinesInPlace.{EndsAs, FindsLine, HasRead, IsFillFault, IsFirstLine, IsLast, ReadsLine, is_read, left_of};
 ghost use Rattle.uca_rekey.specs.RekeyedLines.{rekeyed_by};
 ghost use Rattle.uca_rekey.specs.RekeyRun.{IsLineCause};
-ghost use Rattle.uca_rekey.specs.RekeySoFar.{moved_by};
+ghost use Rattle.uca_rekey.specs.RekeySoFar.{IsUnread, ReadsHeader, moved_by};
 
 use crate::line::rekey_line;
 use memchr::memchr;
@@ -115,6 +115,7 @@ impl<A: Allocator> KeyLines<A> {
         ensures reads { (moved : List ℕ → Option (List ℕ)) (start : Option (List ℕ)) (before : List (List ℕ)) →
             HasRead start before self.old source.old →
             ReadsLine moved start before self.new source.new result }
+        ensures unread { IfErr result IsUnread }
         ensures failed { source.new.failed ≡ (source.old.failed || is_read result) }
     {
         if self.at_end {
@@ -124,6 +125,33 @@ impl<A: Allocator> KeyLines<A> {
             Ok(NextLine::Terminated) => Ok(true),
             Ok(NextLine::Unterminated) => Ok(true),
             Ok(NextLine::EndOfInput) => Ok(false),
+            Err(kind) => Err(kind),
+        }
+    }
+
+    /// Reads the first line, which has to be a header.
+    ///
+    /// # Errors
+    ///
+    /// `Header` if the line is another one, or there is none. Those of [`KeyLines::next`].
+    pub fn read_header<R: Read>(
+        &mut self,
+        source: &mut Source<R>,
+        header: &[u8],
+    ) -> Result<(), StoredKeyKind>
+        ensures reads { (start : Option (List ℕ)) → HasRead start [] self.old source.old →
+            ReadsHeader header.now start self.new source.new result }
+        ensures failed { source.new.failed ≡ (source.old.failed || is_read result) }
+    {
+        match self.next(source) {
+            Ok(true) => {
+                if self.line() == header {
+                    Ok(())
+                } else {
+                    Err(StoredKeyKind::Header)
+                }
+            }
+            Ok(false) => Err(StoredKeyKind::Header),
             Err(kind) => Err(kind),
         }
     }

@@ -1,19 +1,21 @@
 //! The run that puts the stored keys of lines through the maps of a certificate.
 
-ghost use Rattle.std.specs.Prelude.{◌≡◌, ◌∷◌, [], ℕ, ◌^◌, ◌≤◌, ◌||◌, true, false, List, Option, OnOk, IfErr, MatchResult};
+ghost use Rattle.std.specs.Prelude.{◌≡◌, ◌∷◌, [], ℕ, ◌^◌, ◌≤◌, ◌||◌, true, false, List, Option, OnOk, IfErr, IfSome, MatchResult, length};
 ghost use Rattle.uca_weights.specs.Streams.{SinkState};
 ghost use Rattle.uca_run_parts.specs.EachLine.{ended_before_input};
 ghost use Rattle.uca_run_parts.specs.Files.{HaveFailed, Over};
 ghost use Rattle.uca_run_parts.specs.ReadFiles.{certificate_file};
 ghost use Rattle.uca_run_parts.specs.Runs.{ended_by_output, is_input_read};
+ghost use Rattle.uca_rekey.specs.HeadedRun.{RekeysHeaded, WritesHeaded};
 ghost use Rattle.uca_rekey.specs.RekeyRun.{RekeysLines};
-ghost use Rattle.uca_rekey.specs.RekeySoFar.{HasRekeyed, RekeysLine, RekeysRest, IsBegun, mover_of, moved_by};
+ghost use Rattle.uca_rekey.specs.RekeySoFar.{HasReadHeader, HasRekeyed, RekeysLine, RekeysRest, IsBegun, mover_of, moved_by};
 
 use crate::lines::KeyLines;
 use crate::written::WrittenLines;
 use std::alloc::{Allocator, Global};
 use std::io::{Read, Write};
 use uca_certificates::Certificate;
+use uca_fingerprint::KeyHeader;
 use uca_images::KeyMover;
 use uca_run_parts::{Role, RunFault, read_certificate_file};
 use uca_weights::{Depth, Sink, Source, Weighting};
@@ -31,8 +33,8 @@ struct RekeyRun<A: Allocator> {
 impl<A: Allocator> RekeyRun<A> {
     // Reads the next line and rekeys it, and returns whether there was a line.
     fn next<I: Read>(&mut self, input: &mut Source<I>) -> Result<bool, RunFault>
-        ensures rekeys { (start begun : Option (List ℕ)) (before new : List (List ℕ)) (out : SinkState) →
-            HasRekeyed (moved_by self.old.mover) start begun before new self.old.lines input.old self.old.written out →
+        ensures rekeys { (from to : List (List ℕ)) (start begun : Option (List ℕ)) (before new : List (List ℕ)) (out : SinkState) →
+            HasRekeyed (moved_by self.old.mover) from to start begun before new self.old.lines input.old self.old.written out →
             RekeysLine (moved_by self.old.mover) start before self.new.lines input.new result }
         ensures mover { self.new.mover ≡ self.old.mover }
         ensures written { self.new.written ≡ self.old.written }
@@ -58,9 +60,9 @@ impl<A: Allocator> RekeyRun<A> {
         input: &mut Source<I>,
         out: &mut Sink<W>,
     ) -> Result<(), RunFault>
-        ensures rekeys { (start begun : Option (List ℕ)) (before new : List (List ℕ)) →
-            HasRekeyed (moved_by self.old.mover) start begun before new self.old.lines input.old self.old.written out.old →
-            RekeysRest (moved_by self.old.mover) start begun input.new self.new.written.buffer out.new result }
+        ensures rekeys { (from to : List (List ℕ)) (start begun : Option (List ℕ)) (before new : List (List ℕ)) →
+            HasRekeyed (moved_by self.old.mover) from to start begun before new self.old.lines input.old self.old.written out.old →
+            RekeysRest (moved_by self.old.mover) from to start begun input.new self.new.written.buffer out.new result }
         ensures of_lines { ended_before_input result ≡ false }
         ensures input_failed { input.new.failed ≡ (input.old.failed || is_input_read result) }
         ensures out_failed { out.new.failed ≡ (out.old.failed || ended_by_output result) }
@@ -69,6 +71,50 @@ impl<A: Allocator> RekeyRun<A> {
             self.written.write(out, self.lines.line())?;
         }
         Ok(())
+    }
+
+    // Writes a header in place of the one that was read, rekeys all lines after it, and writes them.
+    fn rekey_after<I: Read, W: Write>(
+        &mut self,
+        input: &mut Source<I>,
+        out: &mut Sink<W>,
+        header: &[u8],
+    ) -> Result<(), RunFault>
+        ensures rekeys { (from : List ℕ) (start begun : Option (List ℕ)) → length header.now ≡ length from → length header.now ≤ 128 →
+            HasReadHeader from start begun self.old.lines input.old self.old.written out.old →
+            RekeysRest (moved_by self.old.mover) (from ∷ []) (header.now ∷ []) start begun input.new self.new.written.buffer out.new result }
+        ensures of_lines { ended_before_input result ≡ false }
+        ensures input_failed { input.new.failed ≡ (input.old.failed || is_input_read result) }
+        ensures out_failed { out.new.failed ≡ (out.old.failed || ended_by_output result) }
+    {
+        match self.written.write(out, header) {
+            Ok(()) => self.rekey_rest(input, out),
+            Err(fault) => Err(fault),
+        }
+    }
+
+    // Reads the header `from`, writes `to` in its place, rekeys all lines after it, and writes them.
+    fn rekey_headed<I: Read, W: Write>(
+        &mut self,
+        input: &mut Source<I>,
+        out: &mut Sink<W>,
+        from: &[u8],
+        to: &[u8],
+    ) -> Result<(), RunFault>
+        ensures rekeys { length to.now ≡ length from.now → length to.now ≤ 128 →
+            HasRekeyed (moved_by self.old.mover) [] [] input.old.remaining out.old.contents [] [] self.old.lines input.old self.old.written out.old →
+            IfSome input.old.remaining (λ bytes. WritesHeaded (moved_by self.old.mover) from.now to.now bytes input.new.remaining out.old.contents out.new.contents result) }
+        ensures of_lines { ended_before_input result ≡ false }
+        ensures input_failed { ended_by_output result ≡ false → input.new.failed ≡ (input.old.failed || is_input_read result) }
+        ensures out_failed { out.new.failed ≡ (out.old.failed || ended_by_output result) }
+    {
+        match self.lines.read_header(input, from) {
+            Ok(()) => {
+                let end = self.rekey_after(input, out, to);
+                self.written.end(out, end)
+            }
+            Err(kind) => Err(RunFault::StoredKey { line: 1, kind }),
+        }
     }
 }
 
@@ -166,6 +212,57 @@ pub fn run_rekey_in<A: Allocator + Copy, C: Read, I: Read, W: Write>(
         Ok(mut run) => {
             let end = run.rekey_rest(input, out);
             let end = run.written.end(out, end);
+            drop(run);
+            end
+        }
+        Err(fault) => Err(fault),
+    }
+}
+
+/// As [`run_rekey`], for lines after a header. The first line of `input` has to be the header of keys that were made under this weighting, at
+/// this depth and with the fingerprint `from`. The output begins with the header of `to` in its place, and LF.
+///
+/// # Errors
+///
+/// - `StoredKey` with line 1 and `Header`: the first line is another one, or there is no line. Nothing was written.
+/// - Those of [`run_rekey`]. The header is line 1, and it was written if an error is about a later line.
+pub fn run_headed_rekey<C: Read, I: Read, W: Write>(
+    alloc: Global,
+    certificate: &mut Source<C>,
+    input: &mut Source<I>,
+    out: &mut Sink<W>,
+    weighting: Weighting,
+    depth: Depth,
+    from: &[u8; 32],
+    to: &[u8; 32],
+) -> Result<(), RunFault>
+    ensures { RekeysHeaded weighting depth from.now to.now (certificate.old ∷ []) (certificate.new ∷ []) input.old input.new out.old out.new result }
+{
+    run_headed_rekey_in(alloc, certificate, input, out, weighting, depth, from, to)
+}
+
+/// As [`run_headed_rekey`], with the certificate, its maps and the lines in memory of any allocator.
+///
+/// # Errors
+///
+/// Those of [`run_headed_rekey`].
+pub fn run_headed_rekey_in<A: Allocator + Copy, C: Read, I: Read, W: Write>(
+    alloc: A,
+    certificate: &mut Source<C>,
+    input: &mut Source<I>,
+    out: &mut Sink<W>,
+    weighting: Weighting,
+    depth: Depth,
+    from: &[u8; 32],
+    to: &[u8; 32],
+) -> Result<(), RunFault>
+    ensures { RekeysHeaded weighting depth from.now to.now (certificate.old ∷ []) (certificate.new ∷ []) input.old input.new out.old out.new result }
+{
+    match begin(alloc, certificate, weighting, depth) {
+        Ok(mut run) => {
+            let old_header = KeyHeader::new(weighting, depth, from);
+            let new_header = KeyHeader::new(weighting, depth, to);
+            let end = run.rekey_headed(input, out, old_header.as_bytes(), new_header.as_bytes());
             drop(run);
             end
         }

@@ -32,6 +32,7 @@ input_kind_text input_kind.Memory = codes "Memory"
 abbrev pub stored_key_text : StoredKeyKind → List ℕ
 stored_key_text stored_key.NoKey = codes "NoKey"
 stored_key_text stored_key.NoImage = codes "NoImage"
+stored_key_text stored_key.Header = codes "Header"
 stored_key_text stored_key.TooLong = codes "TooLong"
 stored_key_text stored_key.Read = codes "Read"
 stored_key_text stored_key.Memory = codes "Memory"

@@ -126,6 +126,8 @@ pub enum StoredKeyKind {
     NoKey,
     /// Its key has no key under the new table: a weight has no image, or its levels do not fit the weighting and the depth.
     NoImage,
+    /// It is the first line, and is not the header that has to come before the keys; or there is no line at all.
+    Header,
     /// It has more bytes than a line may have.
     TooLong,
     /// The reader failed.
@@ -143,6 +145,7 @@ impl StoredKeyKind {
         match self {
             StoredKeyKind::NoKey => "NoKey",
             StoredKeyKind::NoImage => "NoImage",
+            StoredKeyKind::Header => "Header",
             StoredKeyKind::TooLong => "TooLong",
             StoredKeyKind::Read => "Read",
             StoredKeyKind::Memory => "Memory",

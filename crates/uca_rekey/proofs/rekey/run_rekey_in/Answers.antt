@@ -8,7 +8,7 @@ use Rattle.uca_run_parts.specs.declared.faults.RunFault.TheVariants.{Memory}
 use Rattle.uca_run_parts.proofs.WholeRuns.{ended_before, ended_by_lines}
 use Rattle.uca_rekey.specs.RekeyRun.{RunsRekey}
 use Rattle.uca_rekey.specs.RekeySoFar.{HasRekeyed, IsBegun, RekeysRest, moved_by, mover_of}
-use Rattle.uca_rekey.proofs.Rekeying.{begun_so, by_same, runs_rekey}
+use Rattle.uca_rekey.proofs.Rekeying.{begun_so, by_same, runs_rekey, writes_rekeyed}
 use Rattle.uca_rekey.proofs.rekey.run_rekey_in.Goals as goal
 
 pub returns-in-Ok : goal.returns-in-Ok
@@ -23,12 +23,13 @@ returns-in-Ok g c =
     (c.args.certificate.now ∷ []) (c.begin.new.certificate ∷ []) {B = ⊤} input input_new out c.end-end.new.out tt c.end-end.result lines
     (λ content begun.
     let by = mover_of content c.args.depth c.args.weighting in
-    let begin = by_same by run.mover begun.same (λ moved. HasRekeyed moved input.remaining out.contents [] [] run.lines input run.written out)
+    let begin = by_same by run.mover begun.same (λ moved. HasRekeyed moved [] [] input.remaining out.contents [] [] run.lines input run.written out)
     (begun_so by run.mover run.lines run.written input out begun) in
-    let rest = by_same run.mover by (sym begun.same) (λ moved. RekeysRest moved input.remaining out.contents input_new c.rekey_rest-end.new.self.written.buffer c.rekey_rest-end.new.out c.rekey_rest-end.result)
-    (c.rekey_rest-end.ensures.rekeys input.remaining out.contents [] [] begin) in
+    let rest = by_same run.mover by (sym begun.same) (λ moved. RekeysRest moved [] [] input.remaining out.contents input_new c.rekey_rest-end.new.self.written.buffer c.rekey_rest-end.new.out c.rekey_rest-end.result)
+    (c.rekey_rest-end.ensures.rekeys [] [] input.remaining out.contents [] [] begin) in
     runs_rekey c.args.weighting c.args.depth input input_new out c.end-end.new.out c.end-end.result content lines
-    (c.end-end.ensures.writes (moved_by by) input.remaining out.contents input_new rest))
+    (writes_rekeyed (moved_by by) input.remaining input_new.remaining out.contents c.end-end.new.out.contents c.end-end.result
+    (c.end-end.ensures.writes (moved_by by) [] [] input.remaining out.contents input_new rest)))
     c.in-Ok.ensures.begun c.in-Ok.ensures.failed
     (λ none. subst (λ b. input_new.failed ≡ (input.failed || b)) (sym (c.end-end.ensures.not_read none)) c.rekey_rest-end.ensures.input_failed)
     (c.end-end.ensures.failed out.failed c.rekey_rest-end.ensures.out_failed)
