@@ -492,5 +492,7 @@ fn other_faults(rt: HostRuntime) -> Result<(), Fail> {
     check(alloc, &RunFault::Memory, "memory\n", 4)?;
     check(alloc, &RunFault::Words(WordFault::Memory), "memory\n", 4)?;
     let weighting = RunFault::Words(WordFault::Weighting);
-    check(alloc, &weighting, "weighting: unknown\n", 2)
+    check(alloc, &weighting, "weighting: unknown\n", 2)?;
+    let fingerprint = RunFault::Words(WordFault::Fingerprint);
+    check(alloc, &fingerprint, "fingerprint: unknown\n", 2)
 }

@@ -19,6 +19,7 @@ fn said(alloc: Global, words: &[&str]) -> Result<String, AllocError> {
         Ok(words) => format!(in alloc; "{words:?}"),
         Err(WordFault::Refused(error)) => format!(in alloc; "{:?}", error.kind()),
         Err(WordFault::Weighting) => String::from_str(alloc, "Weighting"),
+        Err(WordFault::Fingerprint) => String::from_str(alloc, "Fingerprint"),
         Err(WordFault::Memory) => String::from_str(alloc, "Memory"),
     }
 }
@@ -39,19 +40,20 @@ fn check_cases(alloc: Global, cases: &str) -> Result<(), Fail> {
 
 /// An empty text is a word too, as is the name of a subcommand.
 const READ: &str = r#"check t d | Check(CheckWords { table: "t", properties: "d" })
-keys t d | Keys(KeysWords { weighting: None, depth: Weights, lines: false, table: "t", properties: "d" })
-keys --weighting shifted t d | Keys(KeysWords { weighting: Some(Shifted), depth: Weights, lines: false, table: "t", properties: "d" })
-keys t --weighting shifted d | Keys(KeysWords { weighting: Some(Shifted), depth: Weights, lines: false, table: "t", properties: "d" })
-keys --weighting=shifted d t | Keys(KeysWords { weighting: Some(Shifted), depth: Weights, lines: false, table: "d", properties: "t" })
-keys -- --weighting d | Keys(KeysWords { weighting: None, depth: Weights, lines: false, table: "--weighting", properties: "d" })
-keys --identical t d | Keys(KeysWords { weighting: None, depth: Identical, lines: false, table: "t", properties: "d" })
-keys t d --identical | Keys(KeysWords { weighting: None, depth: Identical, lines: false, table: "t", properties: "d" })
-keys t -- --identical | Keys(KeysWords { weighting: None, depth: Weights, lines: false, table: "t", properties: "--identical" })
-keys --lines t d | Keys(KeysWords { weighting: None, depth: Weights, lines: true, table: "t", properties: "d" })
-keys t --lines d | Keys(KeysWords { weighting: None, depth: Weights, lines: true, table: "t", properties: "d" })
-keys t d --lines --identical --weighting shifted | Keys(KeysWords { weighting: Some(Shifted), depth: Identical, lines: true, table: "t", properties: "d" })
-keys t -- --lines | Keys(KeysWords { weighting: None, depth: Weights, lines: false, table: "t", properties: "--lines" })
-keys help d | Keys(KeysWords { weighting: None, depth: Weights, lines: false, table: "help", properties: "d" })
+keys t d | Keys(KeysWords { weighting: None, depth: Weights, lines: false, header: false, table: "t", properties: "d" })
+keys --weighting shifted t d | Keys(KeysWords { weighting: Some(Shifted), depth: Weights, lines: false, header: false, table: "t", properties: "d" })
+keys t --weighting shifted d | Keys(KeysWords { weighting: Some(Shifted), depth: Weights, lines: false, header: false, table: "t", properties: "d" })
+keys --weighting=shifted d t | Keys(KeysWords { weighting: Some(Shifted), depth: Weights, lines: false, header: false, table: "d", properties: "t" })
+keys -- --weighting d | Keys(KeysWords { weighting: None, depth: Weights, lines: false, header: false, table: "--weighting", properties: "d" })
+keys --identical t d | Keys(KeysWords { weighting: None, depth: Identical, lines: false, header: false, table: "t", properties: "d" })
+keys t d --identical | Keys(KeysWords { weighting: None, depth: Identical, lines: false, header: false, table: "t", properties: "d" })
+keys t -- --identical | Keys(KeysWords { weighting: None, depth: Weights, lines: false, header: false, table: "t", properties: "--identical" })
+keys --header t d | Keys(KeysWords { weighting: None, depth: Weights, lines: false, header: true, table: "t", properties: "d" })
+keys --lines t d | Keys(KeysWords { weighting: None, depth: Weights, lines: true, header: false, table: "t", properties: "d" })
+keys t --lines d | Keys(KeysWords { weighting: None, depth: Weights, lines: true, header: false, table: "t", properties: "d" })
+keys t d --lines --identical --weighting shifted | Keys(KeysWords { weighting: Some(Shifted), depth: Identical, lines: true, header: false, table: "t", properties: "d" })
+keys t -- --lines | Keys(KeysWords { weighting: None, depth: Weights, lines: false, header: false, table: "t", properties: "--lines" })
+keys help d | Keys(KeysWords { weighting: None, depth: Weights, lines: false, header: false, table: "help", properties: "d" })
 sort t d | Sort(SortWords { weighting: None, depth: Weights, table: "t", properties: "d" })
 sort t d --weighting shifted | Sort(SortWords { weighting: Some(Shifted), depth: Weights, table: "t", properties: "d" })
 sort --weighting=non-ignorable t d | Sort(SortWords { weighting: Some(NonIgnorable), depth: Weights, table: "t", properties: "d" })
@@ -77,9 +79,9 @@ affected d -- --changes | Affected(AffectedWords { changes: false, properties: "
 changes o d n e c | Changes(ChangesWords { editions: EditionNames { old: "o", old_data: "d", new: "n", new_data: "e" }, certificate: "c" })
 changes c e -- n d --changes | Changes(ChangesWords { editions: EditionNames { old: "c", old_data: "e", new: "n", new_data: "d" }, certificate: "--changes" })
 audit-changes o d n e h c | AuditChanges(AuditChangesWords { editions: EditionNames { old: "o", old_data: "d", new: "n", new_data: "e" }, changes: "h", certificate: "c" })
-rekey c | Rekey(RekeyWords { weighting: None, depth: Weights, certificate: "c" })
-rekey --identical c --weighting shifted | Rekey(RekeyWords { weighting: Some(Shifted), depth: Identical, certificate: "c" })
-rekey --weighting=non-ignorable -- --identical | Rekey(RekeyWords { weighting: Some(NonIgnorable), depth: Weights, certificate: "--identical" })
+rekey c | Rekey(RekeyWords { weighting: None, depth: Weights, fingerprints: None, certificate: "c" })
+rekey --identical c --weighting shifted | Rekey(RekeyWords { weighting: Some(Shifted), depth: Identical, fingerprints: None, certificate: "c" })
+rekey --weighting=non-ignorable -- --identical | Rekey(RekeyWords { weighting: Some(NonIgnorable), depth: Weights, fingerprints: None, certificate: "--identical" })
 fingerprint t d | Fingerprint(FingerprintWords { weighting: None, depth: Weights, table: "t", properties: "d" })
 fingerprint --identical t --weighting shifted d | Fingerprint(FingerprintWords { weighting: Some(Shifted), depth: Identical, table: "t", properties: "d" })"#;
 
@@ -88,16 +90,22 @@ fn words_that_are_read(rt: HostRuntime) -> Result<(), Fail> {
     check_cases(rt.alloc(), READ)
 }
 
-/// The words are judged before the weighting.
+/// The words are judged before the values of options.
 const NO_WEIGHTINGS: &str = r#"keys --weighting x t d | Weighting
 sort --weighting Shifted t d | Weighting
 compare --weighting=shift t d a b | Weighting
 rekey --weighting x c | Weighting
+rekey --weighting x --from y c | Weighting
+rekey --from 0123456789abcdef0123456789abcdef0123456789abcdef0123456789abcdef c | Fingerprint
+rekey --to 0123456789abcdef0123456789abcdef0123456789abcdef0123456789abcdef c | Fingerprint
+rekey --from 0123456789abcdef0123456789abcdef0123456789abcdef0123456789abcdef --to 0123456789abcdef0123456789abcdef0123456789abcdef0123456789abcde c | Fingerprint
+rekey --from 0123456789abcdef0123456789abcdef0123456789abcdef0123456789abcdeF --to 0123456789abcdef0123456789abcdef0123456789abcdef0123456789abcdef c | Fingerprint
+rekey --from 0123456789abcdef0123456789abcdef0123456789abcdef0123456789abcdef --to 0123456789abcdef0123456789abcdef0123456789abcdef0123456789abcdef0 c | Fingerprint
 fingerprint --weighting x t d | Weighting
 keys --weighting= t d | Weighting
 sort --weighting x no-such-table no-such-data | Weighting
 keys --weighting x t | MissingRequiredArgument
-keys --weighting shifted t d | Keys(KeysWords { weighting: Some(Shifted), depth: Weights, lines: false, table: "t", properties: "d" })"#;
+keys --weighting shifted t d | Keys(KeysWords { weighting: Some(Shifted), depth: Weights, lines: false, header: false, table: "t", properties: "d" })"#;
 
 #[test]
 fn weightings_that_are_none(rt: HostRuntime) -> Result<(), Fail> {

@@ -25,6 +25,7 @@ use Rattle.uca_words.specs.declared.AffectedWords.{AffectedWords}
 use Rattle.uca_words.specs.declared.ChangesWords.{ChangesWords}
 use Rattle.uca_words.specs.declared.AuditChangesWords.{AuditChangesWords}
 use Rattle.uca_words.specs.declared.RekeyWords.{RekeyWords}
+use Rattle.uca_words.specs.declared.Fingerprints.{Fingerprints}
 use Rattle.uca_words.specs.declared.FingerprintWords.{FingerprintWords}
 use Rattle.uca_words.specs.Words.{AreRead, IsFaultOf}
 use Rattle.uca_words.specs.declared.WordFault.{WordFault}
@@ -34,12 +35,14 @@ use Rattle.uca_run_parts.specs.declared.faults.RunFault.{RunFault}
 use Rattle.uca_run_parts.specs.declared.faults.RunFault.TheVariants.{CertificateWrite, Memory, Open, SameAs, Words, Write}
 use Rattle.uca_run_parts.specs.CheckRun.{Checks}
 use Rattle.uca_runs.specs.CompareRun.{Compares, comparing}
+use Rattle.uca_runs.specs.HeadedRun.{PrintsHeadedKeys, PrintsHeadedLines}
 use Rattle.uca_runs.specs.KeysRun.{PrintsKeys, PrintsKeyedLines}
 use Rattle.uca_run_parts.specs.AffectedRun.{PrintsAffected}
 use Rattle.uca_sort_runs.specs.SortRun.{SortsLines}
 use Rattle.uca_change_runs.specs.ChangesRun.{FindsChanges}
 use Rattle.uca_change_runs.specs.AuditRun.{AuditsChanges}
 use Rattle.uca_change_runs.specs.AffectedRun.{PrintsAffectedByChanges}
+use Rattle.uca_rekey.specs.HeadedRun.{RekeysHeaded}
 use Rattle.uca_rekey.specs.RekeyRun.{RekeysLines}
 use Rattle.uca_fingerprint_runs.specs.FingerprintRun.{PrintsFingerprint}
 use Rattle.uca_named_files.specs.NamedFiles.{FileSystem, NamedFile, file_for, table_and_data, tailor_files, affected_files, audit_files, edition_files, change_files, AreOpened, DoesNotOpen, AreOthers, IsFirstSame, KeepsCertificate}
@@ -101,13 +104,17 @@ DoesCheck files old new words out out_new result =
     OpensAndRuns files old new (table_and_data words.table.now words.properties.now) (out_new ≡ out)
     (λ olds news. Ran check_result (Checks olds news out out_new) result) result
 
--- what `keys` prints: with `--lines` the key of each line and the line, else the key alone
-abbrev pub Prints : Bool → Option Weighting → Depth → List SourceState → List SourceState → SourceState → SourceState
+-- what `keys` prints: with `--lines` the key of each line and the line, else the key alone; with `--header` a header first
+abbrev pub Prints : Bool → Bool → Option Weighting → Depth → List SourceState → List SourceState → SourceState → SourceState
     → SinkState → SinkState → Result (Unit {0}) RunFault → Type 0
-Prints true weighting depth olds news input input_new out out_new run =
+Prints true false weighting depth olds news input input_new out out_new run =
     PrintsKeyedLines weighting depth olds news input input_new out out_new run
-Prints false weighting depth olds news input input_new out out_new run =
+Prints false false weighting depth olds news input input_new out out_new run =
     PrintsKeys weighting depth olds news input input_new out out_new run
+Prints true true weighting depth olds news input input_new out out_new run =
+    PrintsHeadedLines weighting depth olds news input input_new out out_new run
+Prints false true weighting depth olds news input input_new out out_new run =
+    PrintsHeadedKeys weighting depth olds news input input_new out out_new run
 
 -- what `keys` does
 abbrev pub DoesKeys : {O F M : Type 0} → FileSystem O F M → O → O → KeysWords → Streams → Streams
@@ -115,7 +122,7 @@ abbrev pub DoesKeys : {O F M : Type 0} → FileSystem O F M → O → O → Keys
 DoesKeys files old new words start end result =
     OpensAndRuns files old new (table_and_data words.table.now words.properties.now) (end ≡ start)
     (λ olds news. Ran (done_result {A = Unit {0}})
-    (Prints words.lines words.weighting words.depth olds news start.input end.input start.out end.out) result) result
+    (Prints words.lines words.header words.weighting words.depth olds news start.input end.input start.out end.out) result) result
 
 -- what `sort` does
 abbrev pub DoesSort : {O F M : Type 0} → FileSystem O F M → O → O → SortWords → Streams → Streams
@@ -277,13 +284,21 @@ DoesAffected files old new words start end result =
 
 -- ---- Rekey
 
+-- the run of `rekey`: with fingerprints, the input begins with a header that has the old one, and the output with one that has the new
+abbrev pub Rekeys : Weighting → Depth → Option Fingerprints → List SourceState → List SourceState → SourceState → SourceState
+    → SinkState → SinkState → Result (Unit {0}) RunFault → Type 0
+Rekeys weighting depth None olds news input input_new out out_new run =
+    RekeysLines weighting depth olds news input input_new out out_new run
+Rekeys weighting depth (Some given) olds news input input_new out out_new run =
+    RekeysHeaded weighting depth given.from given.to olds news input input_new out out_new run
+
 -- what `rekey` does: the weighting is the one that is asked for, or else shifted
 abbrev pub DoesRekey : {O F M : Type 0} → FileSystem O F M → O → O → RekeyWords → Streams → Streams
     → Result ℕ RunFault → Type 0
 DoesRekey files old new words start end result =
     OpensAndRuns files old new (file_for roles.Certificate words.certificate.now ∷ []) (end ≡ start)
     (λ olds news. Ran (done_result {A = Unit {0}})
-    (RekeysLines (unwrap_or words.weighting Shifted) words.depth olds news start.input end.input start.out end.out) result) result
+    (Rekeys (unwrap_or words.weighting Shifted) words.depth words.fingerprints olds news start.input end.input start.out end.out) result) result
 
 -- ---- The command
 

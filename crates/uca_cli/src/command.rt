@@ -20,7 +20,7 @@ use uca_named_files::opening::{open_audit_files, open_files, open_three, open_tw
 use uca_reports::report;
 use uca_run_parts::faults::{Role, RunFault};
 use uca_run_parts::{run_affected, run_check};
-use uca_runs::{run_compare, run_keyed_lines, run_keys};
+use uca_runs::{run_compare, run_headed_keys, run_headed_lines, run_keyed_lines, run_keys};
 use uca_sort_runs::run_sort;
 use uca_tailor_runs::{run_audit, run_tailor};
 use uca_values::Table;
@@ -68,7 +68,7 @@ fn keys<O: Opens, I: Read, W: Write>(
     }
 }
 
-// The run of `keys`: with or without the lines.
+// The run of `keys`: with or without the lines, and with or without a header.
 fn print<T: Read, D: Read, I: Read, W: Write>(
     alloc: Global,
     words: &KeysWords,
@@ -77,29 +77,21 @@ fn print<T: Read, D: Read, I: Read, W: Write>(
     input: &mut Source<I>,
     out: &mut Sink<W>,
 ) -> Result<(), RunFault>
-    ensures { Prints words.now.lines words.now.weighting words.now.depth (table.old ∷ properties.old ∷ []) (table.new ∷ properties.new ∷ [])
-        input.old input.new out.old out.new result }
+    ensures { Prints words.now.lines words.now.header words.now.weighting words.now.depth
+        (table.old ∷ properties.old ∷ []) (table.new ∷ properties.new ∷ []) input.old input.new out.old out.new result }
 {
+    let weighting = words.weighting;
+    let depth = words.depth;
     if words.lines {
-        run_keyed_lines(
-            alloc,
-            table,
-            properties,
-            input,
-            out,
-            words.weighting,
-            words.depth,
-        )
+        if words.header {
+            run_headed_lines(alloc, table, properties, input, out, weighting, depth)
+        } else {
+            run_keyed_lines(alloc, table, properties, input, out, weighting, depth)
+        }
+    } else if words.header {
+        run_headed_keys(alloc, table, properties, input, out, weighting, depth)
     } else {
-        run_keys(
-            alloc,
-            table,
-            properties,
-            input,
-            out,
-            words.weighting,
-            words.depth,
-        )
+        run_keys(alloc, table, properties, input, out, weighting, depth)
     }
 }
 

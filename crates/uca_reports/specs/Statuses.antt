@@ -86,6 +86,7 @@ IsRefusalStatus kind status = (status ≡ refusal_status kind) ⊎ (status ≡ 4
 
 abbrev pub IsWordStatus : WordFault → ℕ → Type 0
 IsWordStatus words.Weighting status = status ≡ 2
+IsWordStatus words.Fingerprint status = status ≡ 2
 IsWordStatus words.Memory status = status ≡ 4
 IsWordStatus (words.Refused error) status = IsRefusalStatus (kind_of error) status
 

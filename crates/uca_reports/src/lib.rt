@@ -182,6 +182,11 @@ fn report_words<W: Write, E: Write>(
             WRONG_WORDS,
             err,
         ),
+        WordFault::Fingerprint => write_line(
+            &RunFault::Words(WordFault::Fingerprint),
+            WRONG_WORDS,
+            err,
+        ),
         WordFault::Memory => write_line(&RunFault::Words(WordFault::Memory), NO_MEMORY, err),
     }
 }

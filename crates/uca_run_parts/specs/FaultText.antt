@@ -51,6 +51,7 @@ side_text right = if right then codes "right" else codes "left"
 -- of the text of `clap` nothing is known
 abbrev pub word_fault_text : WordFault → List ℕ
 word_fault_text words.Weighting = codes "weighting: unknown"
+word_fault_text words.Fingerprint = codes "fingerprint: unknown"
 word_fault_text words.Memory = codes "memory"
 word_fault_text (words.Refused error) = []
 

@@ -292,6 +292,7 @@ impl RunFault {
             RunFault::Open(role) => role_message(*role, ": Open"),
             RunFault::SameAs(role) => Message::of("certificate: SameAs ").text(role.name()),
             RunFault::Words(WordFault::Weighting) => Message::of("weighting: unknown"),
+            RunFault::Words(WordFault::Fingerprint) => Message::of("fingerprint: unknown"),
             RunFault::Words(WordFault::Memory) => Message::of("memory"),
             RunFault::Words(WordFault::Refused(_)) => Message::of(""),
         }

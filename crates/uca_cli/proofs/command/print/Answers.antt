@@ -1,8 +1,5 @@
--- The flag says which run it is.
+-- The flags say which run it is.
 use Rattle.uca_cli.proofs.command.print.Goals as goal
 
-pub returns-then-words : goal.returns-then-words
-returns-then-words g c = rw c.if-words.true c.run_keyed_lines.ensures
-
-pub returns-else-words : goal.returns-else-words
-returns-else-words g c = rw c.if-words.false c.run_keys.ensures
+pub returns-then-words-then-words-2 : goal.returns-then-words-then-words-2
+returns-then-words-then-words-2 g c = rw (c.if-words.true, c.if-words-2.true) c.run_headed_lines.ensures
