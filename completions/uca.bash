@@ -22,8 +22,9 @@ _uca_options() {
 _uca_options_of() {
     case $1 in
         '') echo "-h --help -V --version" ;;
-        keys) echo "--weighting --identical --lines -h --help" ;;
-        sort | compare | rekey | fingerprint) echo "--weighting --identical -h --help" ;;
+        keys) echo "--weighting --identical --lines --header -h --help" ;;
+        rekey) echo "--weighting --identical --from --to -h --help" ;;
+        sort | compare | fingerprint) echo "--weighting --identical -h --help" ;;
         affected) echo "--changes -h --help" ;;
         check | tailor | audit | changes | audit-changes) echo "-h --help" ;;
     esac
@@ -47,7 +48,7 @@ _uca_read() {
     for ((at = 1; at < COMP_CWORD; at++)); do
         case ${COMP_WORDS[at]} in
             *[\<\>]) ((at++)) ;;
-            --weighting)
+            --weighting | --from | --to)
                 [[ ${COMP_WORDS[at + 1]} == = ]] && ((at++))
                 ((at++))
                 ;;
@@ -68,6 +69,7 @@ _uca() {
         *[\<\>]' ') _uca_files "$current" ;;
         *' --weighting ') _uca_words "${current#=}" "$weightings" ;;
         *' --weighting = ') _uca_words "$current" "$weightings" ;;
+        *' --from ' | *' --to ' | *' --from = ' | *' --to = ') ;;
         *)
             if [[ $current == -* && ! $ended ]]; then
                 _uca_options "$command" "$current" "$before"

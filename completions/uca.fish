@@ -7,7 +7,7 @@ function __uca_arguments
     for word in (commandline -opc)[2..-1]
         if test $skip = 1
             set skip 0
-        else if test "$word" = --weighting
+        else if contains -- "$word" --weighting --from --to
             set skip 1
         else if not string match -q -- '-*' $word
             echo $word
@@ -53,6 +53,9 @@ complete -c uca -n '__uca_wants_file 1 help' -a 'check keys sort compare tailor 
 complete -c uca -n '__uca_has_command keys sort compare rekey fingerprint' -l weighting -x -a 'non-ignorable shifted' -d 'How spaces and punctuation count'
 complete -c uca -n '__uca_wants_option identical keys sort compare rekey fingerprint' -l identical -d 'Order texts of equal weight by their code points'
 complete -c uca -n '__uca_wants_option lines keys' -l lines -d 'Print the line after its key'
+complete -c uca -n '__uca_wants_option header keys' -l header -d 'Print a first line that says what made the keys'
+complete -c uca -n '__uca_has_command rekey' -l from -x -d 'The input has a header with this fingerprint'
+complete -c uca -n '__uca_has_command rekey' -l to -x -d 'Print a header with this fingerprint'
 complete -c uca -n '__uca_wants_option changes affected' -l changes -d 'Take a file of changes in place of rules'
 
 complete -c uca -n '__uca_wants_file 1 rekey' -F

@@ -1,6 +1,7 @@
 """The arguments: help, version, which lines are taken, and what they ask for."""
 import os
 import random
+import re
 
 from program import DATA, TABLE, ProgramTest
 
@@ -80,7 +81,7 @@ class Model:
     # How many names and texts a command takes, and which options.
     TAKES = {
         "check": (2, []),
-        "keys": (2, ["--weighting", "--identical", "--lines"]),
+        "keys": (2, ["--weighting", "--identical", "--lines", "--header"]),
         "sort": (2, ["--weighting", "--identical"]),
         "compare": (4, ["--weighting", "--identical"]),
         "tailor": (4, []),
@@ -88,7 +89,7 @@ class Model:
         "affected": (2, ["--changes"]),
         "changes": (5, []),
         "audit-changes": (6, []),
-        "rekey": (1, ["--weighting", "--identical"]),
+        "rekey": (1, ["--weighting", "--identical", "--from", "--to"]),
         "fingerprint": (2, ["--weighting", "--identical"]),
     }
 
@@ -97,6 +98,8 @@ class Model:
         self.texts, self.options = [], {}
         self.is_taken = self.command in self.TAKES and self.takes(words)
         self.is_weighting_known = self.options.get("--weighting") in (None, "shifted", "non-ignorable")
+        fingerprints = [self.options.get(name) for name in ("--from", "--to")]
+        self.are_fingerprints_known = fingerprints == [None, None] or all(it and re.fullmatch("[0-9a-f]{64}", it) for it in fingerprints)
 
     def takes(self, words):
         count, options = self.TAKES[self.command]
@@ -110,7 +113,7 @@ class Model:
                 are_texts = True
             elif name not in options or name in self.options:
                 return False
-            elif name == "--weighting":
+            elif name in ("--weighting", "--from", "--to"):
                 # a value may not look like an option, but for the single hyphen
                 if not equals and (not words or words[0].startswith("-") and words[0] != "-"):
                     return False
@@ -130,6 +133,7 @@ class Model:
 LINES = """check t d
 keys t d
 keys --weighting shifted t d --identical --lines
+keys --header t d
 sort --weighting=non-ignorable --identical t d
 compare t d a b
 compare --identical t d --weighting non-ignorable -- -a --b
@@ -140,11 +144,12 @@ affected --changes d h
 changes b d t d c
 audit-changes b d t d h c
 rekey --weighting shifted c --identical
-fingerprint --identical t --weighting=shifted d""".splitlines()
+rekey --from {0} c --to={0}
+fingerprint --identical t --weighting=shifted d""".format("0123456789abcdef" * 4).splitlines()
 
 PUT_IN = """check keys sort compare tailor audit affected changes audit-changes rekey fingerprint help order t - -- ---
 --weighting --weighting= --weighting=shifted --weightings shifted non-ignorable Shifted --identical --identical= --lines --linest
---changes --changes= --change -i -h --help -V --version é =""".split()
+--changes --changes= --change --header --from --to={} -i -h --help -V --version é =""".format("0123456789abcdef" * 4).split()
 
 
 class Lines(ProgramTest):
@@ -160,6 +165,8 @@ class Lines(ProgramTest):
         with self.subTest(line=line):
             if model.is_taken and not model.is_weighting_known:
                 self.assertEqual(ended, (2, b"", b"weighting: unknown\n"))
+            elif model.is_taken and not model.are_fingerprints_known:
+                self.assertEqual(ended, (2, b"", b"fingerprint: unknown\n"))
             elif model.is_taken:
                 self.assertFalse(ended.err.startswith(b"error: "), ended)
                 self.assertEqual(ended, self.run_uca(*model.plainly(), given="a b\n"))
