@@ -105,7 +105,7 @@ module _ (moved : List ℕ → Option (List ℕ)) (from to : List ℕ) (same : l
         absurd (omega (arith, short, stops.2, count_is begun out.contents [] written.buffer read.text, length-append to (10 ∷ [])))
     header_not_written _ short stops = absurd stops
 
--- an error of the writer, and of the size, is none of before the lines
+-- neither an error of the writer nor one of the size comes before the lines
 pub line_not_before : (line : List ℕ) (old new : WrittenState) (out now : SinkState) (fault : RunFault) → WritesLine {A = Unit {0}} line old new out now (Err fault)
     → ended_before_input {A = Unit {0}} (Err fault) ≡ false
 line_not_before line old new out now (File role cause) stops = absurd stops

@@ -53,7 +53,8 @@ WritesLine line old new out now (Err (StoredKey number kind)) =
 WritesLine line old new out now (Err (Write written)) = FailsToWriteThrough (ended line) old.buffer out now written
 WritesLine line old new out now (Err _) = ⊥
 
--- The lines are `from`, in whose place `to` is written, and then lines that are rekeyed. A header is such a line. Both have as many bytes.
+-- First come the lines `from`, in whose place `to` is written, and then lines that are rekeyed: so a header and the lines after it. `from` and `to`
+-- have as many bytes.
 pub record AreReplaced (moved : List ℕ → Option (List ℕ)) (from to lines new : List (List ℕ)) : Type 0 where
   pub keyed : List (List ℕ)
   pub rekeyed : List (List ℕ)
@@ -92,7 +93,7 @@ RekeysRest moved from to start begun input buffer out (Err (Write written)) =
     × PartWentOut begun out.contents (flat_map ended new) written
 RekeysRest moved from to start begun input buffer out (Err _) = ⊥
 
--- what all this leaves once what waits was written
+-- what a run returns and leaves once what waited was written
 abbrev pub WritesReplaced : {A : Type 0} → (List ℕ → Option (List ℕ)) → List (List ℕ) → List (List ℕ) → List ℕ → Option (List ℕ) → Option (List ℕ) → Option (List ℕ) → Result A RunFault → Type 0
 WritesReplaced moved from to bytes left begun now (Ok x) =
     (new : List (List ℕ)) × AreReplaced moved from to (lines_of bytes) new × Appends begun now (flat_map ended new)
@@ -104,7 +105,7 @@ WritesReplaced moved from to bytes left begun now (Err _) = ⊥
 
 -- ---- A header
 
--- whether an error of a line is none of its key: the line is not read
+-- the error is none of a key or of a header: the line is not read
 abbrev pub IsUnread : StoredKeyKind → Type 0
 IsUnread kinds.TooLong = ⊤
 IsUnread kinds.Read = ⊤
