@@ -1,22 +1,18 @@
 -- What a run of fingerprint returns and writes.
-use Rattle.std.specs.Prelude.{◌≡◌, ℕ, List, [], ◌∷◌, ◌++◌, ◌||◌, true, Option, Result, Ok, Err, unwrap_or}
+use Rattle.std.specs.Prelude.{◌≡◌, ℕ, List, [], ◌∷◌, ◌++◌, ◌||◌, true, Option, Result, Ok, Err}
 use Rattle.std.specs.Io.KnownBytes.{Appends}
 use Rattle.hex.specs.Hex.{encode_lower}
 use Rattle.sha2.specs.Sha256.{sha256}
 use Rattle.uca_weights.specs.declared.Depth.{Depth}
 use Rattle.uca_weights.specs.declared.Weighting.{Weighting}
-use Rattle.uca_weights.specs.declared.Weighting.TheVariants.{Shifted}
 use Rattle.uca_weights.specs.Streams.{SourceState, SinkState}
 use Rattle.uca_fingerprint.specs.Fingerprints.{fingerprint_text}
+use Rattle.uca_changes.specs.Weightings.{weighting_by}
 use Rattle.uca_run_parts.specs.declared.faults.RunFault.{RunFault}
 use Rattle.uca_run_parts.specs.declared.faults.RunFault.TheVariants.{Write}
 use Rattle.uca_run_parts.specs.Files.{HaveFailed, Over, table_and_data_roles}
 use Rattle.uca_run_parts.specs.Runs.{PartWentOut, ended_before_output, ended_by_output}
 use Rattle.uca_fingerprint_runs.specs.SummedFiles.{SummedContent, summed_files}
-
--- the weighting that is asked for, or else the table's, or else shifted (UTS #10, section 4)
-abbrev pub weighting_by : Option Weighting → Option Weighting → Weighting
-weighting_by asked setting = unwrap_or asked (unwrap_or setting Shifted)
 
 -- the fingerprint of what texts are keyed by under files that were summed
 abbrev pub fingerprint_under : Option Weighting → Depth → SummedContent → List ℕ

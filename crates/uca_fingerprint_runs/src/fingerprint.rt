@@ -5,7 +5,7 @@ ghost use Rattle.hex.specs.Hex.{encode_lower};
 ghost use Rattle.sha2.specs.Sha256.{sha256};
 ghost use Rattle.uca_fingerprint.specs.Fingerprints.{fingerprint_text};
 ghost use Rattle.uca_values.specs.Content.{properties_of};
-ghost use Rattle.uca_fingerprint_runs.specs.FingerprintRun.{PrintsFingerprint, fingerprint_under, weighting_by};
+ghost use Rattle.uca_fingerprint_runs.specs.FingerprintRun.{PrintsFingerprint, fingerprint_under};
 ghost use Rattle.uca_fingerprint_runs.specs.SummedFiles.{summed_with};
 
 use crate::summed_files::{SummedFiles, read_summed_files};
