@@ -7,8 +7,8 @@
 //!   where `--changes` is.
 //! - `Refused` has an error of a kind that the specification gives for the arguments. It is never returned for arguments
 //!   that the command accepts.
-//! - `Weighting` is returned only for arguments that the command accepts and whose weighting has no known name, and `Fingerprint`
-//!   only for such arguments whose values of `--from` and `--to` are not two fingerprints.
+//! - `Weighting` is returned only for arguments that the command accepts and whose weighting has no known name. `Fingerprint` is
+//!   returned only for arguments that it accepts and whose values of `--from` and `--to` are not two fingerprints.
 //! - No contract says when an allocation fails, or what the text of an error is. Tests compare the whole texts.
 #![tactic(auto)]
 
