@@ -1,1 +1,2 @@
 pub mod KeySettings
+pub mod Rows

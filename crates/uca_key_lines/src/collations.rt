@@ -5,7 +5,7 @@ ghost use Rattle.uca_values.specs.Content.{properties_of};
 ghost use Rattle.uca_elements.specs.Rows.{rows_of};
 ghost use Rattle.uca_elements.specs.Collations.{collation_of};
 ghost use Rattle.uca_order.specs.Lengths.{HasShortRows};
-ghost use Rattle.uca_run_parts.specs.Files.{HaveFailed, Over, table_and_data, table_and_data_roles};
+ghost use Rattle.uca_run_parts.specs.Files.{HaveFailed, Over, table_and_data, table_and_data_roles, table_with};
 ghost use Rattle.uca_run_parts.specs.EachLine.{ended_before_input};
 ghost use Rattle.uca_changes.specs.Weightings.{weighting_by};
 ghost use Rattle.uca_key_lines.specs.Keys.{IsCollation, collation_in};
@@ -65,11 +65,32 @@ pub fn read_collation<A: Allocator + Copy, T: Read, D: Read>(
     ensures failed { HaveFailed table_and_data_roles (table.old ∷ properties.old ∷ [])
         (table.new ∷ properties.new ∷ []) result }
 {
-    let files = read_packed_files(alloc, table, properties)?;
-    let (table, properties) = files;
+    match read_packed_files(alloc, table, properties) {
+        Ok(files) => collation_of(alloc, files.0, files.1, weighting),
+        Err(fault) => Err(fault),
+    }
+}
+
+/// What keys go by under a table and a data file that were read: the rows are made ready to be looked up. The weighting is
+/// that of [`read_collation`].
+///
+/// # Errors
+///
+/// `Memory` if an allocation fails for the rows.
+pub fn collation_of<A: Allocator + Copy>(
+    alloc: A,
+    table: PackedTable<A>,
+    properties: Data<A>,
+    asked: Option<Weighting>,
+) -> Result<ReadCollation<A>, RunFault>
+    ensures made { IfOk result (λ read. IsCollation asked (collation_in (⟦<Trie<A> as Lookup>⟧.content read.rows) read.header
+        (properties_of read.properties)) read.weighting (table_with table (properties_of properties))) }
+    ensures short { IfOk result (λ read. HasShortRows (⟦<Trie<A> as Lookup>⟧.content read.rows)) }
+    ensures refused { IfErr result (λ fault. fault ≡ RunFault.Memory) }
+{
     match rows_of_table(alloc, table) {
         Ok((header, rows)) => Ok(ReadCollation {
-            weighting: chosen_weighting(weighting, &header),
+            weighting: chosen_weighting(asked, &header),
             header,
             rows,
             properties,

@@ -5,3 +5,4 @@ pub mod UntouchedLines
 pub mod OneOrder
 pub mod KeyRuns
 pub mod Comparing
+pub mod HeadedRuns

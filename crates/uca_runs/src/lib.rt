@@ -2,11 +2,13 @@
 #![tactic(auto)]
 
 pub mod compare;
+pub mod headed;
 pub mod keyed_lines;
 pub mod keys;
 pub mod laws;
 
 pub use compare::{compare_words, run_compare, run_compare_in};
+pub use headed::{run_headed_keys, run_headed_keys_in, run_headed_lines, run_headed_lines_in};
 pub use keyed_lines::{print_keyed_lines, run_keyed_lines, run_keyed_lines_in};
 pub use keys::{print_keys, run_keys, run_keys_in};
 pub use laws::{
