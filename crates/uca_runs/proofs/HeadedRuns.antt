@@ -20,7 +20,8 @@ use Rattle.uca_run_parts.specs.EachLine.{WritesEach, ended_before_input}
 use Rattle.uca_run_parts.specs.Input.{clean_lines}
 use Rattle.uca_run_parts.specs.Runs.{FailsToWrite, ended_by_output, is_input_read}
 use Rattle.uca_fingerprint_runs.specs.SummedFiles.{SummedContent}
-use Rattle.uca_key_lines.specs.Keys.{KeySettings, key_settings, weighting_by}
+use Rattle.uca_changes.specs.Weightings.{weighting_by}
+use Rattle.uca_key_lines.specs.Keys.{KeySettings, key_settings}
 use Rattle.uca_runs.specs.HeadedParts.{ended_after}
 use Rattle.uca_runs.specs.HeadedRun.{RunsHeaded, WritesHeaded, header_under}
 

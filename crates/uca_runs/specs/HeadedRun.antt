@@ -8,6 +8,7 @@ use Rattle.uca_weights.specs.Streams.{SourceState, SinkState}
 use Rattle.uca_values.specs.Content.{Properties}
 use Rattle.uca_fingerprint.specs.KeyHeaders.{key_header}
 use Rattle.uca_lines.specs.Lines.{ended, lines_of}
+use Rattle.uca_changes.specs.Weightings.{weighting_by}
 use Rattle.uca_run_parts.specs.declared.faults.RunFault.{RunFault}
 use Rattle.uca_run_parts.specs.declared.faults.RunFault.TheVariants.{Input, Memory, Write}
 use Rattle.uca_run_parts.specs.EachLine.{PrintsEach}
@@ -16,7 +17,7 @@ use Rattle.uca_run_parts.specs.Input.{clean_lines}
 use Rattle.uca_run_parts.specs.Runs.{IsClean, IsInputFault, PartWentOut}
 use Rattle.uca_fingerprint_runs.specs.FingerprintRun.{fingerprint_under}
 use Rattle.uca_fingerprint_runs.specs.SummedFiles.{SummedContent, summed_files}
-use Rattle.uca_key_lines.specs.Keys.{KeySettings, key_settings, keyed_line, printed_key, weighting_by}
+use Rattle.uca_key_lines.specs.Keys.{KeySettings, key_settings, keyed_line, printed_key}
 
 -- The header of a run, with its LF. It has the weighting that is asked for, or else the table's, or else shifted. It has the
 -- depth, and the fingerprint of both with the two files.
