@@ -9,7 +9,7 @@
    - A uca_collator was zeroed (UCA_CLOSED_COLLATOR) before its first call, and its members are written by calls alone. It may be
      moved in memory, between calls, if the old bytes are forgotten. A copy of an open one is none.
    - A uca_collator is in one call at a time. It may change threads between two calls, if a lock or a thread's start or join orders
-     these. uca_abi, uca_version, uca_collator_size and uca_compare_keys may be called from any thread at any time.
+     these. uca_abi, uca_version, uca_collator_size, uca_compare_keys and uca_fingerprint may be called from any thread at any time.
    - malloc, realloc and free are one allocator, whose blocks are aligned to 16 bytes. No call is made in a signal handler, or in
      the forked child of a process with threads.
 
