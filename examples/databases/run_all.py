@@ -322,14 +322,20 @@ def mend(bench, kind, query, script, database):
     rules, table, certificate = tailored(bench, "moving", MOVING)
     before = bench.run(query)
     try:
-        bench.example(*script, bench.data, rules, table, certificate, *database)
+        bench.example(*script, bench.table, bench.data, rules, table, certificate, *database)
         bench.check(f"tailoring: {kind}: a certificate that moves weights is seen", False)
     except Failed as it:
         bench.check(f"tailoring: {kind}: a certificate that moves weights is seen", "make all keys again" in str(it) and bench.run(query) == before)
     rules, table, certificate = tailored(bench, "staying", STAYING)
     wanted = bench.uca("sort", table, bench.data, lines=lines)
     bench.check(f"tailoring: {kind}: the old keys give another order", before != wanted)
-    bench.example(*script, bench.data, rules, table, certificate, *database)
+    for given in ([bench.table, bench.data, rules, table, certificate, *database, "--weighting", "non-ignorable"], [table, bench.data, rules, table, certificate, *database]):
+        try:
+            bench.example(*script, *given)
+            bench.check(f"tailoring: {kind}: other files or settings are seen", False)
+        except Failed as it:
+            bench.check(f"tailoring: {kind}: other files or settings are seen", "other files or settings" in str(it) and bench.run(query) == before)
+    bench.example(*script, bench.table, bench.data, rules, table, certificate, *database)
     affected = bench.uca("affected", bench.data, rules, lines=lines)
     said = f"{affected.count(10):,} of {lines.count(10):,} lines are affected"
     bench.check(f"tailoring: {kind}: with these keys made again it is that of uca sort", bench.run(query) == wanted, said)
