@@ -3,18 +3,23 @@
 #
 #     examples/databases/mend_postgresql.sh TABLE DATA RULES TAILORED CERTIFICATE [OPTION OF uca keys..]
 #
-# The table `words` is one that load_postgresql.sh made. Its keys have to be those of TABLE, DATA and the options. If they are not, or
-# if the certificate moves a weight, the old keys do not mix with new ones: the script then changes nothing and ends with status 1.
+# The table `words` is one that load_postgresql.sh made. Its keys have to be those of TABLE, DATA and the options, and `uca audit` has to
+# accept the tailoring. The certificate may move no weight, since old keys would not mix with new ones. Otherwise the script changes
+# nothing and ends with status 1.
 set -euo pipefail
 table=$1 data=$2 rules=$3 tailored=$4 certificate=$5
 shift 5
 
 made_by=$(uca keys --header "$@" "$table" "$data" < /dev/null)
-if [ "$(psql -v ON_ERROR_STOP=1 -Atc "select obj_description('words'::regclass)")" != "$made_by" ]; then
+if [ "$(psql -v ON_ERROR_STOP=1 -Atc "select obj_description('words'::regclass, 'pg_class')")" != "$made_by" ]; then
     echo 'the keys of the table were made by other files or settings' >&2
     exit 1
 fi
 
+if ! said=$(uca audit "$table" "$data" "$rules" "$tailored" "$certificate"); then
+    echo "the tailoring is not accepted: $said" >&2
+    exit 1
+fi
 if ! awk '$2 != $3 { moved = 1 } END { exit moved }' "$certificate"; then
     echo 'the certificate moves weights: make all keys again' >&2
     exit 1
@@ -25,8 +30,12 @@ trap 'rm -f "$texts" "$keyed"' EXIT
 psql -v ON_ERROR_STOP=1 -Atc 'select distinct word from words' > "$texts"
 uca affected "$data" "$rules" < "$texts" | uca keys --lines --header "$@" "$tailored" "$data" > "$keyed"
 
+# Another program may have changed the keys since the test above: then this is an error, and all is taken back.
+still="do \$\$ begin if obj_description('words'::regclass, 'pg_class') is distinct from '$made_by' then
+    raise exception 'the keys of the table were made by other files or settings'; end if; end \$\$"
+
 # The same signs as in load_postgresql.sh. -1 makes one transaction of it.
 sed -e 1d -e 's/\\/\\\\/g' -e 's/\t/\\t/2g' -e 's/\r/\\r/g' -e 's/^/\\\\x/' "$keyed" |
-    psql -q -1 -v ON_ERROR_STOP=1 -c 'create temporary table again (key bytea, word text)' -c '\copy again from pstdin' \
+    psql -q -1 -v ON_ERROR_STOP=1 -c 'lock table words' -c "$still" -c 'create temporary table again (key bytea, word text)' -c '\copy again from pstdin' \
         -c 'update words set key = again.key from again where words.word = again.word' \
         -c "comment on table words is '$(head -1 "$keyed")'"

@@ -3,8 +3,9 @@
 #
 #     examples/databases/mend_sqlite.sh TABLE DATA RULES TAILORED CERTIFICATE DATABASE [OPTION OF uca keys..]
 #
-# DATABASE is one that load_sqlite.sh made. Its keys have to be those of TABLE, DATA and the options. If they are not, or if the
-# certificate moves a weight, the old keys do not mix with new ones: the script then changes nothing and ends with status 1.
+# DATABASE is one that load_sqlite.sh made. Its keys have to be those of TABLE, DATA and the options, and `uca audit` has to accept the
+# tailoring. The certificate may move no weight, since old keys would not mix with new ones. Otherwise the script changes nothing and
+# ends with status 1.
 set -euo pipefail
 table=$1 data=$2 rules=$3 tailored=$4 certificate=$5 database=$6
 shift 6
@@ -15,6 +16,10 @@ if [ "$(sqlite3 "$database" 'select header from made_by')" != "$made_by" ]; then
     exit 1
 fi
 
+if ! said=$(uca audit "$table" "$data" "$rules" "$tailored" "$certificate"); then
+    echo "the tailoring is not accepted: $said" >&2
+    exit 1
+fi
 if ! awk '$2 != $3 { moved = 1 } END { exit moved }' "$certificate"; then
     echo 'the certificate moves weights: make all keys again' >&2
     exit 1
@@ -26,7 +31,10 @@ sqlite3 "$database" 'select distinct word from words' > "$texts"
 uca affected "$data" "$rules" < "$texts" | uca keys --lines --header "$@" "$tailored" "$data" > "$keyed"
 
 {
-    echo 'begin;'
+    # Another program may have changed the keys since the test above: then the check fails, and all is taken back.
+    echo 'begin immediate;'
+    echo 'create temporary table same (ok integer check (ok));'
+    echo "insert into same select (select group_concat(header) from made_by) is '$made_by';"
     echo 'create index words_word on words (word);'
     sed -e "1!d" -e "s/.*/update made_by set header = '&';/" "$keyed"
     sed -e 1d -e "s/'/''/g" -e "s/\t/' where word = '/" -e "s/^/update words set key = x'/" -e "s/\$/';/" "$keyed"

@@ -292,7 +292,7 @@ def try_workers(bench):
 
 # ---- After a tailoring
 
-STAYING, MOVING = "&b < bh\n", "&b < bh <<< Bh\n"
+STAYING, MOVING, OTHER = "&b < bh\n", "&b < bh <<< Bh\n", "&c < ch\n"
 
 
 def tailored(bench, name, rules):
@@ -329,12 +329,18 @@ def mend(bench, kind, query, script, database):
     rules, table, certificate = tailored(bench, "staying", STAYING)
     wanted = bench.uca("sort", table, bench.data, lines=lines)
     bench.check(f"tailoring: {kind}: the old keys give another order", before != wanted)
-    for given in ([bench.table, bench.data, rules, table, certificate, *database, "--weighting", "non-ignorable"], [table, bench.data, rules, table, certificate, *database]):
+    other = tailored(bench, "other", OTHER)[1]
+    wrong = [
+        ("other settings are seen", "other files or settings", [bench.table, bench.data, rules, table, certificate, *database, "--weighting", "non-ignorable"]),
+        ("another table is seen", "other files or settings", [table, bench.data, rules, table, certificate, *database]),
+        ("a table of other rules is seen", "not accepted", [bench.table, bench.data, rules, other, certificate, *database]),
+    ]
+    for what, said, given in wrong:
         try:
             bench.example(*script, *given)
-            bench.check(f"tailoring: {kind}: other files or settings are seen", False)
+            bench.check(f"tailoring: {kind}: {what}", False)
         except Failed as it:
-            bench.check(f"tailoring: {kind}: other files or settings are seen", "other files or settings" in str(it) and bench.run(query) == before)
+            bench.check(f"tailoring: {kind}: {what}", said in str(it) and bench.run(query) == before)
     bench.example(*script, bench.table, bench.data, rules, table, certificate, *database)
     affected = bench.uca("affected", bench.data, rules, lines=lines)
     said = f"{affected.count(10):,} of {lines.count(10):,} lines are affected"
