@@ -55,6 +55,9 @@ ROLES = {
     "fingerprint": ("table", "data"),
 }
 
+# Two fingerprints, as they are written.
+OLD_SUM, NEW_SUM = "0" * 64, "1" * 64
+
 # Each command line, the file of its standard input if it reads one, and what must be among the lines of its failed
 # allocations: these in their order, and each once where it comes several times in a row.
 SORTED = "input line 30: Memory\nmemory\n"
@@ -67,6 +70,8 @@ CASES = (
     ("keys table.txt data.txt", "many.txt", ""),
     ("keys --lines table.txt data.txt", "lines.txt", ""),
     ("keys --lines table.txt data.txt", "wrong.txt", ""),
+    ("keys --header --lines table.txt data.txt", "lines.txt", ""),
+    ("keys --header table.txt data.txt", "wrong.txt", ""),
     ("affected data.txt rules.txt", "affected.txt", ""),
     ("sort table.txt data.txt", "lines.txt", ""),
     ("sort --identical --weighting non-ignorable table.txt data.txt", "lines.txt", ""),
@@ -86,6 +91,8 @@ CASES = (
     ("affected --changes new_data.txt changes.txt", "affected.txt", ""),
     ("rekey images.txt", "stored.txt", ""),
     ("rekey images.txt", "wrong.txt", ""),
+    (f"rekey --from {OLD_SUM} --to {NEW_SUM} images.txt", "headed.txt", ""),
+    (f"rekey --from {NEW_SUM} --to {OLD_SUM} images.txt", "headed.txt", ""),
     ("fingerprint --identical table.txt data.txt", None, ""),
     ("sort table.txt missing.txt", None, ""),
     ("tailor --help", None, "memory\n"),
@@ -122,6 +129,7 @@ def contents():
         with open(os.path.join("examples/editions", file_name), "rb") as file:
             files[name] = file.read()
     files["stored.txt"] = b"1C47 0000 0020 0000 0002 0000 FFFF\n1C60000000200000000800000209\tb\n" * 2 + b"0000 0000 0000"
+    files["headed.txt"] = b"#uca keys 1 shifted weights %s\n" % OLD_SUM.encode() + files["stored.txt"]
     files["ill-formed.txt"] = files["table.txt"].replace(b"[.0000.0024.0002]", b"[.0000.0020.0002]")
     files["spellings.txt"] = "# spellings\n&[before 1]b < \u1ea1 / ch <<* x-z'q' &\u00e1h <<< \\u00C1h = \uac01".encode()
     files["anchor.txt"] = "&b < bh &\u4e00 < x".encode()
@@ -155,7 +163,9 @@ class Case:
         if self.words[0] == "affected":
             before = self.read[-1][1].split(b"\n")[: line - 1]
             return b"".join(it + b"\n" for it in before if it + b"\n" in printed)
-        return b"".join(printed[: line - 1]) if self.words[0] in ("keys", "rekey") else b""
+        # the header of keys is before their first line, and that of stored keys is their first line
+        count = line if "--header" in self.words else line - 1
+        return b"".join(printed[:count]) if self.words[0] in ("keys", "rekey") else b""
 
     def of_memory(self, ending):
         if ending == self.plain:
