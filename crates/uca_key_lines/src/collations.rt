@@ -71,8 +71,8 @@ pub fn read_collation<A: Allocator + Copy, T: Read, D: Read>(
     }
 }
 
-/// What keys go by under a table and a data file that were read: the rows are made ready to be looked up. The weighting is
-/// that of [`read_collation`].
+/// What keys go by under a table and a data file that were read before. It makes the rows ready to be looked up. The weighting is
+/// the one that is asked for, or else that of the table's `@variable`, or else shifted (UTS #10, section 4).
 ///
 /// # Errors
 ///

@@ -1,5 +1,5 @@
 -- What goes out of a header and of the lines after it.
-use Rattle.std.proofs.Common.{◌≡◌, ◌∙◌, ℕ, ◌+◌, ◌-◌, ◌^◌, ◌<◌, ◌≤◌, [], ◌∷◌, ◌++◌, ◌||◌, min, true, false, List, length, take, Bool, Option, Some, None, Result, Ok, Err, IfSome, refl, ap, ap₂, arith, subst, sym}
+use Rattle.std.proofs.Common.{◌≡◌, ◌∙◌, ℕ, ◌+◌, ◌-◌, ◌^◌, ◌<◌, ◌≤◌, [], ◌∷◌, ◌++◌, ◌||◌, min, false, List, length, Bool, Option, Some, None, Result, Ok, Err, IfSome, refl, ap, ap₂, arith, subst, sym}
 use Rattle.sha2.specs.Sha256.{sha256}
 use Rattle.std.specs.List.{flat_map}
 use Rattle.std.specs.Io.KnownBytes.{Appends}
@@ -14,7 +14,7 @@ use Rattle.uca_fingerprint.specs.Fingerprints.{fingerprint_text}
 use Rattle.uca_fingerprint.specs.KeyHeaders.{key_header}
 use Rattle.uca_lines.specs.Lines.{ended, lines_of}
 use Rattle.uca_run_parts.specs.declared.faults.RunFault.{RunFault}
-use Rattle.uca_run_parts.specs.declared.faults.RunFault.TheVariants.{File, Input, Memory, Write}
+use Rattle.uca_run_parts.specs.declared.faults.RunFault.TheVariants.{Input, Memory, Write}
 use Rattle.uca_run_parts.proofs.FilesLemmas.{stays}
 use Rattle.uca_run_parts.specs.EachLine.{WritesEach, ended_before_input}
 use Rattle.uca_run_parts.specs.Input.{clean_lines}
