@@ -27,14 +27,13 @@ pub use uca_runs::{
     affected_texts_are_the_others, canonically_equivalent_lines_have_one_key_line, compare_words,
     identical_line_keys_are_of_equivalent_lines, key_order_is_one, line_keys_compare_as_lines,
     print_keyed_lines, print_keys, run_compare, run_compare_in, run_headed_keys,
-    run_headed_keys_in, run_headed_lines, run_headed_lines_in, run_keyed_lines,
-    run_keyed_lines_in, run_keys, run_keys_in, untouched_lines_keep_their_order,
+    run_headed_keys_in, run_headed_lines, run_headed_lines_in, run_keyed_lines, run_keyed_lines_in,
+    run_keys, run_keys_in, untouched_lines_keep_their_order,
 };
 pub use uca_sort_runs::{run_sort, run_sort_in, sort_lines};
 pub use uca_tailor_runs::{run_audit, run_audit_in, run_tailor, run_tailor_in, write_tailored};
 pub use uca_words::{
     AffectedWords, AuditChangesWords, AuditWords, ChangesWords, CheckWords, CompareWords,
     EditionNames, FingerprintWords, Fingerprints, KeysWords, RekeyWords, SortWords, TailorWords,
-    WordFault,
-    Words, read_words,
+    WordFault, Words, read_words,
 };
