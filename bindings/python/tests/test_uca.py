@@ -18,6 +18,7 @@ import threading
 import types
 import typing
 import unittest
+import unittest.mock
 
 import uca
 
@@ -536,14 +537,41 @@ class Copies(unittest.TestCase):
 
     def test_other_files(self):
         for number in (0, 1):
-            with files() as paths, uca.Collator(*paths) as collator:
-                pickled = pickle.dumps(collator)
-                write(paths[number], (TABLE, DATA)[number] + b"# a comment\n")
-                for call in (lambda: pickle.loads(pickled), lambda: copy.copy(collator), lambda: copy.deepcopy(collator)):
-                    self.assertRaises(uca.FingerprintError, call)
-                os.remove(paths[number])
-                self.assertRaises(FileNotFoundError, pickle.loads, pickled)
-                self.assertEqual(collator.key("a"), hexadecimal("1C47 0000 0020 0000 0002 0000 FFFF"))
+            with files() as paths, Named("names", paths) as collator:
+                key, state = collator.key("a"), collator.__getstate__()
+                for change, error in changes(paths[number]):
+                    change()
+                    for it in copies(collator):
+                        self.assertEqual(it.name, "names")
+                        self.check_failed(it, error)
+                    self.assertRaises(error, collator.__setstate__, state)
+                    self.assertEqual(collator.key("a"), key)
+
+    def test_no_memory_for_a_copy(self):
+        with files() as paths, uca.Collator(*paths) as collator:
+            with unittest.mock.patch.object(uca, "_check_files", side_effect=MemoryError):
+                failed = list(copies(collator))
+            for it in failed:
+                self.check_failed(it, MemoryError)
+
+    def check_failed(self, collator, error):
+        """Each use of a copy that could not be opened raises the error, and another one each time."""
+        uses = [lambda: collator.key("a"), lambda: collator.compare("a", "b"), lambda: collator.fingerprint, collator.__getstate__]
+        uses += [lambda: pickle.dumps(collator), lambda: copy.copy(collator)]
+        raised = []
+        for use in uses + uses:
+            self.assertFalse(collator.is_open)
+            with self.assertRaises(error) as caught:
+                use()
+            raised.append(caught.exception)
+            collator.close()
+        self.assertEqual(len({id(it) for it in raised}), len(raised))
+        self.assertIsNone(collator._collator.error.__traceback__)  # it would keep the files in memory
+        for it in raised:
+            self.assertIs(type(it), error)
+            self.assertEqual((it.args, str(it), it.__context__), (raised[0].args, str(raised[0]), None))
+            self.assertEqual(str(pickle.loads(pickle.dumps(it))), str(it))
+        self.assertRaises(RuntimeError, uca.Collator.__init__, collator, TABLE, DATA)
 
     def test_other_folder(self):
         before = os.getcwd()
@@ -574,6 +602,15 @@ class Copies(unittest.TestCase):
             self.assertEqual((collator.fingerprint, len(collator.key("a"))), (kept, 14))
 
 
+def changes(path):
+    """Changes of a file, each with the error of opening it then."""
+    with open(path, "rb") as it:
+        content = it.read()
+    yield lambda: write(path, content + b"# a comment\n"), uca.FingerprintError
+    yield lambda: write(path, b"x"), uca.FileError
+    yield lambda: os.remove(path), FileNotFoundError
+
+
 def open_rejected_files():
     uca.Collator(b"", b"")
 
@@ -587,6 +624,15 @@ def use_closed():
     collator = uca.Collator(TABLE, DATA)
     collator.close()
     collator.key("a")
+
+
+def keep(collator):
+    """An initializer of a pool."""
+    keep.collator = collator
+
+
+def make_key_by_kept(text):
+    return keep.collator.key(text)
 
 
 def open_others():
@@ -619,6 +665,30 @@ class Errors(unittest.TestCase):
             self.assertRaises(uca.FingerprintError, pool.submit(open_others).result, timeout=60)
             with uca.Collator(*paths) as collator:
                 self.assertEqual(pool.submit(collator.key, "a").result(timeout=60), collator.key("a"))
+
+    def check_pool(self, key_of):
+        """A pool raises the error of each change of a file, and goes on."""
+        with files() as paths, uca.Collator(*paths) as collator:
+            for change, error in changes(paths[0]):
+                change()
+                self.assertRaises(error, key_of, collator)
+            write(paths[0], TABLE)
+            self.assertEqual(key_of(collator), collator.key("a"))
+
+    def test_changed_files_and_an_executor(self):
+        with concurrent.futures.ProcessPoolExecutor(1, mp_context=multiprocessing.get_context("spawn")) as pool:
+            self.check_pool(lambda collator: pool.submit(collator.key, "a").result(timeout=60))
+
+    def test_changed_files_and_a_pool(self):
+        with multiprocessing.get_context("spawn").Pool(1) as pool:
+            self.check_pool(lambda collator: pool.apply_async(collator.key, ("a",)).get(timeout=60))
+
+    def test_changed_files_and_an_initializer(self):
+        def key_of(collator):
+            with multiprocessing.get_context("spawn").Pool(1, keep, [collator]) as pool:
+                return pool.apply_async(make_key_by_kept, ("a",)).get(timeout=60)
+
+        self.check_pool(key_of)
 
 
 class Library(unittest.TestCase):

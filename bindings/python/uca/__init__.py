@@ -8,6 +8,7 @@ the environment's UCA_LIBRARY names, or else the one beside this module, or else
 """
 from __future__ import annotations
 
+import copy
 import ctypes
 import operator
 import os
@@ -123,12 +124,18 @@ class _Collator(ctypes.Structure):
     arguments: Tuple[Optional[str], Optional[str], Optional[str], bool] = (None, None, None, False)
     #: the fingerprint, or "" if it was never open
     fingerprint = ""
+    #: the error of a use while it is not open: that it is closed, or why a copy could not be opened
+    error: Exception = ClosedError()
     #: uca_close, which takes no lock, since nothing else uses the collator. The interpreter clears a module's names when it ends,
     #: so it is kept here.
     close_unused: Callable[[_Collator], None]
 
     def __del__(self) -> None:
         self.close_unused(self)
+
+    def new_error(self) -> Exception:
+        """The error of one use. A raised error keeps where that was, so each use gets another one."""
+        return copy.copy(self.error)
 
 
 class _Error(ctypes.Structure):
@@ -272,10 +279,10 @@ def _check_settings(weighting: Optional[str], identical: bool, fingerprint: str)
         raise ValueError("fingerprint has 64 lower-case hexadecimal digits")
 
 
-def _raise(status: int) -> None:
+def _raise(status: int, collator: _Collator) -> None:
     """Raises the error of a status of a call with texts."""
     if status == _CLOSED:
-        raise ClosedError
+        raise collator.new_error()
     if status == _MEMORY:
         raise MemoryError
     raise TextError(_TEXT_ERRORS[status])
@@ -296,7 +303,8 @@ class Collator:
     It has memory of its own until it is closed: by :meth:`close`, at the end of a ``with``, or when it is collected.
 
     Threads may share it, and so may handlers of signals and the child of a fork. One that was opened by paths can be pickled and
-    copied. The copy is opened by the same paths and settings, and other files there are a :class:`FingerprintError`.
+    copied. The copy is opened by the same paths and settings. If that is an error, as for other files a
+    :class:`FingerprintError`, the copy is not open, and each use of it raises this error.
     """
 
     _collator = _CLOSED_COLLATOR
@@ -332,19 +340,26 @@ class Collator:
     def fingerprint(self) -> str:
         """What keys are made by, as 64 hexadecimal digits: both files, the weighting and the depth. Keep it beside stored keys."""
         if not self._collator.fingerprint:
-            raise ClosedError
+            raise self._collator.new_error()
         return self._collator.fingerprint
 
     def __getstate__(self) -> Dict[str, Any]:
         """What a copy is opened by, and the attributes of a subclass."""
         if not self.is_open:
-            raise ClosedError
+            raise self._collator.new_error()
         if None in self._collator.arguments[:2]:
             raise TypeError("a Collator of bytes cannot be pickled or copied: open it by paths")
         return {**vars(self), "_collator": (*self._collator.arguments, self.fingerprint)}
 
     def __setstate__(self, state: Dict[str, Any]) -> None:
-        self._open(*state["_collator"])
+        try:
+            self._open(*state["_collator"])
+        except (UcaError, OSError, MemoryError) as error:
+            # A worker of a pool that cannot read a task ends, and the pool with it. So each use of the copy raises the error.
+            failed = _Collator()
+            failed.error = copy.copy(error)
+            if vars(self).setdefault("_collator", failed) is not failed:
+                raise
         vars(self).update((name, it) for name, it in state.items() if name != "_collator")
 
     def key(self, text: Text) -> bytes:
@@ -360,7 +375,7 @@ class Collator:
             out = ctypes.create_string_buffer(needed.value)
             status = _library.uca_key(self._collator, encoded, len(encoded), out, len(out), needed)
         if status != _OK:
-            _raise(status)
+            _raise(status, self._collator)
         return out[: needed.value]
 
     def compare(self, left: Text, right: Text) -> Comparison:
@@ -371,7 +386,7 @@ class Collator:
         first, second, found = _encoded(left), _encoded(right), _Comparison()
         status = _library.uca_compare(self._collator, first, len(first), second, len(second), found)
         if status != _OK:
-            _raise(status)
+            _raise(status, self._collator)
         return Comparison(found.order, found.level)
 
     def close(self) -> None:
