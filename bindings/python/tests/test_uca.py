@@ -502,6 +502,32 @@ class Named(uca.Collator):
         self.name = name
 
 
+class Slots(Named):
+    """A subclass with slots too."""
+
+    __slots__ = ("limit", "unset", "__hidden")
+
+    def __init__(self, name, paths):
+        super().__init__(name, paths)
+        self.limit, self.__hidden = 3, [name]
+
+    def attributes(self):
+        return self.name, self.limit, self.__hidden, hasattr(self, "unset")
+
+
+class Wider(Slots):
+    """A subclass of that one, with a single slot."""
+
+    __slots__ = "width"
+
+    def __init__(self, name, paths):
+        super().__init__(name, paths)
+        self.width = 5
+
+    def attributes(self):
+        return (*super().attributes(), self.width)
+
+
 def copies(collator):
     """The collator after each way of copying."""
     for protocol in range(pickle.HIGHEST_PROTOCOL + 1):
@@ -534,6 +560,14 @@ class Copies(unittest.TestCase):
             for it in copies(collator):
                 self.assertEqual((type(it), it.name, it.fingerprint), (Named, "names", collator.fingerprint))
                 it.close()
+
+    def test_slots(self):
+        for kind in (Slots, Wider):
+            with files() as paths, kind("names", paths) as collator:
+                self.assertEqual(collator.attributes()[:4], ("names", 3, ["names"], False))
+                for it in copies(collator):
+                    self.assertEqual((type(it), it.attributes(), it.fingerprint), (kind, collator.attributes(), collator.fingerprint))
+                    it.close()
 
     def test_other_files(self):
         for number in (0, 1):

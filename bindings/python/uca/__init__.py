@@ -16,7 +16,8 @@ import re
 import sys
 import sysconfig
 import threading
-from typing import Any, Callable, Dict, NamedTuple, Optional, Tuple, Type, TypeVar, Union
+import types
+from typing import Any, Callable, Dict, NamedTuple, Optional, Set, Tuple, Type, TypeVar, Union
 
 __all__ = [
     "Collator",
@@ -279,6 +280,11 @@ def _check_settings(weighting: Optional[str], identical: bool, fingerprint: str)
         raise ValueError("fingerprint has 64 lower-case hexadecimal digits")
 
 
+def _slots(kind: type) -> Set[str]:
+    """The names of the slots of a class. Attributes in these are not in ``vars`` of an object."""
+    return {name for it in kind.__mro__ for name, member in vars(it).items() if isinstance(member, types.MemberDescriptorType)}
+
+
 def _raise(status: int, collator: _Collator) -> None:
     """Raises the error of a status of a call with texts."""
     if status == _CLOSED:
@@ -349,7 +355,8 @@ class Collator:
             raise self._collator.new_error()
         if None in self._collator.arguments[:2]:
             raise TypeError("a Collator of bytes cannot be pickled or copied: open it by paths")
-        return {**vars(self), "_collator": (*self._collator.arguments, self.fingerprint)}
+        in_slots = {name: getattr(self, name) for name in _slots(type(self)) if hasattr(self, name)}
+        return {**in_slots, **vars(self), "_collator": (*self._collator.arguments, self.fingerprint)}
 
     def __setstate__(self, state: Dict[str, Any]) -> None:
         try:
@@ -360,7 +367,12 @@ class Collator:
             failed.error = copy.copy(error)
             if vars(self).setdefault("_collator", failed) is not failed:
                 raise
-        vars(self).update((name, it) for name, it in state.items() if name != "_collator")
+        slots = _slots(type(self))
+        for name, it in state.items():
+            if name in slots:
+                object.__setattr__(self, name, it)
+            elif name != "_collator":
+                vars(self)[name] = it
 
     def key(self, text: Text) -> bytes:
         """The sort key of a text. Keys of one collator compare as bytes as their texts do.
