@@ -109,6 +109,10 @@ def exports(work):
     same(sorted(it for it in found if it != "UCA_1"), sorted(declared), "exported names")
 
 
+# Names that make, the shell, pkg-config or LD_LIBRARY_PATH takes for others.
+NAMES = ["plain$x", "plain$$", "plain$(x)", "plain`true`", 'plain"x', "plain\\x", "plain#x", "plain:x", "plain;x"]
+
+
 def installed(work):
     """What make made is installed where there is no rt, in folders with blanks in their names, and taken away again."""
     need("make", "gcc", "pkg-config")
@@ -130,6 +134,14 @@ def installed(work):
     for wrong in (["PREFIX=usr"], [f"PREFIX={prefix}", "LIBDIR=lib"], [f"PREFIX={prefix}", f"OUT={work}/nothing"]):
         if not subprocess.run([*make_it, "install", *wrong], stderr=subprocess.DEVNULL).returncode:
             raise AssertionError(f"make install {wrong} has no error")
+    for name in NAMES:
+        for place in ("PREFIX", "LIBDIR", "DESTDIR"):
+            for goal in ("install", "uninstall"):
+                places = {"PREFIX": f"{work}/plain", place: f"{work}/{name}"}
+                ran = subprocess.run([*make_it, goal, *(f"{it}={at}" for it, at in places.items())], capture_output=True, text=True)
+                if not ran.returncode or "PREFIX, LIBDIR and DESTDIR may have none of" not in ran.stderr:
+                    raise AssertionError(f"make {goal} {places}: status {ran.returncode}: {ran.stderr}")
+    same([it for it in os.listdir(work) if it.startswith("plain")], [], "folders of names that are rejected")
 
 
 def stored_run(work):
