@@ -11,7 +11,7 @@ First prove and build the static library: `tools/build.py uca_c`. Then this scri
 - the names that libuca.so.1 exports, which have to be those of uca.h, and the header as C++;
 - a program that is compiled by what pkg-config says of a temporary installation, and the programs of docs/BINDINGS.md;
 - the tests of the module for Python, as it is and from a wheel with the library inside, and those of keys, threads, signals and forks under valgrind;
-- statements of SQLite with the extension, over files that are the same or others, and those of docs/BINDINGS.md; also where each allocation fails in turn;
+- statements of SQLite with the extension, over files that are the same or others, and those of docs/BINDINGS.md; also in threads, and where each allocation fails in turn;
 - statements, dumps and replication of PostgreSQL with its extension, which is installed to a copy of the server's programs in a temporary folder. Each server
   has a folder of its own, listens on a Unix socket there, and is stopped afterwards;
 - all four over Unicode's table, and over that table tailored for Danish: 100,000 words of nine languages have the keys of `uca keys` and the order of `uca sort`.
@@ -293,6 +293,7 @@ SQLITE = [
 # What goes by no fingerprint, or by one that is none.
 SQLITE_ERRORS = [
     (f"SELECT uca_key(CAST(x'FF' AS TEXT), '{USED}');", "uca_key: Utf8"),
+    (f"SELECT uca_key(x'61', '{USED}');", "uca_key: the first argument is a blob, not a text"),
     ("SELECT uca_key('a');", "wrong number of arguments to function uca_key()"),
     ("CREATE INDEX i ON words(uca_key(word));", "wrong number of arguments to function uca_key()"),
     ("SELECT word FROM words ORDER BY word COLLATE uca;", "no such collation sequence: uca"),
@@ -351,6 +352,10 @@ def sqlite_loads(work):
     ):
         arguments += f", '{DATA}'" if "," not in arguments else ""
         sqlite_fails(work, error, f"SELECT uca_load({arguments});", load="")
+    shared = f"file:{work}/shared.db?cache=shared"
+    sqlite_fails(work, "uca_load: the database has a shared cache", f"SELECT uca_load('{TABLE}', '{DATA}');", load="", database=shared)
+    private = shared.replace("shared", "private")
+    same(sqlite_says(work, f"SELECT uca_load('{TABLE}', '{DATA}', '', '', '{USED}');", load="", database=private), USED + "\n", "a private cache")
 
 
 def sqlite_files(work):
@@ -442,6 +447,17 @@ def sqlite_attached(work):
     same(found, "b bh bz ch\n" * 3 + "b bz bh ch\n" * 3 + "ok\n", "two editions")
 
 
+def sqlite_threads(work):
+    """SQLite sorts in several threads, while keys are made."""
+    made = ["PRAGMA threads = 4; PRAGMA cache_size = -200; CREATE TABLE words(word TEXT);",
+            "WITH RECURSIVE n(i) AS (SELECT 1 UNION ALL SELECT i + 1 FROM n WHERE i < 100000)"
+            "INSERT INTO words SELECT char(97 + i * 7919 % 26, 97 + i * 104729 % 26, 256 + i * 31 % 20000) || i FROM n;"]
+    keys = f"CREATE TABLE keys AS SELECT uca_key(word, '{USED}') AS key FROM words ORDER BY word COLLATE uca_{USED};"
+    wrong = "SELECT count(*), sum(is_wrong) FROM (SELECT key < lag(key) OVER (ORDER BY rowid) AS is_wrong FROM keys);"
+    index = f"CREATE INDEX i ON words(word COLLATE uca_{USED}); PRAGMA integrity_check;"
+    same(sqlite_says(work, *made, keys, wrong, index, database=f"{work}/threads.db"), "4\n100000|0\nok\n", "threads of SQLite")
+
+
 def sqlite_memory(work):
     """Each allocation fails in turn."""
     sqlite_says(work, "SELECT 1;")
@@ -486,6 +502,11 @@ def sqlite_page(work):
     database_made_before(f"{work}/before.db")
     sqlite_fails(work, "wrong number of arguments to function uca_key()", "SELECT word FROM words;", database=f"{work}/before.db")
     page_statements(work, "before.db", before)
+    constraint = re.search(r"`(CHECK \(.*?\))`", text).group(1).replace("e7f5..", USED)
+    made = f"CREATE TABLE plain(word TEXT, key BLOB {constraint}); INSERT INTO plain VALUES ('a', uca_key('a', '{USED}')), (NULL, NULL);"
+    sqlite_says(work, made)
+    for key in ("NULL", "''", "x'1C47'"):
+        sqlite_fails(work, "CHECK constraint failed", made, f"INSERT INTO plain VALUES ('a', {key});")
 
 
 def sqlite_like(program):
@@ -933,7 +954,7 @@ def main():
     checks = [("make", make), ("valgrind", valgrind), ("sanitizers", sanitizers), ("header in C++", header), ("exported names", exports),
               ("installation", installed), ("stored run", stored_run), ("docs/BINDINGS.md", page), ("keys", keys_like(program)), ("Python", python), ("Python under valgrind", python_valgrind), ("wheel", wheel), ("sort", sorted_like(program)), ("SQLite", sqlite),
               ("SQLite's loads", sqlite_loads), ("SQLite's files", sqlite_files), ("SQLite's schemas", sqlite_schemas), ("SQLite's restores", sqlite_restore),
-              ("SQLite's attached databases", sqlite_attached), ("SQLite's memory", sqlite_memory), ("SQLite on the page", sqlite_page), ("SQLite's orders", sqlite_like(program)),
+              ("SQLite's attached databases", sqlite_attached), ("SQLite's threads", sqlite_threads), ("SQLite's memory", sqlite_memory), ("SQLite on the page", sqlite_page), ("SQLite's orders", sqlite_like(program)),
               ("PostgreSQL", postgresql), ("PostgreSQL's settings", postgresql_settings), ("PostgreSQL's dumps", postgresql_dumps),
               ("PostgreSQL's replication", postgresql_replication), ("PostgreSQL's changes", postgresql_changes), ("PostgreSQL's roles", postgresql_roles), ("PostgreSQL's orders", postgresql_like(program))]
     tried = {"C": c_words, "Python": python_words, "SQLite": sqlite_words, "PostgreSQL": postgresql_words}

@@ -3,8 +3,9 @@
      memory EXTENSION TABLE DATA FINGERPRINT
 
    The files are those of examples/, and the fingerprint is theirs, shifted. Each statement is right then, or has an error, and the
-   connection can be closed. Where one allocation failed, the connection can load all again, and each stored key is right. Prints a
-   line for each check that fails, and how many runs there were. The status is 1 if one failed. */
+   connection can be closed. Where one allocation failed, the connection can load all again, and each stored key is right. Where one
+   failed in a comparison, no index is damaged, no row is lost, and a later transaction is committed. Prints a line for each check that
+   fails, and how many runs there were. The status is 1 if one failed. */
 #define _GNU_SOURCE
 #include <dlfcn.h>
 #include <sqlite3.h>
@@ -16,7 +17,21 @@
 
 static long asked, first_failing, last_failing, failed;
 static int is_short;
-static char load[ROOM], table[ROOM], word_index[ROOM], order[ROOM], wrong_keys[ROOM];
+static char load[ROOM], table[ROOM], word_index[ROOM], order[ROOM], wrong_keys[ROOM], rows[ROOM];
+static unsigned char image[64 << 10]; /* of a database with these rows */
+static sqlite3_int64 image_size;
+
+/* A statement that compares, between two others, and how many rows they add. */
+static const struct { const char *first, *statement, *last; int added; } COMPARISONS[] = {
+    {"", "INSERT INTO rows VALUES ('bb')", "", 1},
+    {"", "INSERT OR REPLACE INTO unique_rows VALUES ('bb')", "", 1},
+    {"", "INSERT OR IGNORE INTO unique_rows VALUES ('bb')", "", 1},
+    {"BEGIN", "INSERT INTO rows VALUES ('bb')", "COMMIT", 1},
+    {"SAVEPOINT s", "INSERT OR REPLACE INTO unique_rows VALUES ('bb')", "RELEASE s", 1},
+    {"BEGIN", "INSERT INTO rows VALUES ('bb')", "ROLLBACK", 0},
+    {"", "SELECT count(*) FROM rows WHERE word > 'bb'", "", 0},
+    {"BEGIN", "SELECT count(*) FROM rows WHERE word > 'bb'", "COMMIT", 0},
+};
 
 static int fails(void)
 {
@@ -58,6 +73,28 @@ static int is_wanted(void *wanted, int count, char **values, char **names)
     return 0;
 }
 
+/* Keeps the last value that a statement prints. */
+static int keep(void *kept, int count, char **values, char **names)
+{
+    (void)count, (void)names;
+    snprintf(kept, ROOM, "%s", values[0]);
+    return 0;
+}
+
+static sqlite3 *open_database(void)
+{
+    sqlite3 *database;
+    CHECK(sqlite3_open(":memory:", &database) == SQLITE_OK);
+    CHECK(sqlite3_db_config(database, SQLITE_DBCONFIG_ENABLE_LOAD_EXTENSION, 1, NULL) == SQLITE_OK);
+    return database;
+}
+
+static void close_database(sqlite3 *database)
+{
+    CHECK(sqlite3_close(database) == SQLITE_OK);
+    CHECK(sqlite3_memory_used() == 0);
+}
+
 static void use(sqlite3 *database, const char *extension, char *fingerprint)
 {
     if (sqlite3_load_extension(database, extension, NULL, NULL) == SQLITE_OK) {
@@ -83,9 +120,7 @@ static void use_again(sqlite3 *database, const char *extension, char *fingerprin
 /* A use in which these allocations fail. It returns how many there were. */
 static long run(const char *extension, char *fingerprint, long first, long last)
 {
-    sqlite3 *database;
-    CHECK(sqlite3_open(":memory:", &database) == SQLITE_OK);
-    CHECK(sqlite3_db_config(database, SQLITE_DBCONFIG_ENABLE_LOAD_EXTENSION, 1, NULL) == SQLITE_OK);
+    sqlite3 *database = open_database();
     asked = 0;
     first_failing = first;
     last_failing = last;
@@ -96,9 +131,61 @@ static long run(const char *extension, char *fingerprint, long first, long last)
     if (first == last) {
         use_again(database, extension, fingerprint);
     }
-    CHECK(sqlite3_close(database) == SQLITE_OK);
-    CHECK(sqlite3_memory_used() == 0);
+    close_database(database);
     return count;
+}
+
+static void make_image(const char *extension)
+{
+    sqlite3 *database = open_database();
+    CHECK(sqlite3_load_extension(database, extension, NULL, NULL) == SQLITE_OK);
+    CHECK(sqlite3_exec(database, load, NULL, NULL, NULL) == SQLITE_OK);
+    CHECK(sqlite3_exec(database, rows, NULL, NULL, NULL) == SQLITE_OK);
+    unsigned char *bytes = sqlite3_serialize(database, "main", &image_size, 0);
+    CHECK(bytes && image_size <= (sqlite3_int64)sizeof image);
+    memcpy(image, bytes, (size_t)image_size);
+    sqlite3_free(bytes);
+    close_database(database);
+}
+
+/* A connection that has compared nothing yet, with these rows. */
+static sqlite3 *open_image(const char *extension, char *fingerprint)
+{
+    sqlite3 *database = open_database();
+    unsigned char *bytes = sqlite3_malloc64((sqlite3_uint64)image_size);
+    memcpy(bytes, image, (size_t)image_size);
+    int flags = SQLITE_DESERIALIZE_FREEONCLOSE | SQLITE_DESERIALIZE_RESIZEABLE;
+    CHECK(sqlite3_deserialize(database, "main", bytes, image_size, image_size, flags) == SQLITE_OK);
+    CHECK(sqlite3_load_extension(database, extension, NULL, NULL) == SQLITE_OK);
+    CHECK(sqlite3_exec(database, load, is_wanted, fingerprint, NULL) == SQLITE_OK);
+    return database;
+}
+
+/* The statements of COMPARISONS at this position, where the allocations fail in the second one. It returns how many there were. After
+   an error the rows are as they were, and the next row is added. */
+static long compare(const char *extension, char *fingerprint, int at, long first, long last)
+{
+    sqlite3 *database = open_image(extension, fingerprint);
+    char found[ROOM] = "4";
+    int status = sqlite3_exec(database, COMPARISONS[at].first, NULL, NULL, NULL);
+    asked = 0;
+    first_failing = first;
+    last_failing = last;
+    is_short = 1;
+    status |= sqlite3_exec(database, COMPARISONS[at].statement, keep, found, NULL);
+    is_short = 0;
+    CHECK(status || !strcmp(found, "4"));
+    status |= sqlite3_exec(database, COMPARISONS[at].last, NULL, NULL, NULL);
+    char *wanted = !status && COMPARISONS[at].added ? "13" : "12";
+    if (!sqlite3_get_autocommit(database)) {
+        CHECK(sqlite3_exec(database, "ROLLBACK", NULL, NULL, NULL) == SQLITE_OK);
+    }
+    CHECK(sqlite3_exec(database, "SELECT (SELECT count(*) FROM rows) + (SELECT count(*) FROM unique_rows)", is_wanted, wanted, NULL) == SQLITE_OK);
+    CHECK(sqlite3_exec(database, "INSERT INTO rows VALUES ('bc')", NULL, NULL, NULL) == SQLITE_OK);
+    CHECK(sqlite3_exec(database, "INSERT INTO unique_rows VALUES ('bc')", NULL, NULL, NULL) == SQLITE_OK);
+    CHECK(sqlite3_exec(database, "PRAGMA integrity_check", is_wanted, "ok", NULL) == SQLITE_OK);
+    close_database(database);
+    return asked;
 }
 
 int main(int count, char **words)
@@ -112,11 +199,23 @@ int main(int count, char **words)
     snprintf(word_index, ROOM, "CREATE INDEX IF NOT EXISTS by_word ON words(word COLLATE uca_%s)", used);
     snprintf(order, ROOM, "SELECT group_concat(word, ' ') FROM (SELECT word FROM words ORDER BY word COLLATE uca_%s)", used);
     snprintf(wrong_keys, ROOM, "SELECT count(*) FROM words WHERE key IS NOT uca_key(word, '%s')", used);
-    long allocations = run(extension, used, 0, 0);
+    snprintf(rows, ROOM, "CREATE TABLE rows(word TEXT COLLATE uca_%s); CREATE INDEX by_rows ON rows(word);"
+             "CREATE TABLE unique_rows(word TEXT COLLATE uca_%s UNIQUE);"
+             "INSERT INTO rows VALUES ('a'), ('b'), ('bh'), ('bz'), ('c'), ('d'); INSERT INTO unique_rows SELECT * FROM rows", used, used);
+    long allocations = run(extension, used, 0, 0), runs = 2 * allocations;
     for (long n = 1; n <= allocations; n++) {
         run(extension, used, n, n);
         run(extension, used, n, n + 1000000);
     }
-    printf("%ld runs, %ld checks failed\n", 2 * allocations, failed);
+    make_image(extension);
+    for (int at = 0; at < (int)(sizeof COMPARISONS / sizeof *COMPARISONS); at++) {
+        long count = compare(extension, used, at, 0, 0);
+        for (long n = 1; n <= count; n++) {
+            compare(extension, used, at, n, n);
+            compare(extension, used, at, n, n + 1000000);
+        }
+        runs += 2 * count;
+    }
+    printf("%ld runs, %ld checks failed\n", runs, failed);
     return failed != 0 || allocations == 0;
 }

@@ -7,18 +7,20 @@
    text or NULL in place of one of them is as if it were not there. Where a fingerprint is given, the files and settings have to
    have it. Say it is e7f5..:
 
-     uca_key(text, 'e7f5..')   the sort key, a blob; NULL for NULL; an error for a text that is rejected
+     uca_key(text, 'e7f5..')   the sort key, a blob; NULL for NULL; an error for a blob and for a text that is rejected
      COLLATE uca_e7f5..        the order of uca_order: texts in their order, and after them all that is no text or is rejected, by its bytes
 
    Each use says by which files. So an index, a generated column or a CHECK keeps the fingerprint in the schema, and where these
    files are not loaded, it is an error. No name means "the files that are loaded". A connection may load several, and keeps all.
 
-   A collation cannot return an error. Where memory runs out in a comparison, the statement is interrupted. */
+   A collation cannot return an error. Where memory runs out in a comparison, the statement is interrupted. An INSERT of one row may
+   end before that, so hooks reject the commit of a transaction that has written. */
 #define _POSIX_C_SOURCE 200809L
 #include "uca.h"
 
 #include <errno.h>
 #include <fcntl.h>
+#include <pthread.h>
 #include <sqlite3ext.h>
 #include <string.h>
 #include <sys/stat.h>
@@ -47,6 +49,9 @@ typedef struct connection {
     uint8_t *key;
     size_t room;
     int users;
+    int is_lost; /* a comparison in the transaction that writes had no memory */
+    int has_hooks;
+    pthread_mutex_t lock; /* of the collators: after PRAGMA threads, SQLite sorts in several threads */
 } connection;
 
 typedef struct file {
@@ -65,6 +70,10 @@ static void let_go(void *data)
         here->first = it->next;
         uca_close(&it->collator);
         sqlite3_free(it);
+    }
+    if (here->has_hooks) {
+        sqlite3_commit_hook(here->database, NULL, NULL);
+        sqlite3_rollback_hook(here->database, NULL, NULL);
     }
     sqlite3_free(here->key);
     sqlite3_free(here);
@@ -91,12 +100,47 @@ static const uint8_t *bytes_at(const void *at)
     return at ? at : (const uint8_t *)"";
 }
 
+/* A hook of the commit. SQLite rolls back what it rejects. */
+static int reject_lost(void *data)
+{
+    connection *here = data;
+    int is_lost = here->is_lost;
+    here->is_lost = 0;
+    return is_lost;
+}
+
+/* A hook of the rollback. */
+static void forget_lost(void *data)
+{
+    ((connection *)data)->is_lost = 0;
+}
+
+/* After a comparison without memory. Where the transaction has written nothing, no hook is called at its end, and none is needed.
+   A thread that only sorts does not get the mutex. It sorts many rows, so the statement meets the interrupt. */
+static void lose(connection *here)
+{
+    sqlite3_mutex *mutex = sqlite3_db_mutex(here->database);
+    sqlite3_interrupt(here->database);
+    if (sqlite3_mutex_try(mutex) != SQLITE_OK) {
+        return;
+    }
+    if (sqlite3_txn_state(here->database, NULL) == SQLITE_TXN_WRITE) {
+        here->is_lost = here->has_hooks = 1;
+        sqlite3_commit_hook(here->database, reject_lost, here);
+        sqlite3_rollback_hook(here->database, forget_lost, here);
+    }
+    sqlite3_mutex_leave(mutex);
+}
+
 static int collate(void *data, int left_length, const void *left, int right_length, const void *right)
 {
     loaded *it = data;
     int32_t order;
-    if (uca_order(&it->collator, bytes_at(left), (size_t)left_length, bytes_at(right), (size_t)right_length, &order) != UCA_OK) {
-        sqlite3_interrupt(it->connection->database);
+    pthread_mutex_lock(&it->connection->lock);
+    uint32_t status = uca_order(&it->collator, bytes_at(left), (size_t)left_length, bytes_at(right), (size_t)right_length, &order);
+    pthread_mutex_unlock(&it->connection->lock);
+    if (status != UCA_OK) {
+        lose(it->connection);
     }
     return order;
 }
@@ -148,6 +192,15 @@ static const char *text_error(uint32_t status)
     return status == UCA_UTF8 ? "uca_key: Utf8" : status == UCA_TOO_LONG ? "uca_key: TooLong" : "uca_key: LongRun";
 }
 
+static uint32_t try_key(loaded *it, const uint8_t *text, size_t length, size_t *needed)
+{
+    connection *here = it->connection;
+    pthread_mutex_lock(&here->lock);
+    uint32_t status = uca_key(&it->collator, text, length, here->key, here->room, needed);
+    pthread_mutex_unlock(&here->lock);
+    return status;
+}
+
 static void make_key(sqlite3_context *context, int count, sqlite3_value **values)
 {
     (void)count;
@@ -156,13 +209,17 @@ static void make_key(sqlite3_context *context, int count, sqlite3_value **values
     if (!it || sqlite3_value_type(values[0]) == SQLITE_NULL) {
         return;
     }
+    if (sqlite3_value_type(values[0]) == SQLITE_BLOB) { /* which text it is depends on the encoding of the database */
+        sqlite3_result_error(context, "uca_key: the first argument is a blob, not a text", -1);
+        return;
+    }
     const uint8_t *text = sqlite3_value_text(values[0]);
     size_t length = (size_t)sqlite3_value_bytes(values[0]), needed;
     if (!text) {
         sqlite3_result_error_nomem(context);
         return;
     }
-    uint32_t status = uca_key(&it->collator, text, length, here->key, here->room, &needed);
+    uint32_t status = try_key(it, text, length, &needed);
     if (status == UCA_SMALL) {
         uint8_t *more = sqlite3_realloc64(here->key, 2 * needed);
         if (!more) {
@@ -171,7 +228,7 @@ static void make_key(sqlite3_context *context, int count, sqlite3_value **values
         }
         here->key = more;
         here->room = 2 * needed;
-        status = uca_key(&it->collator, text, length, here->key, here->room, &needed);
+        status = try_key(it, text, length, &needed);
     }
     if (status == UCA_OK) {
         sqlite3_result_blob64(context, here->key, needed, SQLITE_TRANSIENT);
@@ -309,12 +366,23 @@ static int read_arguments(sqlite3_context *context, int count, sqlite3_value **v
     return 1;
 }
 
+/* On a shared cache, SQLite compares by bytes for a connection that has not loaded the files. Only the name of a file shows it. */
+static int is_shared(sqlite3 *database)
+{
+    const char *cache = sqlite3_uri_parameter(sqlite3_db_filename(database, "main"), "cache");
+    return cache && !strcmp(cache, "shared");
+}
+
 static void load(sqlite3_context *context, int count, sqlite3_value **values)
 {
     static const char *const WEIGHTINGS[] = {"", "non-ignorable", "shifted"}, *const DEPTHS[] = {"weights", "identical"};
     const char *texts[] = {"", "", "", "", NULL};
     if (count < 2 || count > 5) {
         sqlite3_result_error(context, "uca_load: it takes 2 to 5 arguments", -1);
+        return;
+    }
+    if (is_shared(sqlite3_context_db_handle(context))) {
+        sqlite3_result_error(context, "uca_load: the database has a shared cache, which is no place for a collation", -1);
         return;
     }
     if (!read_arguments(context, count, values, texts)) {
@@ -351,8 +419,11 @@ static int is_here(sqlite3 *database)
 
 __attribute__((visibility("default"))) int sqlite3_uca_init(sqlite3 *database, char **message, const sqlite3_api_routines *api)
 {
-    (void)message;
     SQLITE_EXTENSION_INIT2(api);
+    if (sqlite3_libversion_number() < 3034000) { /* an earlier one has no sqlite3_txn_state */
+        *message = sqlite3_mprintf("uca: it needs SQLite 3.34 or a later one");
+        return SQLITE_ERROR;
+    }
     if (is_here(database)) {
         return SQLITE_OK;
     }
@@ -360,7 +431,7 @@ __attribute__((visibility("default"))) int sqlite3_uca_init(sqlite3 *database, c
     if (!here) {
         return SQLITE_NOMEM;
     }
-    *here = (connection){database, NULL, sqlite3_malloc64(1024), 1024, 1};
+    *here = (connection){database, NULL, sqlite3_malloc64(1024), 1024, 1, 0, 0, PTHREAD_MUTEX_INITIALIZER};
     int failed = here->key ? SQLITE_OK : SQLITE_NOMEM;
     if (!failed) { /* where a registration fails, SQLite lets go too */
         here->users++;
