@@ -1,6 +1,6 @@
 -- What the whole command does: it reads its arguments, opens the files that they name in their order, runs over them,
 -- and ends with a status.
-use Rattle.std.specs.Prelude.{◌≡◌, ◌≢◌, ◌⊎◌, ◌<◌, ℕ, List, [], ◌∷◌, ◌||◌, Bool, true, false, Option, Result, Ok, Err, IfErr, is_err, length, unwrap_or}
+use Rattle.std.specs.Prelude.{◌≡◌, ◌≢◌, ◌⊎◌, ◌<◌, ℕ, List, [], ◌∷◌, ◌||◌, Bool, true, false, Option, Some, None, Result, Ok, Err, IfErr, is_err, length, unwrap_or}
 use Rattle.std.specs.Global.{Global}
 use Rattle.uca_weights.specs.declared.Depth.{Depth}
 use Rattle.uca_weights.specs.declared.streams.sink.WriteFault.{WriteFault}
