@@ -678,8 +678,8 @@ SELECT format('CREATE TABLE part1 PARTITION OF parts FOR VALUES FROM (MINVALUE) 
 SELECT format('CREATE TABLE part2 PARTITION OF parts FOR VALUES FROM (%L) TO (MAXVALUE)', uca_key('bi')) \\gexec
 INSERT INTO parts SELECT word FROM words;
 """
-DEPENDENTS = """index|public.by_key|REINDEX INDEX public.by_key
-index|public.by_any_key|REINDEX INDEX public.by_any_key
+DEPENDENTS = """index|public.by_any_key|REINDEX INDEX public.by_any_key
+index|public.by_key|REINDEX INDEX public.by_key
 index|public.by_order|REINDEX INDEX public.by_order
 generated column|public.words.key|UPDATE ONLY public.words SET word = word
 check|"is a word" on public.words|ALTER TABLE public.words DROP CONSTRAINT "is a word", ADD CONSTRAINT "is a word" CHECK ((public.uca_key(word) > '\\x00'::bytea))
@@ -793,7 +793,7 @@ def postgresql_changes(work):
         fingerprint = says("SELECT uca_fingerprint();").strip()
         same(says("SELECT * FROM uca_dependents();"), "", "no dependents")
         says(KEPT + named(fingerprint))
-        same(says("SELECT * FROM uca_dependents();"), DEPENDENTS, "the dependents")
+        same(says("SELECT kind, object, statement FROM uca_dependents();"), DEPENDENTS, "the dependents")
         same(says("SELECT uca_use_files();"), "0\n", "files that are used already")
         says("CREATE DATABASE empty;")
         says("CREATE EXTENSION uca; BEGIN; CREATE TABLE it(); PREPARE TRANSACTION 'one';", database="empty")
@@ -828,7 +828,7 @@ def postgresql_roles(work):
         says("SET ROLE joe; INSERT INTO words VALUES ('a');")
         says("REVOKE SELECT ON ext.uca_files FROM PUBLIC; SET ROLE joe; INSERT INTO words VALUES ('b');")
         says("GRANT USAGE ON SCHEMA ext TO joe;")
-        for it in ("SELECT ext.uca_use_files()", "SELECT ext.uca_run('SELECT 1')", "DELETE FROM ext.uca_files", "INSERT INTO ext.uca_files VALUES ('')"):
+        for it in ("SELECT ext.uca_use_files()", "SELECT ext.uca_run('SELECT 1', 'joe')", "DELETE FROM ext.uca_files", "INSERT INTO ext.uca_files VALUES ('')"):
             if "permission denied" not in says(f"SET ROLE joe; {it};", fails=True):
                 raise AssertionError(f"{it} by a role without rights")
         says("CREATE INDEX CONCURRENTLY again ON words(ext.uca_key(word)); REINDEX INDEX CONCURRENTLY again; VACUUM FULL words; ANALYZE words;")
@@ -842,6 +842,105 @@ def postgresql_roles(work):
         same(says("UPDATE other.uca_files SET fingerprint = ''; SELECT uca_key('a');", fails=True), OTHER_FILES, "the extension's table")
         says("ALTER EXTENSION uca DROP TABLE other.uca_files;")
         same(says("SELECT uca_key('a');", fails=True), "ERROR:  uca: the extension has no table uca_files", "no table of the extension")
+
+
+# Each kind of what keeps keys, and no statement may run the function of its owner as another role.
+OF_EVE = """
+CREATE ROLE eve; CREATE SCHEMA eve AUTHORIZATION eve; SET ROLE eve; SET search_path = eve, public;
+CREATE FUNCTION key_of(text) RETURNS bytea LANGUAGE plpgsql IMMUTABLE AS $$ BEGIN
+    IF current_user <> 'eve' THEN RAISE EXCEPTION 'run as %', current_user; END IF;
+    PERFORM set_config('search_path', 'eve', false);
+    RETURN public.uca_key($1);
+END $$;
+CREATE TABLE words(word text CHECK (key_of(word) > '\\x00'), key bytea GENERATED ALWAYS AS (key_of(word)) STORED);
+CREATE INDEX by_key ON words(key_of(word));
+CREATE DOMAIN short AS text CHECK (length(key_of(VALUE)) < 100);
+CREATE TABLE shorts(word short);
+INSERT INTO words VALUES ('bh'); INSERT INTO shorts VALUES ('bh');
+CREATE MATERIALIZED VIEW keys AS SELECT key_of(word) AS key FROM words;
+"""
+
+
+def postgresql_owners(work):
+    """uca_use_files(again => true) runs functions of other roles as these roles. Afterwards, the role and the settings are the caller's."""
+    with postgresql_server(work) as (server, says, settings):
+        says(OF_EVE)
+        server.restart(settings.replace("/table.txt", "/tailored.txt"))
+        same(says("SELECT uca_use_files(again => true); SHOW search_path; SELECT current_user;"), '5\n"$user", public\npostgres\n', "statements of another role")
+        same(says("SELECT count(*) FROM eve.words JOIN eve.keys USING (key) WHERE key = uca_key(word);"), "1\n", "the keys after them")
+        says("GRANT EXECUTE ON FUNCTION uca_run(text, regrole) TO eve;")
+        same(says("SET ROLE eve; SELECT uca_run('SELECT 1', 'eve'), current_user;"), "SELECT 1|eve\n", "a statement of one's own")
+        same(says("SET ROLE eve; SELECT uca_run('SELECT 1', 'postgres');", fails=True), 'ERROR:  must be member of role "postgres"', "a statement of a role that one is no member of")
+        fails = "DO $$ BEGIN PERFORM uca_run('SELECT 1 / 0', 'eve'); EXCEPTION WHEN division_by_zero THEN END $$; SELECT current_user;"
+        same(says(fails), "postgres\n", "after an error of a statement")
+        same(says("SELECT uca_run('SET ROLE postgres', 'eve');", fails=True), 'ERROR:  cannot set parameter "role" within security-restricted operation', "a statement that takes a role")
+
+
+# Thirty layers, where each view reads both of the layer before it. Then a materialized view that calls a function, and one that reads it.
+VIEWS = f"""
+CREATE TABLE words(word text);
+CREATE VIEW left0 AS SELECT uca_key(word) AS key, {", ".join(f"word AS word{it}" for it in range(9))} FROM words; CREATE VIEW right0 AS SELECT * FROM left0;
+{"".join(f"CREATE VIEW {side}{it + 1} AS SELECT {side}{it}.* FROM left{it}, right{it};" for it in range(30) for side in ("left", "right"))}
+CREATE FUNCTION rows() RETURNS bigint LANGUAGE sql RETURN 0;
+CREATE MATERIALIZED VIEW z AS SELECT key, rows() AS rows FROM right0;
+CREATE MATERIALIZED VIEW "A" AS SELECT key FROM z;
+"""
+
+
+def postgresql_dependents(work):
+    """Objects that no one statement makes again, and views over views."""
+    key = "key bytea GENERATED ALWAYS AS (uca_key({})) STORED"
+    with postgresql_server(work) as (server, says, settings):
+        says(f"CREATE TABLE numbered(id integer GENERATED ALWAYS AS IDENTITY, {key.format('id::text')});"
+             f"CREATE TABLE both_kinds(id integer GENERATED ALWAYS AS IDENTITY, word text, {key.format('id::text || word')});"
+             "CREATE FOREIGN DATA WRAPPER none; CREATE SERVER none FOREIGN DATA WRAPPER none;"
+             f"CREATE FOREIGN TABLE far(word text, {key.format('word')}) SERVER none;")
+        same(says("SELECT object, statement FROM uca_dependents();"),
+             "public.both_kinds.key|UPDATE ONLY public.both_kinds SET word = word\npublic.far.key|\npublic.numbered.key|\n", "columns that no UPDATE makes again")
+        says("DROP TABLE numbered, both_kinds; DROP FOREIGN TABLE far;")
+        says(VIEWS)
+        listed = "SET statement_timeout = '20s'; SELECT object, statement IS NULL FROM uca_dependents() WHERE kind = 'materialized view';"
+        same(says(listed), 'public.z|f\npublic."A"|f\n', "views over views")
+        says("CREATE OR REPLACE FUNCTION rows() RETURNS bigint LANGUAGE sql RETURN (SELECT count(*) FROM z);")
+        same(says(listed), 'public."A"|t\npublic.z|t\n', "a view that reads itself")
+        says("DROP TABLE words CASCADE; CREATE TABLE one(word text, key bytea, CONSTRAINT it CHECK (key = uca_key(word))); CREATE TABLE two(LIKE one INCLUDING ALL);"
+             "CREATE TABLE own(LIKE one INCLUDING ALL); INSERT INTO own VALUES ('bh', uca_key('bh')); ALTER TABLE own INHERIT one;"
+             "CREATE TABLE of_two() INHERITS (one, two); CREATE TABLE of_one() INHERITS (one);")
+        same(says("SELECT object, statement IS NULL FROM uca_dependents();"),
+             "it on public.of_two|t\nit on public.one|f\nit on public.own|t\nit on public.two|f\n", "a CHECK that several tables have")
+        server.restart(settings.replace("/table.txt", "/tailored.txt"))
+        again = "SELECT uca_use_files(again => true);"
+        same(says(again, fails=True), KEYS_ARE_KEPT, "a CHECK that is not tested again")
+        dropped = "BEGIN; ALTER TABLE one DROP CONSTRAINT it; ALTER TABLE two DROP CONSTRAINT it;"
+        same(says(dropped + again, fails=True), 'ERROR:  check constraint "it" of relation "own" is violated by some row', "a CHECK that is tested again")
+        same(says(f"{dropped} DELETE FROM own; {again} COMMIT;"), "1\n", "a CHECK after it")
+
+
+HOLDERS = """
+CREATE DOMAIN a_key AS bytea; CREATE DOMAIN "that key" AS a_key; CREATE TYPE a_row AS (word text, key "that key"); CREATE TYPE a_range AS RANGE (subtype = bytea);
+"""
+
+
+def postgresql_columns(work):
+    """Columns whose keys nothing knows about."""
+    with postgresql_server(work) as (server, says, settings):
+        fingerprint = says(f"DROP EXTENSION uca; {HOLDERS} CREATE EXTENSION uca; SELECT fingerprint FROM uca_files;").strip()
+        same(fingerprint, USED, "types without columns")
+        for it in ("bytea", "a_key", '"that key"', "a_row", "a_range", "a_multirange", "bytea[]", '"that key"[]', "a_row[]"):
+            counted = f"DROP EXTENSION uca; CREATE TABLE its(it {it}); CREATE EXTENSION uca; SELECT count(*) FROM uca_files; DROP TABLE its;"
+            same(says(counted), "2\n", f"a column of type {it} before the extension")
+        page = re.search(r"CREATE TABLE stored .*", content(f"{TOP}/docs/BINDINGS.md").decode()).group()
+        says("DELETE FROM uca_files WHERE fingerprint LIKE 'unknown%';" + page.replace("2c26..7ae3", fingerprint))
+        says("INSERT INTO stored VALUES ('a', uca_key('a')), (NULL, NULL);")
+        for it in ("(NULL, '\\x1c')", "('a', NULL)", "('a', '\\x1c')"):
+            same(says(f"INSERT INTO stored VALUES {it};", fails=True), 'ERROR:  new row for relation "stored" violates check constraint "stored_check"', it)
+        says("CREATE TABLE words(word text); INSERT INTO words VALUES ('bh'); CREATE INDEX by_key ON words(uca_key(word), word); VACUUM words;")
+        key = says("SELECT uca_key('bh');")
+        server.restart(settings.replace("/table.txt", "/tailored.txt"))
+        from_index = "SET enable_seqscan = off; SELECT uca_key(word) FROM words WHERE uca_key(word) > '\\x00';"
+        same(says(from_index), key, "an index-only scan, which makes no key")
+        says("SELECT uca_use_files(again => true);")
+        same(says(from_index), says("SELECT uca_key('bh');"), "an index-only scan of an index that is made again")
 
 
 def postgresql_like(program):
@@ -956,7 +1055,8 @@ def main():
               ("SQLite's loads", sqlite_loads), ("SQLite's files", sqlite_files), ("SQLite's schemas", sqlite_schemas), ("SQLite's restores", sqlite_restore),
               ("SQLite's attached databases", sqlite_attached), ("SQLite's threads", sqlite_threads), ("SQLite's memory", sqlite_memory), ("SQLite on the page", sqlite_page), ("SQLite's orders", sqlite_like(program)),
               ("PostgreSQL", postgresql), ("PostgreSQL's settings", postgresql_settings), ("PostgreSQL's dumps", postgresql_dumps),
-              ("PostgreSQL's replication", postgresql_replication), ("PostgreSQL's changes", postgresql_changes), ("PostgreSQL's roles", postgresql_roles), ("PostgreSQL's orders", postgresql_like(program))]
+              ("PostgreSQL's replication", postgresql_replication), ("PostgreSQL's changes", postgresql_changes), ("PostgreSQL's roles", postgresql_roles),
+              ("PostgreSQL's owners", postgresql_owners), ("PostgreSQL's dependents", postgresql_dependents), ("PostgreSQL's columns", postgresql_columns), ("PostgreSQL's orders", postgresql_like(program))]
     tried = {"C": c_words, "Python": python_words, "SQLite": sqlite_words, "PostgreSQL": postgresql_words}
     checks += [(f"100,000 words in {name}", over_unicode(program, it)) for name, it in tried.items()]
     passed = failed = skipped = 0

@@ -12,11 +12,17 @@ GRANT SELECT ON uca_files TO PUBLIC;
 SELECT pg_catalog.pg_extension_config_dump('uca_files', '');
 
 -- Bytes that are here already may be keys of other files, as after DROP EXTENSION. So this row stays until uca_use_files() is called.
--- Tables of users have numbers from 16384 on.
+-- Tables of users have numbers from 16384 on. Domains, arrays, rows and ranges hold bytea too.
 INSERT INTO uca_files SELECT 'unknown, since columns of type bytea were here before the extension' WHERE EXISTS (
-    SELECT FROM pg_attribute a JOIN pg_class c ON c.oid = a.attrelid JOIN pg_type t ON t.oid = a.atttypid
-    WHERE c.oid >= 16384 AND c.relkind IN ('r', 'p', 'm', 'f') AND a.attnum > 0 AND NOT a.attisdropped
-        AND 'bytea'::regtype IN (t.oid, t.typbasetype, t.typelem));
+    WITH RECURSIVE holds(type) AS (
+        SELECT 'bytea'::regtype::oid
+        UNION
+        SELECT t.oid FROM holds h JOIN pg_type t ON h.type IN (t.typbasetype, t.typelem)
+            OR EXISTS (SELECT FROM pg_attribute a WHERE a.attrelid = t.typrelid AND a.atttypid = h.type)
+            OR EXISTS (SELECT FROM pg_range r WHERE t.oid IN (r.rngtypid, r.rngmultitypid) AND r.rngsubtype = h.type)
+    )
+    SELECT FROM pg_attribute a JOIN pg_class c ON c.oid = a.attrelid JOIN holds ON type = a.atttypid
+    WHERE c.oid >= 16384 AND c.relkind IN ('r', 'p', 'm', 'f') AND a.attnum > 0 AND NOT a.attisdropped);
 
 -- the sort key of a text, whose byte order is the order of texts; a text that is rejected is an error
 CREATE FUNCTION uca_key(text) RETURNS bytea AS 'MODULE_PATHNAME', 'uca_key_of_text' LANGUAGE C IMMUTABLE STRICT PARALLEL SAFE COST 20;
@@ -30,10 +36,10 @@ LANGUAGE C IMMUTABLE PARALLEL SAFE COST 20;
 CREATE FUNCTION uca_any_key(text, fingerprint text) RETURNS bytea AS 'MODULE_PATHNAME', 'uca_any_key_by_fingerprint'
 LANGUAGE C IMMUTABLE PARALLEL SAFE COST 20;
 
--- What keeps keys of uca_key(text) and uca_any_key(text), or depends on them, and the statement that makes it again. The order is that
--- in which the statements run. Where it is NULL, no one statement does it. It finds objects that depend on these functions, and on
--- functions whose text names them without a fingerprint.
-CREATE FUNCTION uca_dependents(OUT kind text, OUT object text, OUT statement text) RETURNS SETOF record LANGUAGE sql STABLE
+-- What keeps keys of uca_key(text) and uca_any_key(text), or depends on them, the statement that makes it again, and who owns it. The
+-- order is that in which the statements run. Where it is NULL, no one statement does it. It finds objects that depend on these functions,
+-- and on functions whose text names them without a fingerprint.
+CREATE FUNCTION uca_dependents(OUT kind text, OUT object text, OUT statement text, OUT owner regrole) RETURNS SETOF record LANGUAGE sql STABLE
 SET search_path = pg_catalog, pg_temp AS $$
     WITH RECURSIVE start AS (
         SELECT oid FROM pg_proc WHERE prosrc ~* '\m(uca_key|uca_any_key)\M' AND prosrc !~ '[0-9a-f]{64}'
@@ -41,25 +47,29 @@ SET search_path = pg_catalog, pg_temp AS $$
         SELECT p.oid FROM pg_extension e JOIN pg_depend d ON d.refclassid = 'pg_extension'::regclass AND d.refobjid = e.oid AND d.deptype = 'e'
             JOIN pg_proc p ON d.classid = 'pg_proc'::regclass AND d.objid = p.oid
         WHERE e.extname = 'uca' AND p.proname IN ('uca_key', 'uca_any_key') AND p.pronargs = 1
-    ), found(class, object, part) AS (
-        SELECT 'pg_proc'::regclass::oid, oid, 0 FROM start
-        UNION ALL
-        -- what depends on it, and what it is a part of, as a rule is of its view; in place of a default, its column
-        SELECT CASE WHEN a.oid IS NULL THEN n.class ELSE 'pg_class'::regclass::oid END, coalesce(a.adrelid, n.object), coalesce(a.adnum, n.part)
+    ), found(class, object, part, depth) AS (
+        SELECT 'pg_proc'::regclass::oid, oid, 0, 0 FROM start
+        UNION
+        -- What depends on it, and what it is a part of, as a rule is of its view; in place of a default, its column. The depth counts
+        -- materialized views, since one is made after those that it reads. Paths are not kept, since views over views have too many.
+        SELECT CASE WHEN a.oid IS NULL THEN n.class ELSE 'pg_class'::regclass::oid END, coalesce(a.adrelid, n.object), coalesce(a.adnum, n.part),
+            f.depth + (f.class = 'pg_rewrite'::regclass AND m.oid IS NOT NULL)::integer
         FROM found f LEFT JOIN pg_class c ON f.class = 'pg_class'::regclass AND c.oid = f.object
             JOIN LATERAL (
                 SELECT d.classid, d.objid, d.objsubid FROM pg_depend d
                 WHERE d.refclassid = f.class AND d.refobjid = f.object AND (f.part = 0 OR d.refobjsubid = f.part)
+                    AND NOT EXISTS (SELECT FROM pg_rewrite r WHERE d.classid = 'pg_rewrite'::regclass AND r.oid = d.objid AND r.ev_class = c.oid)
                     AND (c.oid IS NULL OR c.relkind IN ('v', 'm') OR f.part > 0 AND d.classid = 'pg_rewrite'::regclass)
                 UNION ALL
                 SELECT d.refclassid, d.refobjid, 0 FROM pg_depend d
                 WHERE d.classid = f.class AND d.objid = f.object AND d.deptype = 'i' AND c.oid IS NULL
             ) n(class, object, part) ON true
             LEFT JOIN pg_attrdef a ON n.class = 'pg_attrdef'::regclass AND a.oid = n.object
-    ) CYCLE class, object, part SET is_again USING path,
-    once AS (SELECT class, object, part, max(cardinality(path)) AS depth FROM found WHERE NOT is_again GROUP BY class, object, part),
-    listed(place, depth, kind, object, statement) AS (
-        SELECT 1, depth, 'index', object::regclass::text, format('REINDEX INDEX %s', object::regclass)
+            LEFT JOIN pg_class m ON n.class = 'pg_class'::regclass AND m.oid = n.object AND m.relkind = 'm'
+        WHERE f.depth <= (SELECT count(*) FROM pg_class WHERE relkind = 'm')
+    ), once AS (SELECT class, object, part, max(depth) AS depth FROM found GROUP BY class, object, part),
+    listed(place, depth, kind, object, statement, owner) AS (
+        SELECT 1, depth, 'index', object::regclass::text, format('REINDEX INDEX %s', object::regclass), relowner
         FROM once JOIN pg_class c ON class = 'pg_class'::regclass AND c.oid = object WHERE relkind = 'i'
         UNION ALL
         SELECT 2, depth, CASE WHEN attgenerated = 's' THEN 'generated column' ELSE 'default' END, format('%s.%I', attrelid::regclass, attname),
@@ -68,36 +78,45 @@ SET search_path = pg_catalog, pg_temp AS $$
              FROM pg_attrdef JOIN pg_depend d ON d.classid = 'pg_attrdef'::regclass AND d.objid = pg_attrdef.oid AND d.refclassid = 'pg_class'::regclass
                  JOIN pg_attribute b ON b.attrelid = adrelid AND b.attnum = d.refobjsubid
              WHERE adrelid = a.attrelid AND adnum = a.attnum AND a.attgenerated = 's' AND b.attnum <> a.attnum AND b.attnum > 0
+                 AND b.attidentity <> 'a' AND relkind <> 'f'
                  AND NOT EXISTS (SELECT FROM pg_trigger WHERE tgrelid = adrelid AND tgtype & 16 <> 0 AND tgenabled <> 'D' AND NOT tgisinternal)
                  AND NOT EXISTS (SELECT FROM pg_rewrite WHERE ev_class = adrelid AND ev_type = '2' AND ev_enabled <> 'D')
-             ORDER BY b.attnum LIMIT 1)
+             ORDER BY b.attnum LIMIT 1), relowner
         FROM once JOIN pg_attribute a ON class = 'pg_class'::regclass AND part > 0 AND attrelid = object AND attnum = part
             JOIN pg_class c ON c.oid = attrelid AND (relkind <> 'p' OR attgenerated = '')
         UNION ALL
         SELECT 3, depth, 'check', format('%I on %s', conname, coalesce(nullif(conrelid, 0)::regclass::text, contypid::regtype::text)),
-            CASE WHEN contypid = 0
+            -- One that a parent has too is kept and not tested again, while the parent's is dropped and added.
+            CASE WHEN coninhcount > 0 THEN NULL WHEN contypid = 0
             THEN format('ALTER TABLE %s DROP CONSTRAINT %I, ADD CONSTRAINT %I %s', conrelid::regclass, conname, conname, pg_get_constraintdef(k.oid))
             ELSE format('ALTER DOMAIN %s DROP CONSTRAINT %I; ALTER DOMAIN %s ADD CONSTRAINT %I %s',
-                        contypid::regtype, conname, contypid::regtype, conname, pg_get_constraintdef(k.oid)) END
-        FROM once JOIN pg_constraint k ON class = 'pg_constraint'::regclass AND k.oid = object WHERE contype = 'c' AND coninhcount = 0
+                        contypid::regtype, conname, contypid::regtype, conname, pg_get_constraintdef(k.oid)) END,
+            coalesce(relowner, typowner)
+        FROM once JOIN pg_constraint k ON class = 'pg_constraint'::regclass AND k.oid = object
+            LEFT JOIN pg_class c ON c.oid = conrelid LEFT JOIN pg_type t ON t.oid = contypid
+        WHERE contype = 'c' AND (coninhcount = 0 OR coninhcount + conislocal::integer > 1)
         UNION ALL
-        SELECT 4, depth, 'partitioned table', object::regclass::text, NULL
+        SELECT 4, depth, 'partitioned table', object::regclass::text, NULL, relowner
         FROM once JOIN pg_class c ON class = 'pg_class'::regclass AND c.oid = object WHERE relkind = 'p' AND part = 0
         UNION ALL
-        SELECT 5, depth, 'materialized view', object::regclass::text, format('REFRESH MATERIALIZED VIEW %s', object::regclass)
+        -- One that is deeper than there are such views reads itself, by a function, or reads one that does.
+        SELECT 5, depth, 'materialized view', object::regclass::text,
+            CASE WHEN depth <= (SELECT count(*) FROM pg_class WHERE relkind = 'm') THEN format('REFRESH MATERIALIZED VIEW %s', object::regclass) END,
+            relowner
         FROM once JOIN pg_class c ON class = 'pg_class'::regclass AND c.oid = object WHERE relkind = 'm' AND part = 0 AND relispopulated
         UNION ALL
-        SELECT 6, 0, 'prepared transaction', gid, NULL FROM pg_prepared_xacts WHERE database = current_database()
+        SELECT 6, 0, 'prepared transaction', gid, NULL, NULL FROM pg_prepared_xacts WHERE database = current_database()
     )
-    SELECT kind, object, statement FROM listed ORDER BY place, depth, object
+    SELECT kind, object, statement, owner::regrole FROM listed ORDER BY place, depth, object
 $$;
 
 -- an error that shows this list, unless it is NULL
 CREATE FUNCTION uca_need_no_dependents(list text) RETURNS boolean AS 'MODULE_PATHNAME', 'uca_need_no_dependents' LANGUAGE C STABLE;
 
--- runs a statement, with the rights of the caller, and returns it
-CREATE FUNCTION uca_run(statement text) RETURNS text AS 'MODULE_PATHNAME', 'uca_run_statement' LANGUAGE C STRICT;
-REVOKE EXECUTE ON FUNCTION uca_run(text) FROM PUBLIC;
+-- Runs a statement with the rights of its object's owner, and returns it. So it runs no function of this owner as the caller. The caller
+-- has to be a member of the owner's role, as a superuser is of each.
+CREATE FUNCTION uca_run(statement text, owner regrole) RETURNS text AS 'MODULE_PATHNAME', 'uca_run_statement' LANGUAGE C STRICT;
+REVOKE EXECUTE ON FUNCTION uca_run(text, regrole) FROM PUBLIC;
 
 -- From now on keys are made by the files and settings that the server has. It is an error where uca_dependents() has rows. If all of them
 -- have statements, `again` runs these, in place of the error. It returns how many it has run. It takes away only fingerprints that it
@@ -113,6 +132,6 @@ BEGIN ATOMIC
         DELETE FROM uca_files WHERE EXISTS (SELECT FROM change)
     )
     INSERT INTO uca_files SELECT uca_fingerprint() FROM change;
-    SELECT count(uca_run(d.statement)) FROM uca_dependents() d WHERE again;
+    SELECT count(uca_run(d.statement, d.owner)) FROM uca_dependents() d WHERE again;
 END;
 REVOKE EXECUTE ON FUNCTION uca_use_files(boolean) FROM PUBLIC;

@@ -28,6 +28,7 @@
 #include "mb/pg_wchar.h"
 #include "miscadmin.h"
 #include "storage/proc.h"
+#include "utils/acl.h"
 #include "utils/builtins.h"
 #include "utils/fmgroids.h"
 #include "utils/guc.h"
@@ -436,13 +437,22 @@ Datum uca_need_no_dependents(PG_FUNCTION_ARGS)
     PG_RETURN_BOOL(true);
 }
 
-/* uca_run(text) returns text: it runs this statement, and returns it. */
+/* uca_run(text, regrole) returns text: it runs this statement as this role, and returns it. What the statement sets ends with it. After
+   an error, PostgreSQL restores all of this. */
 PG_FUNCTION_INFO_V1(uca_run_statement);
 Datum uca_run_statement(PG_FUNCTION_ARGS)
 {
     char *statement = text_to_cstring(PG_GETARG_TEXT_PP(0));
+    Oid owner = PG_GETARG_OID(1), caller;
+    int context, level;
 
+    check_is_member_of_role(GetUserId(), owner);
+    GetUserIdAndSecContext(&caller, &context);
+    SetUserIdAndSecContext(owner, context | SECURITY_RESTRICTED_OPERATION);
+    level = NewGUCNestLevel();
     if (SPI_connect() != SPI_OK_CONNECT || SPI_execute(statement, false, 0) < 0 || SPI_finish() != SPI_OK_FINISH)
         elog(ERROR, "uca: the statement cannot be run: %s", statement);
+    AtEOXact_GUC(false, level);
+    SetUserIdAndSecContext(caller, context);
     PG_RETURN_DATUM(PG_GETARG_DATUM(0));
 }
