@@ -60,7 +60,7 @@ class Help(ProgramTest):
             ("change o d n e c", similar),
             ("keys t d l", unexpected("l", keys)),
             ("tailor t d r c l", unexpected("l", tailor)),
-            ("keys --other t d", unexpected("--other", keys)),
+            ("keys --quiet t d", unexpected("--quiet", keys)),
             ("sort --lines t d", unexpected("--lines", sort)),
             ("changes --changes o d n e c", unexpected("--changes", changes)),
             ("rekey --lines c", unexpected("--lines", "rekey [OPTIONS] <CERTIFICATE>")),
