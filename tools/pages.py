@@ -7,7 +7,7 @@ A command is a line of a block ```console that begins with `$ `; what follows it
 of a page run in turn in one shell. They run in a fresh folder that has a copy of examples/, and links to tools/ and crates/; a page
 of examples/ runs in that copy. The program is crates/uca/out/uca, which tools/build.py builds.
 
-A block ```console unicode needs files of Debian's packages unicode-data and, in docs/LANGUAGES.md, unicode-cldr-core. Without them
+A block ```console unicode needs files of Debian's packages unicode-data and unicode-cldr-core. Without them
 it is not run, and a line says so. docs/STORED_KEYS.md needs the package sqlite3; its blocks ```console postgresql need a server, so
 examples/databases/run_all.py runs them. The last line is `N passed, M failed`, and how many were not run if there are any. A named
 page without a command fails. README.md runs `rt try`, which takes a minute. (Blocks of `sh` are not run: docs/GATE.md and docs/LIBRARY.md have one each, which build.)
@@ -46,8 +46,7 @@ def outputs_of(commands, folder, environment):
 
 def runnable(page):
     """The commands of a page that can be run here, and how many cannot. It prints which file those need."""
-    needed = [ALLKEYS, CLDR] if page == "docs/LANGUAGES.md" else [ALLKEYS]
-    missing = [it for it in needed if not os.path.exists(it)]
+    missing = [it for it in (ALLKEYS, CLDR) if not os.path.exists(it)]
     others = commands_of(page, "console unicode")
     if missing and others:
         print(f"{page}: {len(others)} commands were not run, since there is no {missing[0]}")
