@@ -2,8 +2,6 @@
 
 ghost use Rattle.std.specs.Prelude.{◌≡◌, ◌∷◌, [], ◌++◌};
 ghost use Rattle.hex.specs.Hex.{encode_lower};
-ghost use Rattle.sha2.specs.Sha256.{sha256};
-ghost use Rattle.uca_fingerprint.specs.Fingerprints.{fingerprint_text};
 ghost use Rattle.uca_values.specs.Content.{properties_of};
 ghost use Rattle.uca_fingerprint_runs.specs.FingerprintRun.{PrintsFingerprint, fingerprint_under};
 ghost use Rattle.uca_fingerprint_runs.specs.SummedFiles.{summed_with};

@@ -3,7 +3,7 @@ use Rattle.std.proofs.Common.{ℕ, List, Option, Some, None, inl, inr}
 use Rattle.std.specs.Prelude.{IfSome, IsSomeAnd}
 use Rattle.sha2.specs.declared.Sha256.{Sha256}
 use Rattle.uca_lines.specs.declared.files.FileForm.{FileForm}
-use Rattle.uca_lines.specs.Files.{FaultInLine, FailsIn, Reaches, RefusesLine, StopsAt}
+use Rattle.uca_lines.specs.Files.{FailsIn, Reaches, RefusesLine}
 use Rattle.uca_summed_files.specs.Sums.{HoldsLines}
 
 -- A parser p with a hasher h of each state s.
