@@ -25,14 +25,14 @@ use Rattle.uca_text.specs.Limits.{HasNoLongRun, IsAccepted}
 use Rattle.uca_text.proofs.Runs.{few_have_no_long_run}
 use Rattle.uca_text.proofs.NfdPieces.{pieces_have_no_long_run}
 use Rattle.uca_elements.specs.Collations.{Collation, elements_of}
-use Rattle.uca_plain.specs.declared.plain.Known.{Known}
+use Rattle.uca_plain.specs.declared.plain.KnownPoint.{KnownPoint}
 use Rattle.uca_key_writer.specs.declared.pieces.Piece.{Piece}
 use Rattle.uca_order.specs.Levels.{weight_at, level_list, level_lists_from, level_bytes, levels_bytes, weight_bytes, weights_of, weighted, weighted_following, follows_variable, key_bytes}
 use Rattle.uca_order.specs.Depths.{ReadText, read_text, key_at, points_bytes}
 use Rattle.uca_key_writer.specs.Buffers.{KeyState}
 use Rattle.uca_key_writer.specs.LevelBuffers.{LevelState, HoldsLevels, bytes_of_level}
 use Rattle.uca_key_writer.specs.Pieces.{piece_points, ReadsTo, HasRead}
-use Rattle.uca_plain.specs.PlainPoints.{BeginsWithStarter, HasTrueDecomposition, counted_on}
+use Rattle.uca_plain.specs.PointCache.{BeginsWithStarter, HasTrueDecomposition, counted_on}
 use Rattle.uca_key_writer.specs.Beginnings.{HasBegun, IsJudged, IsJudgedTo, HasPassed}
 use Rattle.uca_key_writer.proofs.PieceSteps.{Begins, elements_joined, key_if_read, on_any}
 
@@ -215,7 +215,7 @@ module _ (c : Collation) where
       longer (inr (y, ys, begins, starts)) = inr (y, ys ++ ps, ap (λ l. l ++ ps) begins, starts)
 
   -- one code point more
-  judged_more : (xs : List ℕ) (x count more : ℕ) (known : Known) → known.point ≡ x → HasTrueDecomposition c known → IsJudged c xs count
+  judged_more : (xs : List ℕ) (x count more : ℕ) (known : KnownPoint) → known.point ≡ x → HasTrueDecomposition c known → IsJudged c xs count
       → more ≡ counted_on known count → more ≤ 64 → IsJudged c (xs ++ x ∷ []) more
   judged_more xs x count more known is true_of judged counted few = by known.starts refl counted
     where
@@ -247,7 +247,7 @@ module _ (c : Collation) where
   }
 
   -- the next code point is counted
-  pub judge_counts : (all text rest : List ℕ) (x count more : ℕ) (known : Known) → chars text ≡ x ∷ chars rest → known.point ≡ x → HasTrueDecomposition c known
+  pub judge_counts : (all text rest : List ℕ) (x count more : ℕ) (known : KnownPoint) → chars text ≡ x ∷ chars rest → known.point ≡ x → HasTrueDecomposition c known
       → more ≡ counted_on known count → more ≤ 64 → IsJudgedTo c all text count → IsJudgedTo c all rest more
   judge_counts all text rest x count more known first is true_of sum few so_far = record {
     done = so_far.done ++ x ∷ [];

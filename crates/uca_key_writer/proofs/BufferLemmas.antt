@@ -16,7 +16,7 @@ use Rattle.uca_weights.specs.declared.Weighting.TheVariants.{NonIgnorable, Shift
 use Rattle.uca_order.specs.Levels.{weight_at, level_list, weighted, weight_bytes, level_bytes, weighted_following}
 use Rattle.uca_order.specs.Levels.{weights_of, follows_variable, key_bytes}
 use Rattle.uca_order.specs.StreamedWeights.{at_four_levels, is_after_variable}
-use Rattle.uca_key_writer.specs.declared.places.Counts.{Counts}
+use Rattle.uca_key_writer.specs.declared.slots.Counts.{Counts}
 use Rattle.uca_key_writer.specs.LevelBuffers.{LevelState, HoldsLevels, HasRoom, IsNextFlag, bytes_of_level, held, levels_of}
 
 -- the bytes of a weight, none of the weight 0
@@ -96,7 +96,7 @@ pub less_room : (more less : ℕ) (counts : Counts) (primary secondary tertiary 
 less_room more less counts primary secondary tertiary quaternary fewer room =
     record { primary = omega arith; secondary = omega arith; tertiary = omega arith; quaternary = omega arith }
 
--- the same places have the same room
+-- the same slots have the same room
 pub room_in : (more : ℕ) (counts : Counts) (p s t q primary secondary tertiary quaternary : List (List ℕ))
     → primary ≡ p → secondary ≡ s → tertiary ≡ t → quaternary ≡ q → HasRoom more counts p s t q → HasRoom more counts primary secondary tertiary quaternary
 room_in more counts p s t q primary secondary tertiary quaternary same_primary same_secondary same_tertiary same_quaternary room = record {
@@ -106,7 +106,7 @@ room_in more counts p s t q primary secondary tertiary quaternary same_primary s
   quaternary = subst (λ l. counts.quaternary + more ≤ length l) (sym same_quaternary) room.quaternary;
 }
 
--- the levels do not change where only places are added
+-- the levels do not change where only slots are added
 pub same_levels : (flag : Bool) (counts : Counts) (p s t q primary secondary tertiary quaternary : List (List ℕ)) (key : List ℕ)
     → held primary counts.primary ≡ held p counts.primary → held secondary counts.secondary ≡ held s counts.secondary
     → held tertiary counts.tertiary ≡ held t counts.tertiary → held quaternary counts.quaternary ≡ held q counts.quaternary

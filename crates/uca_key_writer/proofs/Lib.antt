@@ -3,4 +3,4 @@ pub mod LeafSteps
 pub mod PieceSteps
 pub mod BeginningSteps
 pub mod WriterSteps
-pub mod RunSteps
+pub mod StretchSteps

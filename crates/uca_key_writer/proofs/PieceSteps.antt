@@ -17,7 +17,7 @@ use Rattle.uca_text.specs.Texts.{NfdText, nfd_text}
 use Rattle.uca_text.specs.Limits.{HasNoLongRun, IsAccepted}
 use Rattle.uca_text.proofs.NfdPieces.{pieces_have_no_long_run}
 use Rattle.uca_elements.specs.Collations.{Collation, elements_of}
-use Rattle.uca_plain.specs.declared.plain.Known.{Known}
+use Rattle.uca_plain.specs.declared.plain.KnownPoint.{KnownPoint}
 use Rattle.uca_key_writer.specs.declared.pieces.Piece.{Piece}
 use Rattle.uca_order.specs.Levels.{key_bytes}
 use Rattle.uca_order.specs.Depths.{read_text, key_at}
@@ -25,7 +25,7 @@ use Rattle.uca_order.specs.Lengths.{HasShortRows}
 use Rattle.uca_key_writer.specs.Buffers.{KeyState}
 use Rattle.uca_key_writer.specs.LevelBuffers.{LevelState, HoldsLevels}
 use Rattle.uca_plain.specs.Plain.{IsPlain}
-use Rattle.uca_plain.specs.PlainPoints.{IsTrueEntry}
+use Rattle.uca_plain.specs.PointCache.{IsTrueEntry}
 use Rattle.uca_key_writer.specs.Pieces.{points_by, piece_points, IsTrueAlone, ReadsTo, HasRead}
 use Rattle.uca_order.proofs.KeyLength.{keys_short}
 use Rattle.uca_plain.proofs.PlainTexts.{read_before, plain_texts, plain_no_long_run}
@@ -116,7 +116,7 @@ end_piece c weighting xs ps old new piece (Ok false) reads are holds runs = tt
 end_piece c weighting xs ps old new piece (Err e) reads are holds runs = tt
 
 -- the next piece begins with a plain code point
-pub next_piece : (c : Collation) (weighting : Weighting) (xs : List ℕ) (b : LevelState) (piece : Piece) (known : Known) (ok : Bool)
+pub next_piece : (c : Collation) (weighting : Weighting) (xs : List ℕ) (b : LevelState) (piece : Piece) (known : KnownPoint) (ok : Bool)
     → piece.alone ≡ Some known → known.count ≤ 3 → IsTrueEntry c known → OnTrue ok (HasRead c weighting xs b)
     → OnTrue ok (ReadsTo c weighting (xs ++ known.point ∷ []) b piece)
 unfolding HasRead

@@ -11,7 +11,7 @@ use Rattle.uca_text.specs.Limits.{HasNoLongRun}
 use Rattle.uca_elements.specs.Collations.{Collation, elements_of}
 use Rattle.uca_key_writer.specs.LevelBuffers.{LevelState, HoldsLevels}
 use Rattle.uca_key_writer.specs.Pieces.{HasRead}
-use Rattle.uca_plain.specs.PlainPoints.{BeginsWithStarter}
+use Rattle.uca_plain.specs.PointCache.{BeginsWithStarter}
 
 -- The levels have the first elements of a text. If there are fewer than sixteen bytes at level 1, they have all elements.
 pub record HasBegun (c : Collation) (weighting : Weighting) (xs : List ℕ) (levels : LevelState) : Type 0 where

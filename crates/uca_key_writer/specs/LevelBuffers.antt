@@ -3,7 +3,7 @@ use Rattle.std.specs.Prelude.{◌≡◌, ℕ, ◌+◌, ◌≤◌, List, Bool, re
 use Rattle.uca_weights.specs.declared.Element.{Element}
 use Rattle.uca_weights.specs.declared.Weighting.{Weighting}
 use Rattle.uca_weights.specs.declared.Weighting.TheVariants.{NonIgnorable, Shifted}
-use Rattle.uca_key_writer.specs.declared.places.Counts.{Counts}
+use Rattle.uca_key_writer.specs.declared.slots.Counts.{Counts}
 use Rattle.uca_order.specs.Levels.{follows_variable, weighted, level_list, level_bytes}
 use Rattle.uca_order.specs.StreamedWeights.{is_after_variable}
 
@@ -20,11 +20,11 @@ pub record LevelState : Type 0 where
 abbrev pub flattened : List (List ℕ) → List ℕ
 flattened pairs = flat_map (λ pair. pair) pairs
 
--- the bytes of the weights in the first places
+-- the bytes of the weights in the first slots
 abbrev pub held : List (List ℕ) → ℕ → List ℕ
-held places count = flattened (take count places)
+held slots count = flattened (take count slots)
 
--- the levels that have so many weights in their places
+-- the levels that have so many weights in their slots
 abbrev pub levels_of : Bool → Counts → List (List ℕ) → List (List ℕ) → List (List ℕ) → List (List ℕ) → List ℕ → LevelState
 levels_of after_variable counts primary secondary tertiary quaternary key = record {
   after_variable = after_variable;
@@ -35,7 +35,7 @@ levels_of after_variable counts primary secondary tertiary quaternary key = reco
   key = key;
 }
 
--- each level has places for so many weights more
+-- each level has slots for so many weights more
 pub record HasRoom (more : ℕ) (counts : Counts) (p s t q : List (List ℕ)) : Type 0 where
   pub primary : counts.primary + more ≤ length p
   pub secondary : counts.secondary + more ≤ length s

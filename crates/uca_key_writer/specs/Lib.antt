@@ -2,6 +2,6 @@ pub mod Buffers
 pub mod Writers
 pub mod Pieces
 pub mod Readings
-pub mod Runs
+pub mod Stretches
 pub mod LevelBuffers
 pub mod Beginnings

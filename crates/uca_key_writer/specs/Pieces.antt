@@ -6,13 +6,13 @@ use Rattle.uca_weights.specs.declared.Weighting.{Weighting}
 use Rattle.uca_text.specs.Texts.{nfd_text}
 use Rattle.uca_text.specs.Limits.{HasNoLongRun}
 use Rattle.uca_elements.specs.Collations.{Collation, elements_of}
-use Rattle.uca_plain.specs.declared.plain.Known.{Known}
+use Rattle.uca_plain.specs.declared.plain.KnownPoint.{KnownPoint}
 use Rattle.uca_key_writer.specs.declared.pieces.Piece.{Piece}
 use Rattle.uca_key_writer.specs.LevelBuffers.{LevelState, HoldsLevels}
 use Rattle.uca_plain.specs.Plain.{IsPlain}
-use Rattle.uca_plain.specs.PlainPoints.{IsTrueEntry}
+use Rattle.uca_plain.specs.PointCache.{IsTrueEntry}
 
-abbrev pub points_by : Option Known → List ℕ → List ℕ
+abbrev pub points_by : Option KnownPoint → List ℕ → List ℕ
 points_by (Some known) text = known.point ∷ []
 points_by None text = text
 
@@ -21,7 +21,7 @@ abbrev pub piece_points : Piece → List ℕ
 piece_points piece = points_by piece.alone (chars (string_bytes piece.text))
 
 -- a code point that is a piece alone has its elements in its entry
-abbrev pub IsTrueAlone : Collation → Option Known → Type 0
+abbrev pub IsTrueAlone : Collation → Option KnownPoint → Type 0
 IsTrueAlone c (Some known) = (known.count ≤ 3) × IsTrueEntry c known
 IsTrueAlone c None = ⊤
 

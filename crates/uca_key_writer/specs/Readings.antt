@@ -8,7 +8,7 @@ use Rattle.uca_key_writer.specs.declared.pieces.Reading.{Reading}
 use Rattle.uca_key_writer.specs.declared.pieces.Reading.TheVariants.{GoesOn, Ended}
 use Rattle.uca_key_writer.specs.LevelBuffers.{LevelState}
 use Rattle.uca_key_writer.specs.Pieces.{HasRead}
-use Rattle.uca_key_writer.specs.Runs.{ReadsMore}
+use Rattle.uca_key_writer.specs.Stretches.{ReadsMore}
 
 -- after the text so far, some of a text was read, or all of it
 abbrev pub ReadsOn : Collation → Weighting → List ℕ → List ℕ → LevelState → Piece → Reading → Type 0

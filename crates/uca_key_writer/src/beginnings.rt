@@ -7,14 +7,14 @@ ghost use Rattle.unicode_normalization.specs.Forms.{nfd};
 ghost use Rattle.uca_text.specs.Limits.{HasNoLongRun};
 ghost use Rattle.uca_elements.specs.Collations.{collation_of};
 ghost use Rattle.uca_key_writer.specs.LevelBuffers.{HoldsLevels};
-ghost use Rattle.uca_plain.specs.PlainPoints.{AreTrueEntries};
+ghost use Rattle.uca_plain.specs.PointCache.{AreTrueEntries};
 ghost use Rattle.uca_key_writer.specs.Beginnings.{HasBegun, HasPassed};
 
 use crate::level_buffers::LevelBuffers;
 use crate::pieces::Piece;
 use std::alloc::{AllocError, Allocator};
 use uca_elements::{Collator, Lookup};
-use uca_plain::plain::PlainPoints;
+use uca_plain::plain::PointCache;
 use uca_plain::points::split_first;
 use uca_weights::Weighting;
 
@@ -33,7 +33,7 @@ pub(crate) fn push_beginning<L: Lookup, T: Allocator, A: Allocator>(
     levels: &mut LevelBuffers<A>,
     weighting: Weighting,
     collator: &Collator<L, T>,
-    points: &mut PlainPoints<A>,
+    points: &mut PointCache<A>,
     piece: &mut Piece,
     text: &str,
 ) -> Result<bool, AllocError>
@@ -61,7 +61,7 @@ pub(crate) fn push_beginning<L: Lookup, T: Allocator, A: Allocator>(
 /// come in a row without one that begins with a starter, and they were only counted.
 pub(crate) fn has_short_runs<L: Lookup, T: Allocator, A: Allocator>(
     collator: &Collator<L, T>,
-    points: &mut PlainPoints<A>,
+    points: &mut PointCache<A>,
     text: &str,
 ) -> Result<bool, AllocError>
     requires { AreTrueEntries (collation_of L.content collator.now) points.old.entries.items }
@@ -78,7 +78,7 @@ pub(crate) fn has_short_runs<L: Lookup, T: Allocator, A: Allocator>(
 // The same, where at most so many bytes after each starter are passed over. They count as the most code points that they may be.
 fn count_runs<L: Lookup, T: Allocator, A: Allocator>(
     collator: &Collator<L, T>,
-    points: &mut PlainPoints<A>,
+    points: &mut PointCache<A>,
     text: &str,
     most: usize,
 ) -> Result<bool, AllocError>

@@ -10,7 +10,7 @@ ghost use Rattle.uca_order.specs.Depths.{read_text, key_at};
 ghost use Rattle.uca_order.specs.Lengths.{HasShortRows};
 ghost use Rattle.uca_key_writer.specs.LevelBuffers.{HoldsLevels};
 ghost use Rattle.uca_key_writer.specs.Pieces.{ReadsTo, HasRead};
-ghost use Rattle.uca_plain.specs.PlainPoints.{IsTrueEntry, AreTrueEntries};
+ghost use Rattle.uca_plain.specs.PointCache.{IsTrueEntry, AreTrueEntries};
 ghost use Rattle.uca_key_writer.specs.Readings.{ReadsOn};
 
 use crate::beginnings::{has_short_runs, push_beginning};
@@ -19,7 +19,7 @@ use crate::pieces::{Piece, Reading};
 use std::alloc::{AllocError, Allocator, Global};
 use std::marker::Model;
 use uca_elements::{Collator, Lookup};
-use uca_plain::plain::{Known, PlainPoints, SHORT_TEXT};
+use uca_plain::plain::{KnownPoint, PointCache, SHORT_TEXT};
 use uca_plain::points::split_first;
 use uca_text::{Normal, TextFault};
 use uca_weights::{Depth, Weighting};
@@ -92,7 +92,7 @@ impl<A: Allocator> KeyBuffer<A> {
     pub(crate) fn write_pieces<L: Lookup, T: Allocator>(
         &mut self,
         collator: &Collator<L, T>,
-        points: &mut PlainPoints<A>,
+        points: &mut PointCache<A>,
         piece: &mut Piece,
         text: &str,
     ) -> Result<bool, AllocError>
@@ -139,7 +139,7 @@ impl<A: Allocator> KeyBuffer<A> {
     pub fn write_as_is<L: Lookup, T: Allocator>(
         &mut self,
         collator: &Collator<L, T>,
-        points: &mut PlainPoints<A>,
+        points: &mut PointCache<A>,
         piece: &mut Piece,
         normal: &mut Normal,
         text: &str,
@@ -174,7 +174,7 @@ impl<A: Allocator> KeyBuffer<A> {
     pub(crate) fn write_beginning<L: Lookup, T: Allocator>(
         &mut self,
         collator: &Collator<L, T>,
-        points: &mut PlainPoints<A>,
+        points: &mut PointCache<A>,
         piece: &mut Piece,
         text: &str,
     ) -> Result<bool, AllocError>
@@ -226,7 +226,7 @@ impl<A: Allocator> KeyBuffer<A> {
         self.levels.key()
     }
 
-    /// The same key, for the caller to keep.
+    /// The key that was written last, for the caller to keep.
     pub fn into_bytes(self) -> Vec<u8, A>
         ensures { result.items ≡ self.key }
     {
@@ -240,7 +240,7 @@ fn push_pieces<L: Lookup, T: Allocator, A: Allocator>(
     levels: &mut LevelBuffers<A>,
     weighting: Weighting,
     collator: &Collator<L, T>,
-    points: &mut PlainPoints<A>,
+    points: &mut PointCache<A>,
     piece: &mut Piece,
     text: &str,
 ) -> Result<bool, AllocError>
@@ -273,9 +273,9 @@ fn push_plain<'t, L: Lookup, T: Allocator, A: Allocator>(
     levels: &mut LevelBuffers<A>,
     weighting: Weighting,
     collator: &Collator<L, T>,
-    points: &mut PlainPoints<A>,
+    points: &mut PointCache<A>,
     piece: &mut Piece,
-    known: Known,
+    known: KnownPoint,
     text: &'t str,
 ) -> Result<Reading<'t>, AllocError>
     requires few { known.count ≤ 3 }
@@ -286,7 +286,7 @@ fn push_plain<'t, L: Lookup, T: Allocator, A: Allocator>(
         IfOk result (ReadsOn c weighting (xs ++ known.point ∷ []) text.now levels.new piece.new) }
 {
     match piece.end(levels, weighting, collator, points) {
-        Ok(true) => piece.run_on(levels, weighting, points, known, text),
+        Ok(true) => piece.go_on_plain(levels, weighting, points, known, text),
         Ok(false) => Ok(Reading::Ended(false)),
         Err(error) => Err(error),
     }

@@ -14,7 +14,7 @@ use crate::pieces::Piece;
 use std::alloc::{Allocator, Global};
 use std::marker::Model;
 use uca_elements::{Collator, Lookup};
-use uca_plain::plain::PlainPoints;
+use uca_plain::plain::PointCache;
 use uca_text::{Normal, TextFault};
 use uca_weights::{Depth, Weighting};
 
@@ -24,8 +24,8 @@ use uca_weights::{Depth, Weighting};
 pub struct KeyWriter<'a, L: Lookup, T: Allocator = Global, A: Allocator = Global> {
     collator: Collator<'a, L, T>,
     buffer: KeyBuffer<A>,
-    // what is known of the code points that were met
-    points: PlainPoints<A>,
+    // what is known of the code points of the texts so far
+    points: PointCache<A>,
     piece: Piece,
     // the text of a key that is not written piece by piece
     text: Normal,
@@ -33,7 +33,7 @@ pub struct KeyWriter<'a, L: Lookup, T: Allocator = Global, A: Allocator = Global
 
 impl<'a, L: Lookup, T: Allocator, A: Allocator> Model for KeyWriter<'a, L, T, A> {
     ghost use Rattle.uca_elements.specs.Collations.{collation_of};
-    ghost use Rattle.uca_plain.specs.PlainPoints.{AreTrueEntries};
+    ghost use Rattle.uca_plain.specs.PointCache.{AreTrueEntries};
     ghost use Rattle.uca_key_writer.specs.Writers.{WriterState};
 
     ghost Value = { WriterState L };
@@ -67,7 +67,7 @@ impl<'a, L: Lookup, T: Allocator, A: Allocator + Copy> KeyWriter<'a, L, T, A> {
         KeyWriter {
             collator,
             buffer: KeyBuffer::new(alloc, weighting, depth),
-            points: PlainPoints::new(alloc, global),
+            points: PointCache::new(alloc, global),
             piece: Piece::new(global),
             text: Normal::new(global),
         }

@@ -11,15 +11,15 @@ ghost use Rattle.uca_order.specs.Depths;
 ghost use Rattle.uca_order.specs.Depths.{points_bytes};
 ghost use Rattle.uca_plain.specs.Leaves.{points_elements};
 ghost use Rattle.uca_key_writer.specs.LevelBuffers.{HoldsLevels, flattened};
-ghost use Rattle.uca_plain.specs.PlainPoints.{AreTrueEntries};
-ghost use Rattle.uca_key_writer.specs.Runs.{ReadsUpTo, RunReads};
+ghost use Rattle.uca_plain.specs.PointCache.{AreTrueEntries};
+ghost use Rattle.uca_key_writer.specs.Stretches.{ReadsUpTo, StretchReads};
 
-use crate::places::{Counts, NO_WEIGHTS, make_rooms, put_elements};
-use crate::runs::{LEAVES, RUN_PLACES, Run, put_leaves, put_run};
+use crate::slots::{Counts, NO_WEIGHTS, make_rooms, put_elements};
+use crate::stretches::{LEAVES, STRETCH_SLOTS, Stretch, put_leaves, put_stretch};
 use std::alloc::{AllocError, Allocator};
 use std::marker::Model;
 use uca_order::SEPARATOR;
-use uca_plain::plain::{Known, PlainPoints};
+use uca_plain::plain::{KnownPoint, PointCache};
 use uca_weights::{Element, Weighting};
 
 /// How many bytes are the beginning of a key.
@@ -31,7 +31,7 @@ pub(crate) struct LevelBuffers<A: Allocator> {
     // under `Shifted`, whether the nearest element with a primary weight is variable
     after_variable: bool,
     counts: Counts,
-    // the weights of each level, two bytes each, and after them places for more
+    // the weights of each level, two bytes each, and after them slots for more
     primary: Vec<[u8; 2], A>,
     secondary: Vec<[u8; 2], A>,
     tertiary: Vec<[u8; 2], A>,
@@ -151,54 +151,54 @@ impl<A: Allocator> LevelBuffers<A> {
         Ok(())
     }
 
-    /// Adds the weights of a plain code point and of those that follow it in a text, as [`put_run`] puts them.
-    pub(crate) fn push_run<'t>(
+    /// Adds the weights of a plain code point and of those that follow it in a text, as [`put_stretch`] puts them.
+    pub(crate) fn push_stretch<'t>(
         &mut self,
         weighting: Weighting,
-        points: &PlainPoints<A>,
-        first: Known,
+        points: &PointCache<A>,
+        first: KnownPoint,
         text: &'t str,
-    ) -> Result<Run<'t>, AllocError>
+    ) -> Result<Stretch<'t>, AllocError>
         ensures { (c : Collation) (xs : List ℕ) → AreTrueEntries c points.now.entries.items → ReadsUpTo c weighting xs self.old first →
-            IfOk result (λ run. RunReads c weighting xs text.now self.new run) }
+            IfOk result (λ stretch. StretchReads c weighting xs text.now self.new stretch) }
     {
         if first.is_bound() {
-            return Ok(Run::Stopped(first, text));
+            return Ok(Stretch::Stopped(first, text));
         }
         match weighting {
-            Weighting::NonIgnorable => self.push_run_by(
+            Weighting::NonIgnorable => self.push_stretch_by(
                 Weighting::NonIgnorable,
                 points,
                 &first,
                 text,
             ),
-            Weighting::Shifted => self.push_run_by(Weighting::Shifted, points, &first, text),
+            Weighting::Shifted => self.push_stretch_by(Weighting::Shifted, points, &first, text),
         }
     }
 
     // It stands apart so that it is compiled for each weighting.
     #[inline(always)]
-    fn push_run_by<'p, 't>(
+    fn push_stretch_by<'p, 't>(
         &mut self,
         weighting: Weighting,
-        points: &'p PlainPoints<A>,
-        first: &'p Known,
+        points: &'p PointCache<A>,
+        first: &'p KnownPoint,
         text: &'t str,
-    ) -> Result<Run<'t>, AllocError>
+    ) -> Result<Stretch<'t>, AllocError>
         requires { first.now.count ≤ 3 }
         ensures { (c : Collation) (xs : List ℕ) → AreTrueEntries c points.now.entries.items → ReadsUpTo c weighting xs self.old first.now →
-            IfOk result (λ run. RunReads c weighting xs text.now self.new run) }
+            IfOk result (λ stretch. StretchReads c weighting xs text.now self.new stretch) }
     {
         make_rooms(
             self.counts,
-            RUN_PLACES,
+            STRETCH_SLOTS,
             &mut self.primary,
             &mut self.secondary,
             &mut self.tertiary,
             &mut self.quaternary,
         )?;
         let mut after_variable = self.after_variable;
-        let (run, counts) = put_run(
+        let (stretch, counts) = put_stretch(
             weighting,
             points,
             first,
@@ -212,15 +212,15 @@ impl<A: Allocator> LevelBuffers<A> {
         );
         self.after_variable = after_variable;
         self.counts = counts;
-        Ok(run)
+        Ok(stretch)
     }
 
-    /// Adds the weights of code points in Normalization Form D, if each is a leaf that was met. Otherwise `false` is returned, and
+    /// Adds the weights of code points in Normalization Form D, if each is a leaf in the cache. Otherwise `false` is returned, and
     /// the weights are unspecified.
     pub(crate) fn push_leaves(
         &mut self,
         weighting: Weighting,
-        points: &PlainPoints<A>,
+        points: &PointCache<A>,
         text: &[char],
     ) -> Result<bool, AllocError>
         requires { length text.now ≤ LEAVES }
@@ -238,7 +238,7 @@ impl<A: Allocator> LevelBuffers<A> {
     fn push_leaves_by(
         &mut self,
         weighting: Weighting,
-        points: &PlainPoints<A>,
+        points: &PointCache<A>,
         text: &[char],
     ) -> Result<bool, AllocError>
         requires { length text.now ≤ LEAVES }
@@ -247,7 +247,7 @@ impl<A: Allocator> LevelBuffers<A> {
     {
         make_rooms(
             self.counts,
-            RUN_PLACES,
+            STRETCH_SLOTS,
             &mut self.primary,
             &mut self.secondary,
             &mut self.tertiary,

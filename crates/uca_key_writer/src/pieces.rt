@@ -11,15 +11,15 @@ ghost use Rattle.uca_elements.specs.Collations.{Collation, collation_of, element
 ghost use Rattle.uca_key_writer.specs.LevelBuffers.{LevelState, HoldsLevels};
 ghost use Rattle.uca_key_writer.specs.Pieces.{piece_points, ReadsTo, HasRead};
 ghost use Rattle.uca_plain.specs.Plain.{elements_alone};
-ghost use Rattle.uca_plain.specs.PlainPoints.{IsTrueEntry, AreTrueEntries};
+ghost use Rattle.uca_plain.specs.PointCache.{IsTrueEntry, AreTrueEntries};
 ghost use Rattle.uca_key_writer.specs.Readings.{ReadsOn};
-ghost use Rattle.uca_key_writer.specs.Runs.{ReadsMore, ReadsUpTo};
+ghost use Rattle.uca_key_writer.specs.Stretches.{ReadsMore, ReadsUpTo};
 
 use crate::level_buffers::LevelBuffers;
-use crate::runs::{LEAVES, Run, split_bound};
+use crate::stretches::{LEAVES, Stretch, split_bound};
 use std::alloc::{AllocError, Allocator, Global};
 use uca_elements::{Collator, Lookup};
-use uca_plain::plain::{Known, PlainPoints};
+use uca_plain::plain::{KnownPoint, PointCache};
 use uca_text::{Normal, TextFault};
 use uca_weights::Weighting;
 
@@ -36,7 +36,7 @@ pub(crate) enum Reading<'t> {
 #[derive(Drop)]
 pub struct Piece {
     // the piece, where it is one plain code point
-    alone: Option<Known>,
+    alone: Option<KnownPoint>,
     // otherwise its code points
     text: String,
     // whether these are leaves, which is asked for speed alone
@@ -83,17 +83,17 @@ impl Piece {
 
     /// Makes it this plain code point alone.
     #[inline]
-    pub(crate) fn begin(&mut self, known: Known)
+    pub(crate) fn begin(&mut self, known: KnownPoint)
         ensures alone { self.new.alone ≡ Some known }
     {
         self.alone = Some(known);
     }
 
-    /// Goes on by a code point that is not plain, and by those that follow it in the text, as long as they were met and are not
+    /// Goes on by a code point that is not plain, and by those that follow it in the text, as long as they are in the cache and not
     /// plain. Returns what comes after them.
     pub(crate) fn go_on_bound<'t, A: Allocator>(
         &mut self,
-        points: &PlainPoints<A>,
+        points: &PointCache<A>,
         point: char,
         is_leaf: bool,
         text: &'t str,
@@ -126,7 +126,7 @@ impl Piece {
         levels: &mut LevelBuffers<A>,
         weighting: Weighting,
         collator: &Collator<L, T>,
-        points: &mut PlainPoints<A>,
+        points: &mut PointCache<A>,
         point: char,
     ) -> Result<bool, AllocError>
         requires { AreTrueEntries (collation_of L.content collator.now) points.old.entries.items }
@@ -150,24 +150,24 @@ impl Piece {
         }
     }
 
-    /// Goes on by a plain code point and by those that come next in the text and were met. Their weights are added to the
+    /// Takes a plain code point and the plain ones of the cache that come next in the text. Their weights are added to the
     /// levels, but not those of the last, which is the piece then. Where they end the text, all weights are added, and the piece is
     /// unspecified.
     #[inline(always)]
-    pub(crate) fn run_on<'t, A: Allocator>(
+    pub(crate) fn go_on_plain<'t, A: Allocator>(
         &mut self,
         levels: &mut LevelBuffers<A>,
         weighting: Weighting,
-        points: &PlainPoints<A>,
-        first: Known,
+        points: &PointCache<A>,
+        first: KnownPoint,
         text: &'t str,
     ) -> Result<Reading<'t>, AllocError>
         ensures { (c : Collation) (xs : List ℕ) → AreTrueEntries c points.now.entries.items → ReadsUpTo c weighting xs levels.old first →
             IfOk result (ReadsOn c weighting xs text.now levels.new self.new) }
     {
-        match levels.push_run(weighting, points, first, text) {
-            Ok(Run::Ended) => Ok(Reading::Ended(true)),
-            Ok(Run::Stopped(last, rest)) => {
+        match levels.push_stretch(weighting, points, first, text) {
+            Ok(Stretch::Ended) => Ok(Reading::Ended(true)),
+            Ok(Stretch::Stopped(last, rest)) => {
                 self.begin(last);
                 Ok(Reading::GoesOn(rest))
             }
@@ -182,7 +182,7 @@ impl Piece {
         levels: &mut LevelBuffers<A>,
         weighting: Weighting,
         collator: &Collator<L, T>,
-        points: &mut PlainPoints<A>,
+        points: &mut PointCache<A>,
     ) -> Result<bool, AllocError>
         requires { AreTrueEntries (collation_of L.content collator.now) points.old.entries.items }
         ensures entries { AreTrueEntries (collation_of L.content collator.now) points.new.entries.items }
@@ -209,7 +209,7 @@ impl Piece {
 fn push_known<A: Allocator>(
     levels: &mut LevelBuffers<A>,
     weighting: Weighting,
-    known: &Known,
+    known: &KnownPoint,
 ) -> Result<bool, AllocError>
     ensures { (c : Collation) (es : List Element) → IsTrueEntry c known.now → HoldsLevels weighting es levels.old →
         IfOk result (λ plain. OnTrue plain (HoldsLevels weighting (es ++ elements_alone c known.now.point) levels.new)) }
@@ -227,7 +227,7 @@ fn push_text<L: Lookup, T: Allocator, A: Allocator>(
     levels: &mut LevelBuffers<A>,
     weighting: Weighting,
     collator: &Collator<L, T>,
-    points: &mut PlainPoints<A>,
+    points: &mut PointCache<A>,
     leaves: bool,
     text: &str,
     normal: &mut Normal,
@@ -251,7 +251,7 @@ fn push_normal<L: Lookup, T: Allocator, A: Allocator>(
     levels: &mut LevelBuffers<A>,
     weighting: Weighting,
     collator: &Collator<L, T>,
-    points: &mut PlainPoints<A>,
+    points: &mut PointCache<A>,
     leaves: bool,
     text: &Normal,
 ) -> Result<bool, AllocError>
@@ -271,10 +271,10 @@ fn push_normal<L: Lookup, T: Allocator, A: Allocator>(
     }
 }
 
-// Whether all code points are leaves. If that is not known yet, those that were not met are found out about.
+// Whether all code points are leaves. What is not known yet of one is found out.
 fn are_leaves<L: Lookup, T: Allocator, A: Allocator>(
     collator: &Collator<L, T>,
-    points: &mut PlainPoints<A>,
+    points: &mut PointCache<A>,
     leaves: bool,
     text: &[char],
 ) -> Result<bool, AllocError>

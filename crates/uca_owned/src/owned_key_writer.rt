@@ -14,7 +14,7 @@ use uca_elements::Collator;
 use uca_key_writer::KeyBuffer;
 use uca_key_writer::pieces::Piece;
 use uca_match::Trie;
-use uca_plain::plain::PlainPoints;
+use uca_plain::plain::PointCache;
 use uca_text::{Normal, TextFault};
 use uca_values::{Data, Header};
 use uca_weights::{Depth, Weighting};
@@ -27,8 +27,8 @@ pub struct OwnedKeyWriter {
     header: Header,
     data: Data,
     buffer: KeyBuffer,
-    // what is known of the code points that were met
-    points: PlainPoints<Global>,
+    // what is known of the code points of the texts so far
+    points: PointCache<Global>,
     piece: Piece,
     // the text of a key that is not written piece by piece
     text: Normal,
@@ -37,7 +37,7 @@ pub struct OwnedKeyWriter {
 impl Model for OwnedKeyWriter {
     ghost use Rattle.uca_values.specs.Content.{properties_of};
     ghost use Rattle.uca_match.specs.NumberedKeys.{TrieContent, rows_at};
-    ghost use Rattle.uca_plain.specs.PlainPoints.{AreTrueEntries};
+    ghost use Rattle.uca_plain.specs.PointCache.{AreTrueEntries};
     ghost use Rattle.uca_key_writer.specs.Writers.{WriterState};
 
     ghost Value = { WriterState TrieContent };
@@ -76,7 +76,7 @@ impl OwnedKeyWriter {
             header,
             data: data_file,
             buffer: KeyBuffer::new(alloc, weighting, depth),
-            points: PlainPoints::new(alloc, alloc),
+            points: PointCache::new(alloc, alloc),
             piece: Piece::new(alloc),
             text: Normal::new(alloc),
         }

@@ -13,20 +13,20 @@ use Rattle.uca_weights.proofs.Lists.{each_append}
 use Rattle.uca_text.specs.Texts.{NfdText, nfd_text}
 use Rattle.uca_text.proofs.NfdLength.{decompose_length}
 use Rattle.uca_elements.specs.Collations.{Collation, elements_of}
-use Rattle.uca_plain.specs.declared.plain.Known.{Known}
+use Rattle.uca_plain.specs.declared.plain.KnownPoint.{KnownPoint}
 use Rattle.uca_plain.specs.Plain.{IsPlain}
-use Rattle.uca_plain.specs.PlainPoints.{IsTrueEntry, IsTrueLeaf, BeginsWithStarter, HasTrueDecomposition, AreTrueEntries}
+use Rattle.uca_plain.specs.PointCache.{IsTrueEntry, IsTrueLeaf, BeginsWithStarter, HasTrueDecomposition, AreTrueEntries}
 use Rattle.uca_plain.specs.Leaves.{IsLeaf, points_elements}
 use Rattle.uca_plain.proofs.LeafReading.{text_of_points, classes_of}
 
 -- of an entry that says nothing of a decomposition all is true
-pub nothing_said : (c : Collation) (known : Known) → 4 ≤ known.len → known.starts ≡ false → HasTrueDecomposition c known
+pub nothing_said : (c : Collation) (known : KnownPoint) → 4 ≤ known.len → known.starts ≡ false → HasTrueDecomposition c known
 nothing_said c known most none = record {
   few = omega (arith, decompose_length known.point, most);
   starts = λ starts. cc;
 }
 
-replicate_true : (c : Collation) (known : Known) → 3 < known.count → 3 < known.leaf_count → HasTrueDecomposition c known → (n : ℕ)
+replicate_true : (c : Collation) (known : KnownPoint) → 3 < known.count → 3 < known.leaf_count → HasTrueDecomposition c known → (n : ℕ)
     → AreTrueEntries c (replicate n known)
 unfolding AreTrueEntries
 replicate_true c known none no_leaf said zero = tt
@@ -34,7 +34,7 @@ replicate_true c known none no_leaf said (suc n) =
     (((λ few. absurd (omega arith)), said, (λ few. absurd (omega arith))), replicate_true c known none no_leaf said n)
 
 -- more entries that have nothing to give
-pub more_entries : (c : Collation) (entries new : List Known) (n k : ℕ) (known : Known) → 3 < known.count → 3 < known.leaf_count → 4 ≤ known.len → known.starts ≡ false
+pub more_entries : (c : Collation) (entries new : List KnownPoint) (n k : ℕ) (known : KnownPoint) → 3 < known.count → 3 < known.leaf_count → 4 ≤ known.len → known.starts ≡ false
     → length entries ≤ n → new ≡ take n entries ++ replicate k known → AreTrueEntries c entries → AreTrueEntries c new
 unfolding AreTrueEntries
 more_entries c entries new n k known none no_leaf most not_said all are holds =
@@ -43,7 +43,7 @@ more_entries c entries new n k known none no_leaf most not_said all are holds =
     (replicate_true c known none no_leaf (nothing_said c known most not_said) k))
 
 -- what an entry says of a decomposition is true of another entry that says it
-pub same_decomposition : (c : Collation) (bound known : Known) → known.point ≡ bound.point → known.len ≡ bound.len → known.starts ≡ bound.starts
+pub same_decomposition : (c : Collation) (bound known : KnownPoint) → known.point ≡ bound.point → known.len ≡ bound.len → known.starts ≡ bound.starts
     → HasTrueDecomposition c bound → HasTrueDecomposition c known
 same_decomposition c bound known point len starts said = record {
   few = subst (λ x. length (decompose Nfd x) ≤ known.len) (sym point) (omega (arith, said.few, len));
@@ -61,7 +61,7 @@ pub chars_alone : (text : List ℕ) (x : ℕ) → IsUtf8 text → text ≡ encod
 chars_alone text x utf8 is = chars_past_char text [] x utf8 (is ∙ sym (append-nil (encode_utf8 x))) ∙ ap (λ l. x ∷ l) chars-nil
 
 -- the entry of a code point that is plain, by that text
-pub entry_of : (c : Collation) (x : ℕ) (text : List ℕ) (normal : NfdText) (known : Known) (plain : Bool) → IsUtf8 text → text ≡ encode_utf8 x
+pub entry_of : (c : Collation) (x : ℕ) (text : List ℕ) (normal : NfdText) (known : KnownPoint) (plain : Bool) → IsUtf8 text → text ≡ encode_utf8 x
     → OnTrue plain (IsPlain c x) → normal ≡ nfd_text c.properties (chars text) → known.point ≡ x
     → (known.count ≤ 3 → (plain ≡ true) × (take known.count known.elements ≡ elements_of c normal)) → IsTrueEntry c known
 entry_of c x text normal known plain utf8 is is_plain normalized point has = λ few. (
@@ -70,7 +70,7 @@ entry_of c x text normal known plain utf8 is is_plain normalized point has = λ 
 )
 
 -- and of a leaf, which is that text
-pub leaf_of : (c : Collation) (x y : ℕ) (xs : List ℕ) (normal : NfdText) (known : Known) (leaf : Bool) → OnTrue leaf (IsLeaf c x)
+pub leaf_of : (c : Collation) (x y : ℕ) (xs : List ℕ) (normal : NfdText) (known : KnownPoint) (leaf : Bool) → OnTrue leaf (IsLeaf c x)
     → normal ≡ nfd_text c.properties xs → known.point ≡ y → y ≡ x
     → (known.leaf_count ≤ 3 → (leaf ≡ true) × (normal.points ≡ y ∷ []) × (take known.leaf_count known.elements ≡ elements_of c normal))
     → IsTrueLeaf c known

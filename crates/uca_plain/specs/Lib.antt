@@ -1,3 +1,3 @@
 pub mod Plain
 pub mod Leaves
-pub mod PlainPoints
+pub mod PointCache

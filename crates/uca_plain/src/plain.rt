@@ -1,12 +1,12 @@
-//! `PlainPoints`: the elements of code points that read alone, kept for one text after another.
+//! `PointCache`: the elements of code points that read alone, kept from text to text.
 
 ghost use Rattle.std.specs.Prelude.{◌≡◌, ◌<◌, ◌≤◌, ◌∷◌, [], true, length, take, IfOk, IfSome};
 ghost use Rattle.std.specs.Bool.{OnTrue, MatchBool};
 ghost use Rattle.uca_elements.specs.Collations.{Collation, collation_of, elements_of};
 ghost use Rattle.uca_plain.specs.Plain.{IsPlain, elements_alone};
 ghost use Rattle.uca_plain.specs.Leaves.{IsLeaf, leaf_elements};
-ghost use Rattle.uca_plain.specs.PlainPoints.{IsTrueEntry, IsTrueLeaf, HasTrueDecomposition, AreTrueEntries, counted_on};
-ghost use Rattle.uca_plain.specs.declared.plain.Known.{Known};
+ghost use Rattle.uca_plain.specs.PointCache.{IsTrueEntry, IsTrueLeaf, HasTrueDecomposition, AreTrueEntries, counted_on};
+ghost use Rattle.uca_plain.specs.declared.plain.KnownPoint.{KnownPoint};
 
 use std::alloc::{AllocError, Allocator, Global};
 use uca_elements::{Collator, Lookup};
@@ -43,8 +43,8 @@ const NO_ELEMENT: Element = Element {
     mark: false,
 };
 
-/// The entry of a code point that was not met: it is that of the last code point.
-const NOT_MET: Known = Known {
+/// The entry of a code point that is not known yet: it is that of the last code point.
+const UNKNOWN: KnownPoint = KnownPoint {
     point: '\u{10FFFF}',
     count: BOUND,
     len: LONGEST_DECOMPOSITION,
@@ -55,7 +55,7 @@ const NOT_MET: Known = Known {
 
 /// What is known of a code point.
 #[derive(Clone, Copy)]
-pub struct Known {
+pub struct KnownPoint {
     /// The code point.
     pub point: char,
     /// How many elements it has, if it is plain and has at most three. Otherwise 4.
@@ -70,9 +70,9 @@ pub struct Known {
     pub elements: [Element; 3],
 }
 
-impl Known {
+impl KnownPoint {
     // What a code point decomposes to. It has no elements to give.
-    fn bound<L: Lookup, T: Allocator>(collator: &Collator<L, T>, point: char) -> Known
+    fn bound<L: Lookup, T: Allocator>(collator: &Collator<L, T>, point: char) -> KnownPoint
         ensures point { result.point ≡ point }
         ensures count { result.count ≡ 4 }
         ensures leaf_count { result.leaf_count ≡ 4 }
@@ -82,11 +82,11 @@ impl Known {
         let mut room = [point; 3];
         let points = decomposition(point, Form::Nfd, &mut room);
         let first = points[0];
-        Known {
+        KnownPoint {
             point,
             len: points.len() as u8,
             starts: canonical_combining_class(first) == 0 && collator.data.class(first) == 0,
-            ..NOT_MET
+            ..UNKNOWN
         }
     }
 
@@ -150,24 +150,24 @@ impl Known {
     }
 }
 
-/// What is known of the code points that were met, in pages of 256 code points.
+/// What is known of the code points of the texts so far, in pages of 256 code points.
 #[derive(Drop)]
-pub struct PlainPoints<A: Allocator> {
+pub struct PointCache<A: Allocator> {
     // of each page, its position among the pages of entries; there are none before the first code point
     pages: Vec<u16, A>,
     /// The pages, one after another. What they say of a code point is true.
-    pub entries: Vec<Known, A>,
+    pub entries: Vec<KnownPoint, A>,
     // lends its memory to the texts of single code points
     text: Normal,
 }
 
-impl<A: Allocator + Copy> PlainPoints<A> {
+impl<A: Allocator + Copy> PointCache<A> {
     /// Nothing is known, and no memory is taken yet.
-    #[tactic(auto, unfolding(crate::specs::PlainPoints::AreTrueEntries))]
-    pub fn new(alloc: A, global: Global) -> PlainPoints<A>
+    #[tactic(auto, unfolding(crate::specs::PointCache::AreTrueEntries))]
+    pub fn new(alloc: A, global: Global) -> PointCache<A>
         ensures { (c : Collation) → AreTrueEntries c result.entries.items }
     {
-        PlainPoints {
+        PointCache {
             pages: Vec::new(alloc),
             entries: Vec::new(alloc),
             text: Normal::new(global),
@@ -175,13 +175,13 @@ impl<A: Allocator + Copy> PlainPoints<A> {
     }
 }
 
-impl<A: Allocator> PlainPoints<A> {
-    /// What is known of a code point, which is found out if it was not met.
+impl<A: Allocator> PointCache<A> {
+    /// What is known of a code point, which is found out if it is not known yet.
     pub fn get<L: Lookup, T: Allocator>(
         &mut self,
         collator: &Collator<L, T>,
         point: char,
-    ) -> Result<Known, AllocError>
+    ) -> Result<KnownPoint, AllocError>
         requires { AreTrueEntries (collation_of L.content collator.now) self.old.entries.items }
         ensures entries { AreTrueEntries (collation_of L.content collator.now) self.new.entries.items }
         ensures known { IfOk result (λ known. (known.point ≡ point) × IsTrueEntry (collation_of L.content collator.now) known) }
@@ -204,7 +204,7 @@ impl<A: Allocator> PlainPoints<A> {
         requires entries { AreTrueEntries (collation_of L.content collator.now) self.old.entries.items }
         requires few { count ≤ 64 }
         ensures entries { AreTrueEntries (collation_of L.content collator.now) self.new.entries.items }
-        ensures counted { IfOk result (λ more. (known : Known) × (known.point ≡ point)
+        ensures counted { IfOk result (λ more. (known : KnownPoint) × (known.point ≡ point)
             × HasTrueDecomposition (collation_of L.content collator.now) known × (more ≡ counted_on known count)) }
     {
         match self.find(point) {
@@ -213,14 +213,14 @@ impl<A: Allocator> PlainPoints<A> {
         }
     }
 
-    /// What is known of a code point, if it was met and has no elements to give.
+    /// What is known of a code point, if it is in the cache and has no elements to give.
     #[inline(always)]
-    pub fn find_bound(&self, point: char) -> Option<&Known> {
+    pub fn find_bound(&self, point: char) -> Option<&KnownPoint> {
         let known = self.find(point)?;
         if known.is_bound() { Some(known) } else { None }
     }
 
-    /// Whether a code point is a leaf, which is found out if it was not met. It is asked for speed alone.
+    /// Whether a code point is a leaf, which is found out if it is not known yet. It is asked for speed alone.
     #[inline]
     pub fn is_leaf<L: Lookup, T: Allocator>(
         &mut self,
@@ -236,7 +236,7 @@ impl<A: Allocator> PlainPoints<A> {
         }
     }
 
-    /// The elements of a leaf that was met.
+    /// The elements of a leaf that is in the cache.
     #[inline(always)]
     pub fn find_leaf(&self, point: char) -> Option<&[Element]>
         ensures leaf { (c : Collation) → AreTrueEntries c self.now.entries.items →
@@ -246,9 +246,9 @@ impl<A: Allocator> PlainPoints<A> {
         self.find(point)?.leaf_elements()
     }
 
-    /// What is known of a code point that was met.
+    /// What is known of a code point that is in the cache.
     #[inline(always)]
-    pub fn find(&self, point: char) -> Option<&Known>
+    pub fn find(&self, point: char) -> Option<&KnownPoint>
         ensures point { IfSome result (λ known. known.now.point ≡ point) }
         ensures entry { (c : Collation) → AreTrueEntries c self.now.entries.items → IfSome result (λ known. IsTrueEntry c known.now) }
         ensures decomposition { (c : Collation) → AreTrueEntries c self.now.entries.items →
@@ -257,12 +257,12 @@ impl<A: Allocator> PlainPoints<A> {
     {
         let code = u32::from(point) as usize;
         // the first page is that of the first code points
-        let place = if code < PAGE {
+        let slot = if code < PAGE {
             code
         } else {
             usize::from(*self.pages.get(code / PAGE)?) * PAGE + code % PAGE
         };
-        let known = self.entries.get(place)?;
+        let known = self.entries.get(slot)?;
         if known.point == point {
             Some(known)
         } else {
@@ -276,7 +276,7 @@ impl<A: Allocator> PlainPoints<A> {
         &mut self,
         collator: &Collator<L, T>,
         point: char,
-    ) -> Result<Known, AllocError>
+    ) -> Result<KnownPoint, AllocError>
         requires { AreTrueEntries (collation_of L.content collator.now) self.old.entries.items }
         ensures entries { AreTrueEntries (collation_of L.content collator.now) self.new.entries.items }
         ensures known { let c = collation_of L.content collator.now in
@@ -303,15 +303,15 @@ impl<A: Allocator> PlainPoints<A> {
     {
         if number < self.pages.len() && self.pages[number] == NO_PAGE {
             let begin = self.entries.len();
-            self.entries.resize(begin + PAGE, NOT_MET)?;
+            self.entries.resize(begin + PAGE, UNKNOWN)?;
             self.pages[number] = u16::try_from(begin / PAGE).unwrap_or(NO_PAGE);
         }
         Ok(())
     }
 
     // Keeps what is known of a code point in its page.
-    #[tactic(auto, unfolding(crate::specs::PlainPoints::AreTrueEntries))]
-    fn keep(&mut self, known: Known)
+    #[tactic(auto, unfolding(crate::specs::PointCache::AreTrueEntries))]
+    fn keep(&mut self, known: KnownPoint)
         ensures { (c : Collation) → AreTrueEntries c self.old.entries.items → IsTrueEntry c known × HasTrueDecomposition c known × IsTrueLeaf c known →
             AreTrueEntries c self.new.entries.items }
     {
@@ -319,9 +319,9 @@ impl<A: Allocator> PlainPoints<A> {
         let Some(page) = self.pages.get(code / PAGE) else {
             return;
         };
-        let place = usize::from(*page) * PAGE + code % PAGE;
-        if place < self.entries.len() {
-            self.entries[place] = known;
+        let slot = usize::from(*page) * PAGE + code % PAGE;
+        if slot < self.entries.len() {
+            self.entries[slot] = known;
         }
     }
 }
@@ -339,11 +339,11 @@ fn read_point<L: Lookup, T: Allocator>(
     collator: &Collator<L, T>,
     text: &mut Normal,
     point: char,
-) -> Result<Known, AllocError>
+) -> Result<KnownPoint, AllocError>
     ensures { let c = collation_of L.content collator.now in
         IfOk result (λ known. (known.point ≡ point) × IsTrueEntry c known × HasTrueDecomposition c known × IsTrueLeaf c known) }
 {
-    let bound = Known::bound(collator, point);
+    let bound = KnownPoint::bound(collator, point);
     let plain = is_plain(collator, point);
     let leaf = is_leaf(collator, point);
     if !plain && !leaf {
@@ -361,10 +361,10 @@ fn read_point<L: Lookup, T: Allocator>(
 fn read_entry<L: Lookup, T: Allocator>(
     collator: &Collator<L, T>,
     text: &Normal,
-    bound: Known,
+    bound: KnownPoint,
     plain: bool,
     leaf: bool,
-) -> Known
+) -> KnownPoint
     requires { bound.count ≡ 4 }
     ensures point { result.point ≡ bound.point }
     ensures len { result.len ≡ bound.len }
@@ -376,7 +376,7 @@ fn read_entry<L: Lookup, T: Allocator>(
 {
     let known = first_elements(collator, text, bound);
     let as_leaf = leaf && is_alone(text, bound.point);
-    Known {
+    KnownPoint {
         count: if plain { known.count } else { BOUND },
         leaf_count: if as_leaf { known.count } else { BOUND },
         ..known
@@ -417,15 +417,15 @@ fn is_plain<L: Lookup, T: Allocator>(collator: &Collator<L, T>, point: char) -> 
 fn first_elements<L: Lookup, T: Allocator>(
     collator: &Collator<L, T>,
     text: &Normal,
-    bound: Known,
-) -> Known
+    bound: KnownPoint,
+) -> KnownPoint
     requires { bound.count ≡ 4 }
     ensures point { result.point ≡ bound.point }
     ensures len { result.len ≡ bound.len }
     ensures starts { result.starts ≡ bound.starts }
     ensures elements { result.count ≤ 3 → take result.count result.elements ≡ elements_of (collation_of L.content collator.now) text.now }
 {
-    let mut known = Known { count: 0, ..bound };
+    let mut known = KnownPoint { count: 0, ..bound };
     for element in collator.elements(text) {
         if usize::from(known.count) >= ROOM {
             return bound;

@@ -8,7 +8,7 @@ ghost use Rattle.uca_order.specs.Levels;
 ghost use Rattle.uca_comparison.specs.Comparisons.{ComparesLevels};
 ghost use Rattle.uca_comparison.specs.Walks.{Stands, none_decided};
 ghost use Rattle.uca_plain.specs.Plain.{IsPlain, elements_alone};
-ghost use Rattle.uca_plain.specs.PlainPoints.{IsTrueEntry, AreTrueEntries};
+ghost use Rattle.uca_plain.specs.PointCache.{IsTrueEntry, AreTrueEntries};
 ghost use Rattle.uca_text_comparer.specs.Shared.{IsRest, HasCount, HasElements, ComparesTexts, ComparesAccepted};
 
 use crate::primaries::compare_primaries;
@@ -20,14 +20,14 @@ use uca_comparison::front::Front;
 use uca_comparison::stored::level_count;
 use uca_comparison::walk::{Walked, walk_fronts};
 use uca_elements::{Collator, Lookup};
-use uca_plain::plain::{Known, PlainPoints, SHORT_TEXT};
+use uca_plain::plain::{KnownPoint, PointCache, SHORT_TEXT};
 use uca_weights::{Depth, Element, Weighting};
 
 /// Memory for comparing texts of plain code points.
 #[derive(Drop)]
 pub(crate) struct PlainComparison<A: Allocator> {
-    // what is known of the code points that were met
-    points: PlainPoints<A>,
+    // what is known of the code points of the texts so far
+    points: PointCache<A>,
     // elements of the two texts
     left: Vec<Element, A>,
     right: Vec<Element, A>,
@@ -39,7 +39,7 @@ impl<A: Allocator + Copy> PlainComparison<A> {
         ensures { (c : Collation) → AreTrueEntries c result.points.entries.items }
     {
         PlainComparison {
-            points: PlainPoints::new(alloc, global),
+            points: PointCache::new(alloc, global),
             left: Vec::new(alloc),
             right: Vec::new(alloc),
         }
@@ -136,9 +136,9 @@ impl<A: Allocator> PlainComparison<A> {
     }
 }
 
-// How two texts compare if they are the same, and their code points were met and are plain.
+// How two texts compare if they are the same, and their code points are in the cache and plain.
 fn compare_same<A: Allocator>(
-    points: &PlainPoints<A>,
+    points: &PointCache<A>,
     weighting: Weighting,
     left: &str,
     right: &str,
@@ -159,8 +159,8 @@ fn compare_same<A: Allocator>(
     })
 }
 
-// How many elements a text has, if its code points were met and are plain.
-fn count_elements<A: Allocator>(points: &PlainPoints<A>, text: &str) -> Option<u64>
+// How many elements a text has, if its code points are in the cache and plain.
+fn count_elements<A: Allocator>(points: &PointCache<A>, text: &str) -> Option<u64>
     ensures { (c : Collation) → AreTrueEntries c points.now.entries.items → IfSome result (HasCount c (chars text.now)) }
 {
     let mut count = 0_u64;
@@ -175,7 +175,7 @@ fn count_elements<A: Allocator>(points: &PlainPoints<A>, text: &str) -> Option<u
 // Replaces the elements by those of a text, and returns whether its code points are plain.
 fn read_plain<L: Lookup, T: Allocator, A: Allocator>(
     collator: &Collator<L, T>,
-    points: &mut PlainPoints<A>,
+    points: &mut PointCache<A>,
     elements: &mut Vec<Element, A>,
     text: &str,
 ) -> Result<bool, AllocError>
@@ -196,7 +196,7 @@ fn read_plain<L: Lookup, T: Allocator, A: Allocator>(
 // Adds the elements of a code point, and returns whether it is plain.
 fn read_next<L: Lookup, T: Allocator, A: Allocator>(
     collator: &Collator<L, T>,
-    points: &mut PlainPoints<A>,
+    points: &mut PointCache<A>,
     elements: &mut Vec<Element, A>,
     point: char,
 ) -> Result<bool, AllocError>
@@ -218,7 +218,7 @@ fn read_next<L: Lookup, T: Allocator, A: Allocator>(
 #[inline(always)]
 fn push_elements<A: Allocator>(
     elements: &mut Vec<Element, A>,
-    known: &Known,
+    known: &KnownPoint,
 ) -> Result<bool, AllocError>
     ensures { (c : Collation) → IsTrueEntry c known.now → IfOk result (λ plain. OnTrue plain (
         IsPlain c known.now.point × (elements.new.items ≡ elements.old.items ++ elements_alone c known.now.point))) }

@@ -8,7 +8,7 @@ ghost use Rattle.uca_comparison.specs.Fronts;
 ghost use Rattle.uca_comparison.specs.Fronts.{weight_here};
 ghost use Rattle.uca_comparison.specs.Comparisons.{ComparesLevels};
 ghost use Rattle.uca_comparison.specs.Walks.{Stands, none_decided};
-ghost use Rattle.uca_plain.specs.PlainPoints.{AreTrueEntries};
+ghost use Rattle.uca_plain.specs.PointCache.{AreTrueEntries};
 ghost use Rattle.uca_text_comparer.specs.Shared.{IsRest, IsFirst, BeginsPlain, HasFirst, ComparesTexts};
 ghost use Rattle.uca_text_comparer.specs.Primaries;
 ghost use Rattle.uca_text_comparer.specs.Primaries.{HaveNone, IsHeaded, GoTogether};
@@ -16,7 +16,7 @@ ghost use Rattle.uca_text_comparer.specs.Primaries.{HaveNone, IsHeaded, GoTogeth
 use crate::shared::Rest;
 use std::alloc::Allocator;
 use uca_comparison::walk::{LevelStep, Walked, look_at};
-use uca_plain::plain::PlainPoints;
+use uca_plain::plain::PointCache;
 use uca_plain::points::{split_first, split_plain};
 use uca_weights::{Element, Weighting};
 
@@ -33,9 +33,9 @@ struct Pair<'t> {
 }
 
 /// How two texts compare if they differ at level 1 soon after what they share. There is no result if that takes a code point
-/// that was not met or is not plain, or one that has more than one weight at level 1.
+/// that is not in the cache or not plain, or one that has more than one weight at level 1.
 pub(crate) fn compare_primaries<A: Allocator>(
-    points: &PlainPoints<A>,
+    points: &PointCache<A>,
     weighting: Weighting,
     rest: &Rest,
 ) -> Option<Walked>
@@ -58,7 +58,7 @@ pub(crate) fn compare_primaries<A: Allocator>(
 // How two texts compare if they differ at level 1 after some code points that have the same weight there.
 #[inline(never)]
 fn compare_later<A: Allocator>(
-    points: &PlainPoints<A>,
+    points: &PointCache<A>,
     weighting: Weighting,
     begin: &Pair,
 ) -> Option<Walked>
@@ -72,7 +72,7 @@ fn compare_later<A: Allocator>(
 
 // What is left after the code points that have the same weight at level 1, one of the left text and one of the right.
 fn skip_equal<'t, A: Allocator>(
-    points: &PlainPoints<A>,
+    points: &PointCache<A>,
     weighting: Weighting,
     begin: &Pair<'t>,
 ) -> Pair<'t>
@@ -87,9 +87,9 @@ fn skip_equal<'t, A: Allocator>(
     pair
 }
 
-// What is left after a code point of each text, if these were met, are plain, and have the same weight at level 1.
+// What is left after a code point of each text, if these are in the cache, are plain, and have the same weight at level 1.
 fn next_pair<'t, A: Allocator>(
-    points: &PlainPoints<A>,
+    points: &PointCache<A>,
     weighting: Weighting,
     pair: &Pair<'t>,
 ) -> Option<Pair<'t>>
@@ -155,7 +155,7 @@ fn primary_of(weighting: Weighting, element: Element) -> u16
 // How two texts compare if the first elements that are left differ at level 1.
 #[inline(always)]
 fn compare_first<A: Allocator>(
-    points: &PlainPoints<A>,
+    points: &PointCache<A>,
     weighting: Weighting,
     pair: &Pair,
 ) -> Option<Walked>
@@ -169,9 +169,9 @@ fn compare_first<A: Allocator>(
 }
 
 // The first element of a text, or none if it has no code point. There is no result if the text has more than 32 bytes,
-// if one of its first two code points was not met or is not plain, or if the first has no element.
+// if one of its first two code points is not in the cache or not plain, or if the first has no element.
 #[inline(always)]
-fn first_element<A: Allocator>(points: &PlainPoints<A>, text: &str) -> Option<Option<Element>>
+fn first_element<A: Allocator>(points: &PointCache<A>, text: &str) -> Option<Option<Element>>
     ensures { (c : Collation) → AreTrueEntries c points.now.entries.items → IfSome result (HasFirst c (chars text.now)) }
 {
     if text.len() > SHORT_REST {
@@ -191,9 +191,9 @@ fn first_element<A: Allocator>(points: &PlainPoints<A>, text: &str) -> Option<Op
     }
 }
 
-// Whether a text has no code point or begins with a plain one that was met.
+// Whether a text has no code point or begins with a plain one of the cache.
 #[inline(always)]
-fn begins_plain<A: Allocator>(points: &PlainPoints<A>, text: &str) -> bool
+fn begins_plain<A: Allocator>(points: &PointCache<A>, text: &str) -> bool
     ensures { (c : Collation) → AreTrueEntries c points.now.entries.items → OnTrue result (BeginsPlain c (chars text.now)) }
 {
     let Some((point, _)) = split_first(text) else {

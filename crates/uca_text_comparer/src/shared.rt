@@ -2,13 +2,13 @@
 
 ghost use Rattle.std.specs.Prelude.{◌≡◌, ◌≤◌, ◌∷◌, chars, IfOk, IfSome};
 ghost use Rattle.uca_elements.specs.Collations.{Collation, collation_of};
-ghost use Rattle.uca_plain.specs.PlainPoints.{IsTrueEntry, AreTrueEntries};
+ghost use Rattle.uca_plain.specs.PointCache.{IsTrueEntry, AreTrueEntries};
 ghost use Rattle.uca_text_comparer.specs.Shared.{IsRest, flag_after};
 
 use std::alloc::{AllocError, Allocator};
 use uca_elements::{Collator, Lookup};
 use uca_order::weighting::is_after_variable;
-use uca_plain::plain::{Known, PlainPoints};
+use uca_plain::plain::{KnownPoint, PointCache};
 use uca_plain::points::split_first;
 use uca_weights::Element;
 
@@ -37,13 +37,13 @@ fn split_shared<'t>(left: &'t str, right: &'t str) -> Option<(char, &'t str, &'t
     }
 }
 
-// What is known of the code point with which two texts begin, if it was met and is plain, and what follows it in each.
+// What is known of the code point with which two texts begin, if it is in the cache and is plain, and what follows it in each.
 #[inline(always)]
-fn split_met<'p, 't, A: Allocator>(
-    points: &'p PlainPoints<A>,
+fn split_cached<'p, 't, A: Allocator>(
+    points: &'p PointCache<A>,
     left: &'t str,
     right: &'t str,
-) -> Option<(&'p Known, &'t str, &'t str)>
+) -> Option<(&'p KnownPoint, &'t str, &'t str)>
     ensures left { IfSome result (λ parts. chars left.now ≡ parts.0.now.point ∷ chars parts.1.now) }
     ensures right { IfSome result (λ parts. chars right.now ≡ parts.0.now.point ∷ chars parts.2.now) }
     ensures few { IfSome result (λ parts. parts.0.now.count ≤ 3) }
@@ -69,15 +69,15 @@ fn flag_of(after_variable: bool, elements: &[Element]) -> bool
     flag
 }
 
-// What follows the code points with which both texts begin, as long as they were met and are plain.
-fn skip_met<'t, A: Allocator>(points: &PlainPoints<A>, left: &'t str, right: &'t str) -> Rest<'t>
+// What follows the code points with which both texts begin, as long as they are in the cache and plain.
+fn skip_cached<'t, A: Allocator>(points: &PointCache<A>, left: &'t str, right: &'t str) -> Rest<'t>
     ensures { (c : Collation) → AreTrueEntries c points.now.entries.items →
         IsRest c (chars left.now) (chars right.now) (chars result.left.now) (chars result.right.now) result.after_variable result.passed }
 {
     let (mut left, mut right) = (left, right);
     let mut after_variable = false;
     let mut passed = 0_u64;
-    while let Some((known, left_rest, right_rest)) = split_met(points, left, right) {
+    while let Some((known, left_rest, right_rest)) = split_cached(points, left, right) {
         let elements = known.all_elements();
         after_variable = flag_of(after_variable, elements);
         passed = passed.saturating_add(elements.len() as u64);
@@ -95,7 +95,7 @@ fn skip_met<'t, A: Allocator>(points: &PlainPoints<A>, left: &'t str, right: &'t
 /// What follows the code points with which both texts begin. Where one of those is not plain, there is no result.
 pub(crate) fn skip_shared<'t, L: Lookup, T: Allocator, A: Allocator>(
     collator: &Collator<L, T>,
-    points: &mut PlainPoints<A>,
+    points: &mut PointCache<A>,
     left: &'t str,
     right: &'t str,
 ) -> Result<Option<Rest<'t>>, AllocError>
@@ -104,10 +104,10 @@ pub(crate) fn skip_shared<'t, L: Lookup, T: Allocator, A: Allocator>(
     ensures rest { let c = collation_of L.content collator.now in IfOk result (λ found. IfSome found (λ rest.
         IsRest c (chars left.now) (chars right.now) (chars rest.left.now) (chars rest.right.now) rest.after_variable rest.passed)) }
 {
-    let met = skip_met(points, left, right);
-    let (mut left, mut right) = (met.left, met.right);
-    let mut after_variable = met.after_variable;
-    let mut passed = met.passed;
+    let cached = skip_cached(points, left, right);
+    let (mut left, mut right) = (cached.left, cached.right);
+    let mut after_variable = cached.after_variable;
+    let mut passed = cached.passed;
     while let Some((point, left_rest, right_rest)) = split_shared(left, right) {
         let known = points.get(collator, point)?;
         let Some(elements) = known.elements() else {

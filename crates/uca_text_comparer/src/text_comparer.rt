@@ -37,7 +37,7 @@ pub struct TextComparer<'a, L: Lookup, T: Allocator = Global, A: Allocator = Glo
 
 impl<'a, L: Lookup, T: Allocator, A: Allocator> Model for TextComparer<'a, L, T, A> {
     ghost use Rattle.uca_elements.specs.Collations.{collation_of};
-    ghost use Rattle.uca_plain.specs.PlainPoints.{AreTrueEntries};
+    ghost use Rattle.uca_plain.specs.PointCache.{AreTrueEntries};
     ghost use Rattle.uca_text_comparer.specs.Comparers.{ComparerState};
 
     ghost Value = { ComparerState L };

@@ -3,7 +3,7 @@ use denote.Shadow.{shadow}
 use Rattle.std.proofs.Common.{◌≤◌, length}
 use Rattle.std.specs.Str.{chars}
 use Rattle.uca_elements.specs.Collations.{collation_of}
-use Rattle.uca_plain.specs.PlainPoints.{AreTrueEntries}
+use Rattle.uca_plain.specs.PointCache.{AreTrueEntries}
 use Rattle.uca_key_writer.specs.Beginnings.{IsJudgedTo}
 use Rattle.uca_key_writer.proofs.beginnings.count_runs.Given as goal
 

@@ -2,7 +2,7 @@ use Rattle.std.proofs.Common.{[], rules}
 use Rattle.uca_elements.specs.Collations.{collation_of}
 use Rattle.uca_plain.proofs.Results.{no_result}
 use Rattle.uca_key_writer.proofs.PieceSteps.{begin_text}
-use Rattle.uca_key_writer.proofs.RunSteps.{piece_goes_on, piece_waits, text_ends, read_on, less_to_read}
+use Rattle.uca_key_writer.proofs.StretchSteps.{piece_goes_on, piece_waits, text_ends, read_on, less_to_read}
 use Rattle.uca_key_writer.proofs.key_buffer.push_pieces.Goals as goal
 
 pub loop-point-init : goal.loop-point-init

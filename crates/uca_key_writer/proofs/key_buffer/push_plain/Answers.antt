@@ -2,7 +2,7 @@ use Rattle.std.proofs.Common.{[], ◌∷◌, ◌++◌, refl, subst}
 use Rattle.std.specs.Bool.{OnTrue}
 use Rattle.uca_elements.specs.Collations.{collation_of}
 use Rattle.uca_key_writer.specs.Pieces.{HasRead}
-use Rattle.uca_key_writer.specs.Runs.{ReadsUpTo}
+use Rattle.uca_key_writer.specs.Stretches.{ReadsUpTo}
 use Rattle.uca_key_writer.proofs.key_buffer.push_plain.Goals as goal
 
 pub returns-in-Ok-true : goal.returns-in-Ok-true
@@ -19,5 +19,5 @@ returns-in-Ok-true g c = record {
         few = c.requires.few;
         entry = c.requires.entry;
       } in
-      c.run_on.ensures collation more c.end.ensures.entries went;
+      c.go_on_plain.ensures collation more c.end.ensures.entries went;
 }

@@ -1,5 +1,5 @@
 use Rattle.uca_elements.specs.Collations.{collation_of}
-use Rattle.uca_plain.specs.PlainPoints.{AreTrueEntries}
+use Rattle.uca_plain.specs.PointCache.{AreTrueEntries}
 use Rattle.uca_key_writer.proofs.pieces.are_leaves.Given as goal
 
 abbrev pub invariant-loop-point : goal.invariant-loop-point

@@ -1,4 +1,4 @@
--- What is known of the first code point, where it was met and is plain.
+-- What is known of the first code point, where it is in the cache and is plain.
 use Rattle.std.proofs.Common.{◌∷◌, ap, sym, ◌∙◌}
 use Rattle.std.specs.Str.{chars}
 use Rattle.uca_plain.proofs.Results.{no_value}

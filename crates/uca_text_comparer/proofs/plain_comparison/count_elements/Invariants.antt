@@ -1,5 +1,5 @@
 use Rattle.uca_elements.specs.Collations.{Collation}
-use Rattle.uca_plain.specs.PlainPoints.{AreTrueEntries}
+use Rattle.uca_plain.specs.PointCache.{AreTrueEntries}
 use Rattle.uca_text_comparer.specs.Shared.{HasCount}
 use Rattle.uca_text_comparer.proofs.plain_comparison.count_elements.Given as goal
 

@@ -2,7 +2,7 @@ use Rattle.std.proofs.Common.{◌≡◌}
 use Rattle.std.specs.List.{flat_map}
 use Rattle.uca_elements.specs.Collations.{collation_of}
 use Rattle.uca_plain.specs.Plain.{ArePlain, elements_alone}
-use Rattle.uca_plain.specs.PlainPoints.{AreTrueEntries}
+use Rattle.uca_plain.specs.PointCache.{AreTrueEntries}
 use Rattle.uca_text_comparer.proofs.plain_comparison.read_plain.Given as goal
 
 -- the code points so far are plain, and have given their elements

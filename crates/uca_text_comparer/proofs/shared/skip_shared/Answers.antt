@@ -10,7 +10,7 @@ loop-point-init g c = record {
   entries = c.requires;
   left_text = search rules;
   right_text = search rules;
-  rest = c.skip_met-met.ensures (collation_of g.L.Lookup.content c.args.collator.now) c.requires;
+  rest = c.skip_cached-cached.ensures (collation_of g.L.Lookup.content c.args.collator.now) c.requires;
 }
 
 pub loop-point-preserved : goal.loop-point-preserved

@@ -3,7 +3,7 @@ use denote.Shadow.{shadow}
 use Rattle.std.proofs.Common.{length}
 use Rattle.std.specs.Str.{chars}
 use Rattle.uca_elements.specs.Collations.{collation_of}
-use Rattle.uca_plain.specs.PlainPoints.{AreTrueEntries}
+use Rattle.uca_plain.specs.PointCache.{AreTrueEntries}
 use Rattle.uca_text_comparer.specs.Shared.{IsRest}
 use Rattle.uca_text_comparer.proofs.shared.skip_shared.Given as goal
 

@@ -6,7 +6,7 @@ use Rattle.uca_elements.specs.Collations.{collation_of, elements_of}
 use Rattle.uca_key_writer.specs.Pieces.{points_by, IsTrueAlone}
 use Rattle.uca_plain.proofs.PlainTexts.{alone_no_long_run}
 use Rattle.uca_key_writer.proofs.PieceSteps.{on_any, end_piece}
-use Rattle.uca_key_writer.proofs.RunSteps.{no_chars, piece_is_empty}
+use Rattle.uca_key_writer.proofs.StretchSteps.{no_chars, piece_is_empty}
 use Rattle.uca_key_writer.proofs.pieces.Piece.end.Goals as goal
 
 pub returns-in-Some-clause-read : goal.returns-in-Some-clause-read

@@ -9,7 +9,7 @@ use Rattle.uca_text.specs.Faults.{IsCause}
 use Rattle.uca_elements.specs.Collations.{Collation}
 use Rattle.uca_match.specs.NumberedKeys.{rows_at}
 use Rattle.uca_order.specs.Depths.{read_text, key_at}
-use Rattle.uca_plain.specs.PlainPoints.{AreTrueEntries}
+use Rattle.uca_plain.specs.PointCache.{AreTrueEntries}
 use Rattle.uca_key_writer.specs.Writers.{WriterState, collation_by}
 use Rattle.uca_key_writer.proofs.WriterSteps.{key_by}
 use Rattle.uca_owned.proofs.owned_key_writer.OwnedKeyWriter.write.Goals as goal
