@@ -5,8 +5,8 @@ ghost use Rattle.uca_changes.specs.declared.faults.ChangeFault.{ChangeFault};
 
 use crate::ChangeCondition;
 use std::alloc::AllocError;
-use std::error::Error;
 use std::fmt;
+use thiserror::Error;
 
 /// Where a condition is not met. Its text: `old row 3`, `new row 3`, `code point 00E9`, or nothing.
 #[derive(Clone, Copy, Debug, PartialEq, Eq)]
@@ -33,7 +33,7 @@ impl fmt::Display for ChangePlace {
 }
 
 /// An audit rejects a change, or it ran out of memory. Its text: `RowChanged old row 3`, or `SettingChanged`.
-#[derive(Clone, Copy, Debug, PartialEq, Eq)]
+#[derive(Clone, Copy, Debug, PartialEq, Eq, Error)]
 pub enum ChangeFault {
     /// The first condition that is not met, and the first position where it is not.
     NotMet(ChangeCondition, ChangePlace),
@@ -50,8 +50,6 @@ impl fmt::Display for ChangeFault {
         }
     }
 }
-
-impl Error for ChangeFault {}
 
 impl From<AllocError> for ChangeFault {
     ghost from_gives = { λ _ fault. fault ≡ ChangeFault.Memory };

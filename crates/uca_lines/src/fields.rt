@@ -12,11 +12,11 @@ mod ranges;
 pub use cuts::{cut_at, cut_word, halves, line_text, skip_blanks, trim};
 pub use numbers::{class_number, code_point, four_digits, hexadecimal_digit, six_digits, weight};
 pub use ranges::code_point_range;
-use std::error::Error;
 use std::fmt;
+use thiserror::Error;
 
 /// Why a text is not a range of code points.
-#[derive(Debug, Drop)]
+#[derive(Debug, Drop, Error)]
 pub enum RangeSyntax {
     /// It has no `..`.
     NoDots,
@@ -43,5 +43,3 @@ impl fmt::Display for RangeSyntax {
         f.write_str(self.text())
     }
 }
-
-impl Error for RangeSyntax {}

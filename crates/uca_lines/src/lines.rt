@@ -10,10 +10,10 @@ ghost use Rattle.uca_lines.specs.Taking.{IsTakeFault};
 
 use memchr::memchr;
 use std::alloc::Allocator;
-use std::error::Error;
 use std::fmt;
 use std::io::Read;
 use std::marker::Model;
+use thiserror::Error;
 use uca_weights::Source;
 
 /// How many lines may be read from one source.
@@ -34,7 +34,7 @@ pub enum NextLine {
 }
 
 /// Why no line was read.
-#[derive(Debug, Drop)]
+#[derive(Debug, Drop, Error)]
 pub enum LineFault {
     /// The line, without its LF, has more bytes than it may have.
     TooLong,
@@ -68,8 +68,6 @@ impl fmt::Display for LineFault {
         f.write_str(self.text())
     }
 }
-
-impl Error for LineFault {}
 
 /// Reads the lines of one source: each ends in an LF, and bytes after the last LF are a line too.
 #[derive(Drop)]

@@ -12,9 +12,8 @@ ghost use Rattle.uca_values.specs.Adding.{AddsClass, AddsCore, AddsOther, Refuse
 
 use crate::{ClassRange, CodePointRange};
 use std::alloc::{AllocError, Allocator, Global};
-use std::error::Error;
-use std::fmt;
 use std::marker::Model;
+use thiserror::Error;
 
 /// What a data file says: the combining class of each code point, and which code points are core Han
 /// or other unified ideographs (UTS #10, section 10.1.3). The classes of the code points below U+2000 are also
@@ -49,30 +48,21 @@ const MOST_RANGES: usize = 4096;
 const LOW_CLASSES: usize = 0x2000;
 
 /// Why a range is not added. Of several causes the first of this list is returned.
-#[derive(Clone, Copy, Debug, PartialEq, Eq)]
+#[derive(Clone, Copy, Debug, PartialEq, Eq, Error)]
 pub enum RangeFault {
     /// Its last code point is less than its first.
+    #[error("the range is empty")]
     Empty,
     /// One of its code points has that property already, or for a Han range either Han property.
+    #[error("the range overlaps another")]
     Overlap,
     /// There are 4,096 ranges of its kind.
+    #[error("there are too many ranges")]
     Limit,
     /// An allocation failed.
+    #[error("out of memory")]
     Memory,
 }
-
-impl fmt::Display for RangeFault {
-    fn fmt<W: fmt::Write>(&self, f: &mut fmt::Formatter<W>) -> fmt::Result {
-        f.write_str(match self {
-            RangeFault::Empty => "the range is empty",
-            RangeFault::Overlap => "the range overlaps another",
-            RangeFault::Limit => "there are too many ranges",
-            RangeFault::Memory => "out of memory",
-        })
-    }
-}
-
-impl Error for RangeFault {}
 
 impl<A: Allocator> Data<A> {
     /// No code point has a class or is Han. It takes no memory.

@@ -5,8 +5,8 @@ ghost use Rattle.uca_values.specs.declared.faults.FaultKind.{FaultKind};
 ghost use Rattle.uca_values.specs.FaultText.{kind_text, table_fault_text};
 
 use std::alloc::{AllocError, AllocFailed};
-use std::error::Error;
 use std::fmt;
+use thiserror::Error;
 use uca_weights::Message;
 
 /// Why a table file or a data file is rejected.
@@ -61,7 +61,7 @@ impl fmt::Display for FaultKind {
 
 /// A table file or a data file is rejected: the line, and why. A file that ends too early has the number
 /// of its lines plus one.
-#[derive(Clone, Copy, Debug, PartialEq, Eq)]
+#[derive(Clone, Copy, Debug, PartialEq, Eq, Error)]
 pub struct TableFault {
     /// The line, counted from 1.
     pub line: u32,
@@ -105,5 +105,3 @@ impl fmt::Display for TableFault {
         f.write_str(self.message().as_str())
     }
 }
-
-impl Error for TableFault {}
