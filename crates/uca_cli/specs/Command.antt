@@ -34,11 +34,11 @@ use Rattle.uca_run_parts.specs.declared.faults.Role.TheVariants as roles
 use Rattle.uca_run_parts.specs.declared.faults.RunFault.{RunFault}
 use Rattle.uca_run_parts.specs.declared.faults.RunFault.TheVariants.{CertificateWrite, Memory, Open, SameAs, Words, Write}
 use Rattle.uca_run_parts.specs.CheckRun.{Checks}
-use Rattle.uca_runs.specs.CompareRun.{Compares, comparing}
-use Rattle.uca_runs.specs.HeadedRun.{PrintsHeadedKeys, PrintsHeadedLines}
-use Rattle.uca_runs.specs.KeysRun.{PrintsKeys, PrintsKeyedLines}
+use Rattle.uca_key_runs.specs.CompareRun.{Compares, comparing}
+use Rattle.uca_key_runs.specs.HeadedRun.{PrintsHeadedKeys, PrintsHeadedLines}
+use Rattle.uca_key_runs.specs.KeysRun.{PrintsKeys, PrintsKeyedLines}
 use Rattle.uca_run_parts.specs.AffectedRun.{PrintsAffected}
-use Rattle.uca_sort_runs.specs.SortRun.{SortsLines}
+use Rattle.uca_key_runs.specs.SortRun.{SortsLines}
 use Rattle.uca_change_runs.specs.ChangesRun.{FindsChanges}
 use Rattle.uca_change_runs.specs.AuditRun.{AuditsChanges}
 use Rattle.uca_change_runs.specs.AffectedRun.{PrintsAffectedByChanges}

@@ -14,14 +14,15 @@ use std::io::{Read, Write};
 use uca_certificates::Certificate;
 use uca_change_runs::run_affected_by_changes;
 use uca_fingerprint_runs::run_fingerprint;
+use uca_key_runs::{
+    run_compare, run_headed_keys, run_headed_lines, run_keyed_lines, run_keys, run_sort,
+};
 use uca_named_files::Opens;
 use uca_named_files::keeping::{find_certificate, keep_certificate};
 use uca_named_files::opening::{open_audit_files, open_files, open_three, open_two};
 use uca_reports::report;
 use uca_run_parts::faults::{Role, RunFault};
 use uca_run_parts::{run_affected, run_check};
-use uca_runs::{run_compare, run_headed_keys, run_headed_lines, run_keyed_lines, run_keys};
-use uca_sort_runs::run_sort;
 use uca_tailor_runs::{run_audit, run_tailor};
 use uca_values::Table;
 use uca_weights::{Sink, Source};

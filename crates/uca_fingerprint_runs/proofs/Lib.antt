@@ -1,2 +1,3 @@
+pub mod SummedLines
 pub mod SummedMeanings
 pub mod Writing

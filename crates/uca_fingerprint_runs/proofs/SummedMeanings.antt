@@ -2,7 +2,7 @@
 use Rattle.std.proofs.Common.{◌≡◌, ◌∙◌, List, ℕ, Option, Some, None, sym}
 use Rattle.std.specs.Prelude.{IfSome}
 use Rattle.sha2.specs.Sha256.{sha256}
-use Rattle.uca_summed_files.specs.Sums.{MeansSummed}
+use Rattle.uca_fingerprint_runs.specs.Sums.{MeansSummed}
 
 module _ {V : Type 0} (Means : List ℕ → V → Type 0) where
   pub means_summed : (known : Option (List ℕ)) (value : V) (sum : List ℕ) → IfSome known (λ bytes. Means bytes value)

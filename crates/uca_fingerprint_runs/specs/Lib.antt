@@ -1,2 +1,3 @@
 pub mod FingerprintRun
 pub mod SummedFiles
+pub mod Sums

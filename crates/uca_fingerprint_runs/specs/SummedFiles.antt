@@ -5,7 +5,7 @@ use Rattle.uca_table.specs.DataSoFar as data_files
 use Rattle.uca_table.specs.TableLines as tables
 use Rattle.uca_run_parts.specs.declared.faults.Role.TheVariants as roles
 use Rattle.uca_run_parts.specs.Files.{OfLines, Reading, Done, Then}
-use Rattle.uca_summed_files.specs.Sums.{MeansSummed}
+use Rattle.uca_fingerprint_runs.specs.Sums.{MeansSummed}
 
 -- what both files mean, and the SHA-256 of the bytes of each
 pub record SummedContent : Type 0 where

@@ -7,10 +7,13 @@ ghost use Rattle.uca_run_parts.specs.Files.{table_and_data_roles};
 ghost use Rattle.uca_run_parts.specs.ReadFiles.{ReadsFiles};
 ghost use Rattle.uca_fingerprint_runs.specs.SummedFiles.{summed_data, summed_files, summed_table, summed_with};
 
+mod reading;
+mod summed;
+
+use reading::{read_summed_data, read_summed_table};
 use std::alloc::{Allocator, Global};
 use std::io::Read;
 use uca_run_parts::{FileFault, Role, RunFault};
-use uca_summed_files::{read_summed_data, read_summed_table};
 use uca_values::{Data, PackedTable};
 use uca_weights::Source;
 

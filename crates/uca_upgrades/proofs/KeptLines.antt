@@ -19,8 +19,8 @@ use Rattle.uca_run_parts.specs.Print.{keyed_line_of}
 use Rattle.uca_rekey.specs.Laws.{AreBytes, LinesMove}
 use Rattle.uca_rekey.specs.RekeyedLines.{rekeyed}
 use Rattle.uca_rekey.proofs.MovedLines.{lines_move}
-use Rattle.uca_key_lines.specs.Keys.{KeySettings, collation, key_settings, keyed_line, printed_key}
-use Rattle.uca_runs.proofs.NormalLines.{normal_line}
+use Rattle.uca_key_runs.specs.Keys.{KeySettings, collation, key_settings, keyed_line, printed_key}
+use Rattle.uca_key_runs.proofs.NormalLines.{normal_line}
 use Rattle.uca_upgrades.specs.Upgrades.{Upgrade, AreUnaffectedLines, IsRekeyed, IsStoredLineKey, IsUnaffectedLine, KeepsOrder, new_key, new_settings, new_weighting, old_key, old_settings, stored_weighting}
 use Rattle.uca_upgrades.proofs.KeyBytes.{text_key_is_bytes}
 use Rattle.uca_upgrades.proofs.Outputs.{keyed_body, keyed_body_lacks, keyed_is, lines_lack, output_rekeyed, printed_body, printed_body_lacks, printed_is}

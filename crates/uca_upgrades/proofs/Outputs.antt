@@ -15,7 +15,7 @@ use Rattle.uca_run_parts.specs.Print.{byte_digits, groups, printed_after, printe
 use Rattle.uca_run_parts.proofs.LineCuts.{lines_of-ended}
 use Rattle.uca_rekey.specs.RekeyRun.{AreRekeyed}
 use Rattle.uca_rekey.specs.RekeyedLines.{rekeyed_by}
-use Rattle.uca_key_lines.specs.Keys.{KeySettings, keyed_line, line_key, printed_key}
+use Rattle.uca_key_runs.specs.Keys.{KeySettings, keyed_line, line_key, printed_key}
 
 -- ---- No line has an LF
 

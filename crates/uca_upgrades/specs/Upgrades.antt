@@ -23,8 +23,8 @@ use Rattle.uca_run_parts.specs.Print.{keyed_line_of}
 use Rattle.uca_change_runs.specs.AffectedRun.{is_affected_by, listed_in}
 use Rattle.uca_rekey.specs.RekeyedLines.{rekeyed}
 use Rattle.uca_rekey.specs.RekeyRun.{AreRekeyed}
-use Rattle.uca_key_lines.specs.Keys.{KeySettings, collation, key_settings, keyed_line, line_key, printed_key}
-use Rattle.uca_runs.specs.Laws.{lines_compared}
+use Rattle.uca_key_runs.specs.Keys.{KeySettings, collation, key_settings, keyed_line, line_key, printed_key}
+use Rattle.uca_key_runs.specs.Laws.{lines_compared}
 
 -- ---- Upgrades
 

@@ -9,7 +9,7 @@ use Rattle.uca_run_parts.specs.declared.faults.Role.TheVariants as roles
 use Rattle.uca_run_parts.specs.Files.{OfLines}
 use Rattle.uca_run_parts.proofs.FilesLemmas.{read_of_role}
 use Rattle.uca_run_parts.proofs.ReadFilesLemmas.{file_read, file_rejected}
-use Rattle.uca_summed_files.specs.Sums.{MeansSummed}
+use Rattle.uca_fingerprint_runs.specs.Sums.{MeansSummed}
 use Rattle.uca_fingerprint_runs.proofs.SummedMeanings.{means_summed, only_summed, whatever_summed}
 use Rattle.uca_fingerprint_runs.proofs.summed_files.read_data.Goals as goal
 

@@ -1,2 +1,0 @@
-pub mod KeySettings
-pub mod Rows

@@ -1,0 +1,17 @@
+pub mod KeySettings
+pub mod Rows
+pub mod KeyLines
+pub mod LineLaws
+pub mod NormalLines
+pub mod UntouchedLines
+pub mod OneOrder
+pub mod KeyRuns
+pub mod Comparing
+pub mod HeadedRuns
+pub mod KeptText
+pub mod KeyOrdering
+pub mod Prefixes
+pub mod KeyOrders
+pub mod Groups
+pub mod StoredLines
+pub mod GroupKeys

@@ -1,0 +1,46 @@
+-- What went out of the header and of the lines.
+use Rattle.std.proofs.Common.{◌∙◌, Err, IfSome, ap, length, subst, sym}
+use Rattle.uca_run_parts.specs.EachLine.{ended_before_input}
+use Rattle.uca_run_parts.specs.Runs.{is_input_read}
+use Rattle.uca_run_parts.proofs.Running.{as_before}
+use Rattle.uca_key_runs.specs.Keys.{key_settings_of}
+use Rattle.uca_key_runs.specs.HeadedRun.{WritesHeaded}
+use Rattle.uca_key_runs.specs.KeyForms.{line_as}
+use Rattle.uca_key_runs.proofs.HeadedRuns.{headed, input_after, out_after, part_of_header, same_before_input}
+use Rattle.uca_key_runs.proofs.headed.print_headed.Goals as goal
+
+pub returns-in-Ok-clause-writes : goal.returns-in-Ok-clause-writes
+returns-in-Ok-clause-writes g c =
+    let settings = key_settings_of g.L.Lookup.content c.args.collator.now c.args.weighting c.args.depth in
+    let properties = settings.collation.properties in
+    let bytes_of = line_as c.args.form settings in
+    let header = c.args.header.now in
+    let known = c.args.input.now.remaining in
+    let left = c.print_lines-end.new.input.remaining in
+    let begun = c.args.out.now.contents in
+    let now = c.print_lines-end.new.out.contents in
+    subst (λ end. IfSome known (λ bytes. WritesHeaded header properties bytes_of bytes left begun now end)) (sym c.after_header.ensures)
+    (headed header properties bytes_of known left begun c.write_text.new.out.contents now c.print_lines-end.result c.in-Ok.ensures.written c.print_lines-end.ensures.writes)
+
+pub returns-in-Ok-clause-of_lines : goal.returns-in-Ok-clause-of_lines
+returns-in-Ok-clause-of_lines g c = ap ended_before_input c.after_header.ensures ∙ same_before_input _ c.print_lines-end.result ∙ c.print_lines-end.ensures.of_lines
+
+pub returns-in-Ok-clause-input_failed : goal.returns-in-Ok-clause-input_failed
+returns-in-Ok-clause-input_failed g c = input_after (length c.args.header.now) c.print_lines-end.result c.after_header.result c.args.input.now.failed
+    c.print_lines-end.new.input.failed c.after_header.ensures c.print_lines-end.ensures.input_failed
+
+pub returns-in-Ok-clause-out_failed : goal.returns-in-Ok-clause-out_failed
+returns-in-Ok-clause-out_failed g c = out_after (length c.args.header.now) c.print_lines-end.result c.after_header.result c.args.out.now.failed
+    c.write_text.new.out.failed c.print_lines-end.new.out.failed c.after_header.ensures c.in-Ok.ensures.failed c.print_lines-end.ensures.out_failed
+
+pub returns-in-Err-clause-writes : goal.returns-in-Err-clause-writes
+returns-in-Err-clause-writes g c =
+    let settings = key_settings_of g.L.Lookup.content c.args.collator.now c.args.weighting c.args.depth in
+    part_of_header c.args.header.now settings.collation.properties (line_as c.args.form settings) c.args.input.now.remaining c.args.input.now.remaining
+    c.args.out.now.contents c.write_text.new.out.contents c.in-Err.fault c.requires.short c.in-Err.ensures.failed_in
+
+pub returns-in-Err-clause-of_lines : goal.returns-in-Err-clause-of_lines
+returns-in-Err-clause-of_lines g c = ap (λ f. ended_before_input {A = Unit {0}} (Err f)) c.in-Err.ensures.failed_in.1
+
+pub returns-in-Err-clause-input_failed : goal.returns-in-Err-clause-input_failed
+returns-in-Err-clause-input_failed g c = λ none. as_before c.args.input.now.failed _ (ap (λ f. is_input_read {A = Unit {0}} (Err f)) c.in-Err.ensures.failed_in.1)

@@ -1,0 +1,44 @@
+-- What keys go by and their header are those of the files, or a file is rejected.
+use Rattle.std.specs.Prelude.{⊤, MatchResult}
+use Rattle.std.proofs.Common.{◌≡◌, [], ◌∷◌, subst}
+use Rattle.uca_values.specs.Content.{properties_of}
+use Rattle.uca_match.specs.NumberedKeys.{rows_at}
+use Rattle.uca_run_parts.specs.declared.faults.RunFault.TheVariants.{Memory}
+use Rattle.uca_run_parts.specs.Files.{table_and_data_roles}
+use Rattle.uca_run_parts.proofs.FilesLemmas.{ended_by_files, failed_by_no_file, runs_over_all}
+use Rattle.uca_run_parts.proofs.Running.{file_before}
+use Rattle.uca_fingerprint_runs.specs.SummedFiles.{summed_files, summed_with}
+use Rattle.uca_key_runs.specs.Keys.{collation_in}
+use Rattle.uca_key_runs.proofs.Rows.{before_input, both_outcomes, no_file}
+use Rattle.uca_key_runs.specs.HeadedParts.{IsHeaded}
+use Rattle.uca_key_runs.proofs.headed.read_headed.Goals as goal
+
+pub returns-in-Err-clause-read : goal.returns-in-Err-clause-read
+returns-in-Err-clause-read g c =
+    ended_by_files ⊤ ⊤ summed_files (c.args.table.now ∷ c.args.properties.now ∷ [])
+    (c.read_summed_files.new.table ∷ c.read_summed_files.new.properties ∷ []) (λ content. c.in-Err.fault ≡ Memory) c.in-Err.fault c.in-Err.ensures.read
+
+pub returns-in-Err-clause-before_input : goal.returns-in-Err-clause-before_input
+returns-in-Err-clause-before_input g c = file_before ⊤ ⊤ c.in-Err.fault c.in-Err.ensures.of_files
+
+pub returns-in-Ok-clause-read : goal.returns-in-Ok-clause-read
+returns-in-Ok-clause-read g c =
+    let files = c.in-Ok.files in
+    let read = summed_with files.table (properties_of files.properties.0, files.properties.1) in
+    let made = c.headed_collation.result in
+    let refused = c.headed_collation.ensures.refused in
+    runs_over_all {B = ⊤} summed_files (c.args.table.now ∷ c.args.properties.now ∷ [])
+    (c.read_summed_files.new.table ∷ c.read_summed_files.new.properties ∷ []) (λ content. read ≡ content)
+    _ tt made (no_file made refused)
+    (λ content same. subst (λ it. MatchResult made (λ m. IsHeaded c.args.asked c.args.depth (collation_in (rows_at m.0.rows) m.0.header (properties_of m.0.properties)) m.0.weighting m.1 it)
+    (λ fault. fault ≡ Memory)) same (both_outcomes made _ _ c.headed_collation.ensures.made refused))
+    c.in-Ok.ensures.read
+
+pub returns-in-Ok-clause-before_input : goal.returns-in-Ok-clause-before_input
+returns-in-Ok-clause-before_input g c = before_input c.headed_collation.result c.headed_collation.ensures.refused
+
+pub returns-in-Ok-clause-failed : goal.returns-in-Ok-clause-failed
+returns-in-Ok-clause-failed g c =
+    failed_by_no_file {B = ⊤} table_and_data_roles (c.args.table.now ∷ c.args.properties.now ∷ [])
+    (c.read_summed_files.new.table ∷ c.read_summed_files.new.properties ∷ []) tt c.headed_collation.result c.in-Ok.ensures.failed
+    (no_file c.headed_collation.result c.headed_collation.ensures.refused)

@@ -1,0 +1,51 @@
+-- The whole run, from what its two files mean and what is printed after them.
+use Rattle.std.specs.Prelude.{⊤}
+use Rattle.std.proofs.Common.{◌≡◌, ◌∙◌, [], ◌∷◌, Err, IfSome, subst, sym}
+use Rattle.uca_values.specs.Content.{properties_of}
+use Rattle.uca_match.specs.NumberedKeys.{rows_at}
+use Rattle.uca_elements.specs.Collations.{Collation, collation_of}
+use Rattle.uca_order.specs.Lengths.{HasShortRows}
+use Rattle.uca_run_parts.specs.declared.faults.RunFault.TheVariants.{Memory}
+use Rattle.uca_run_parts.specs.Files.{table_and_data_roles, table_with}
+use Rattle.uca_run_parts.proofs.WholeRuns.{ended_before, ended_by_lines}
+use Rattle.uca_fingerprint_runs.specs.SummedFiles.{summed_files}
+use Rattle.uca_key_runs.specs.Keys.{KeySettings, collation_in, key_settings}
+use Rattle.uca_key_runs.proofs.KeySettings.{same_keying}
+use Rattle.uca_key_runs.specs.HeadedParts.{IsHeaded}
+use Rattle.uca_key_runs.specs.HeadedRun.{RunsHeaded, WritesHeaded}
+use Rattle.uca_key_runs.specs.KeyForms.{line_as}
+use Rattle.uca_key_runs.proofs.HeadedRuns.{headed_under}
+use Rattle.uca_key_runs.proofs.headed.run_headed_in.Goals as goal
+
+pub returns-in-Err : goal.returns-in-Err
+returns-in-Err g c =
+    let fault = c.in-Err.fault in
+    let runs = RunsHeaded {A = ⊤} (line_as c.args.form) c.args.weighting c.args.depth c.args.input.now c.args.input.now c.args.out.now c.args.out.now in
+    ended_before summed_files table_and_data_roles (λ content. fault ≡ Memory) (runs (Err fault))
+    (c.args.table.now ∷ c.args.properties.now ∷ []) (c.read_headed.new.table ∷ c.read_headed.new.properties ∷ [])
+    ⊤ ⊤ c.args.input.now c.args.out.now fault
+    (λ content is. subst (λ f. runs (Err f) content) (sym is) tt)
+    c.in-Err.ensures.read c.in-Err.ensures.before_input c.in-Err.ensures.failed
+
+pub print_headed-end-requires-clause-rows : goal.print_headed-end-requires-clause-rows
+print_headed-end-requires-clause-rows g c = subst (λ (collation : Collation). HasShortRows collation.rows) (sym c.collator-collator.ensures) c.in-Ok.ensures.short
+
+pub returns-in-Ok : goal.returns-in-Ok
+returns-in-Ok g c =
+    let read = c.in-Ok.read in
+    let made = collation_in (rows_at read.rows) read.header (properties_of read.properties) in
+    let input = c.args.input.now in
+    let input_new = c.print_headed-end.new.input in
+    let out = c.args.out.now in
+    let out_new = c.print_headed-end.new.out in
+    let end = c.print_headed-end.result in
+    ended_by_lines summed_files table_and_data_roles (λ content. IsHeaded c.args.weighting c.args.depth made read.weighting c.in-Ok.header content)
+    (RunsHeaded (line_as c.args.form) c.args.weighting c.args.depth input input_new out out_new end)
+    (c.args.table.now ∷ c.args.properties.now ∷ []) (c.read_headed.new.table ∷ c.read_headed.new.properties ∷ []) {B = ⊤}
+    input input_new out out_new tt end c.print_headed-end.ensures.of_lines
+    (λ content is. headed_under (line_as c.args.form) c.args.weighting c.args.depth input input_new out out_new end content c.print_headed-end.ensures.of_lines
+    (subst (λ header. IfSome input.remaining (λ bytes. WritesHeaded header content.properties (line_as c.args.form (key_settings c.args.weighting c.args.depth content.table content.properties)) bytes input_new.remaining out.contents out_new.contents end)) (c.as_bytes-first.ensures.line ∙ is.1)
+    (subst (λ (d : KeySettings). IfSome input.remaining (λ bytes. WritesHeaded c.as_bytes-first.result.now d.collation.properties (line_as c.args.form d) bytes input_new.remaining out.contents out_new.contents end))
+    (same_keying c.args.weighting c.args.depth (collation_of rows_at c.collator-collator.result) made read.weighting (table_with content.table content.properties) c.collator-collator.ensures is.0)
+    c.print_headed-end.ensures.writes)))
+    c.in-Ok.ensures.read c.in-Ok.ensures.failed c.print_headed-end.ensures.input_failed c.print_headed-end.ensures.out_failed

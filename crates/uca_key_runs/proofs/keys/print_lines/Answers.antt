@@ -1,0 +1,48 @@
+-- What went out, from what was written.
+use Rattle.std.proofs.Common.{◌≡◌, ◌||◌, [], refl, ap, subst, sym, ◌∙◌}
+use Rattle.uca_elements.specs.Collations.{Collation}
+use Rattle.uca_values.specs.Content.{properties_of}
+use Rattle.uca_key_runs.specs.Keys.{key_settings_of, settings_at}
+use Rattle.uca_order.specs.Lengths.{HasShortRows}
+use Rattle.uca_key_runs.specs.KeyForms.{line_as}
+use Rattle.uca_run_parts.specs.EachLineSoFar.{WritesRest}
+use Rattle.uca_run_parts.proofs.Finishing.{started, of_lines}
+use Rattle.uca_key_runs.proofs.KeySettings.{same_settings}
+use Rattle.uca_key_runs.proofs.keys.print_lines.Goals as goal
+
+pub print_rest-end-requires-clause-makes : goal.print_rest-end-requires-clause-makes
+print_rest-end-requires-clause-makes g c = record {
+  key_depth = c.new-2.ensures.depth ∙ c.depth_of.ensures;
+  same = ap (λ (collation : Collation). collation.properties) (sym c.new-2.ensures.collation);
+  short_rows = subst (λ (collation : Collation). HasShortRows collation.rows) (sym c.new-2.ensures.collation) c.requires;
+}
+
+pub returns-clause-writes : goal.returns-clause-writes
+returns-clause-writes g c =
+    let properties = properties_of c.args.collator.now.data.now in
+    let form = c.args.form in
+    let settings = settings_at g.L.Lookup.content c.new-2.result c.args.depth in
+    let asked = key_settings_of g.L.Lookup.content c.args.collator.now c.args.weighting c.args.depth in
+    let same : settings ≡ asked = same_settings {depth = c.args.depth} c.new-2.ensures.collation c.new-2.ensures.weighting refl in
+    let input = c.args.input.now in
+    let out = c.args.out.now in
+    let begin = started properties (line_as form settings) c.new.result input c.new-4.result out (c.new.ensures.read properties input) c.new-4.ensures.held c.new-4.ensures.written in
+    let rest = subst (λ s. WritesRest properties (line_as form s) input.remaining out.contents c.print_rest-end.new.input c.print_rest-end.new.self.output c.print_rest-end.new.out c.print_rest-end.result)
+    same (c.print_rest-end.ensures.prints input.remaining out.contents [] begin) in
+    c.end_output-end.ensures.writes properties (line_as form asked) input.remaining out.contents c.print_rest-end.new.input rest
+
+pub returns-clause-of_lines : goal.returns-clause-of_lines
+returns-clause-of_lines g c =
+    let properties = properties_of c.args.collator.now.data.now in
+    let bytes_of = line_as c.args.form (settings_at g.L.Lookup.content c.new-2.result c.args.depth) in
+    let input = c.args.input.now in
+    let out = c.args.out.now in
+    let begin = started properties bytes_of c.new.result input c.new-4.result out (c.new.ensures.read properties input) c.new-4.ensures.held c.new-4.ensures.written in
+    c.end_output-end.ensures.of_lines (of_lines properties bytes_of input.remaining out.contents c.print_rest-end.new.input c.print_rest-end.new.self.output c.print_rest-end.new.out c.print_rest-end.result
+    (c.print_rest-end.ensures.prints input.remaining out.contents [] begin))
+
+pub returns-clause-input_failed : goal.returns-clause-input_failed
+returns-clause-input_failed g c = λ none. subst (λ b. c.print_rest-end.new.input.failed ≡ (c.args.input.now.failed || b)) (sym (c.end_output-end.ensures.not_read none)) c.print_rest-end.ensures.input_failed
+
+pub returns-clause-out_failed : goal.returns-clause-out_failed
+returns-clause-out_failed g c = c.end_output-end.ensures.failed c.args.out.now.failed c.print_rest-end.ensures.out_failed

@@ -1,0 +1,31 @@
+-- What is returned for a line has the cause that the definition gives it.
+use Rattle.std.proofs.Common.{◌≡◌, subst, take, chars}
+use Rattle.uca_text.specs.Texts.{nfd_text}
+use Rattle.uca_text.specs.Limits.{IsAccepted}
+use Rattle.uca_text.specs.Faults.{IsCause}
+use Rattle.uca_order.specs.Depths.{read_text, key_at}
+use Rattle.uca_key_writer.specs.Writers.{collation_by}
+use Rattle.uca_run_parts.proofs.Causes.{clean_text, refused_text}
+use Rattle.uca_key_runs.proofs.line_keys.write_line_beginning.Goals as goal
+
+pub returns-in-Ok-write_beginning-clause-beginning : goal.returns-in-Ok-write_beginning-clause-beginning
+returns-in-Ok-write_beginning-clause-beginning g c =
+    let key = c.args.writer.now in
+    let collation = collation_by g.L.Lookup.content key in
+    subst (λ l. take 16 c.write_beginning.new.self.key ≡ take 16 (key_at key.depth key.weighting (read_text collation (nfd_text collation.properties (chars l)))))
+    c.in-Ok.ensures.text.0 c.in-Ok-write_beginning.ensures.beginning
+
+pub returns-in-Ok-write_beginning-clause-clean : goal.returns-in-Ok-write_beginning-clause-clean
+returns-in-Ok-write_beginning-clause-clean g c = λ before h.
+    let properties = (collation_by g.L.Lookup.content c.args.writer.now).properties in
+    clean_text properties before c.args.lines.now.line h c.text.ensures.within c.in-Ok.ensures.text.1
+    (subst (λ l. IsAccepted (nfd_text properties (chars l))) c.in-Ok.ensures.text.0 c.in-Ok-write_beginning.ensures.accepted)
+
+pub returns-in-Err-write_beginning-clause-fault : goal.returns-in-Err-write_beginning-clause-fault
+returns-in-Err-write_beginning-clause-fault g c = λ before h.
+    let properties = (collation_by g.L.Lookup.content c.args.writer.now).properties in
+    rw c.kind_of_text.ensures (refused_text properties before c.args.lines.now.line c.in-Err-write_beginning.fault h c.text.ensures.within c.in-Ok.ensures.text.1
+    (subst (λ l. IsCause (nfd_text properties (chars l)) c.in-Err-write_beginning.fault) c.in-Ok.ensures.text.0 c.in-Err-write_beginning.ensures.fault))
+
+pub returns-in-Err-clause-fault : goal.returns-in-Err-clause-fault
+returns-in-Err-clause-fault g c = λ before h. c.in-Err.ensures.fault (collation_by g.L.Lookup.content c.args.writer.now).properties before h

@@ -1,0 +1,132 @@
+//! What keys go by, read from a table and a data file.
+
+ghost use Rattle.std.specs.Prelude.{◌≡◌, ◌∷◌, [], true, IfOk, IfErr, MatchResult};
+ghost use Rattle.uca_values.specs.Content.{properties_of};
+ghost use Rattle.uca_elements.specs.Rows.{rows_of};
+ghost use Rattle.uca_elements.specs.Collations.{collation_of};
+ghost use Rattle.uca_order.specs.Lengths.{HasShortRows};
+ghost use Rattle.uca_run_parts.specs.Files.{HaveFailed, Over, table_and_data, table_and_data_roles, table_with};
+ghost use Rattle.uca_run_parts.specs.EachLine.{ended_before_input};
+ghost use Rattle.uca_changes.specs.Weightings.{weighting_by};
+ghost use Rattle.uca_key_runs.specs.Keys.{IsCollation, collation_in};
+
+mod packed_files;
+
+use packed_files::read_packed_files;
+use std::alloc::{Allocator, Global};
+use std::io::Read;
+use uca_elements::{Collator, Lookup};
+use uca_match::Trie;
+use uca_order::laws::rows_are_short;
+use uca_run_parts::RunFault;
+use uca_values::{Data, Header, PackedTable};
+use uca_weights::{Source, Weighting};
+
+/// What keys go by: the header of the table, its rows, the properties of code points, and a weighting.
+#[derive(Drop)]
+pub(crate) struct ReadCollation<A: Allocator = Global> {
+    /// The header of the table.
+    pub(crate) header: Header<A>,
+    /// The rows of the table.
+    pub(crate) rows: Trie<A>,
+    /// The properties of code points.
+    pub(crate) properties: Data<A>,
+    /// The weighting.
+    pub(crate) weighting: Weighting,
+}
+
+impl<A: Allocator> ReadCollation<A> {
+    /// What texts are read by.
+    pub(crate) fn collator(&self) -> Collator<'_, Trie<A>, A>
+        ensures { collation_of ⟦<Trie<A> as Lookup>⟧.content result
+            ≡ collation_in (⟦<Trie<A> as Lookup>⟧.content self.now.rows) self.now.header (properties_of self.now.properties) }
+    {
+        Collator::new(&self.rows, &self.header, &self.properties)
+    }
+}
+
+/// Reads the table, and then the data file, and makes the rows ready to be looked up. The weighting is the one that is
+/// asked for, or else that of the table's `@variable`, or else shifted (UTS #10, section 4).
+///
+/// # Errors
+///
+/// `File` if the table, or else the data file, is rejected; then `Memory` if an allocation fails for the rows.
+pub(crate) fn read_collation<A: Allocator + Copy, T: Read, D: Read>(
+    alloc: A,
+    table: &mut Source<T>,
+    properties: &mut Source<D>,
+    weighting: Option<Weighting>,
+) -> Result<ReadCollation<A>, RunFault>
+    ensures read { Over table_and_data (table.old ∷ properties.old ∷ []) (table.new ∷ properties.new ∷ [])
+        (λ content. MatchResult result
+        (λ read. IsCollation weighting (collation_in (⟦<Trie<A> as Lookup>⟧.content read.rows) read.header
+        (properties_of read.properties)) read.weighting content)
+        (λ fault. fault ≡ RunFault.Memory)) result }
+    ensures short { IfOk result (λ read. HasShortRows (⟦<Trie<A> as Lookup>⟧.content read.rows)) }
+    ensures before_input { IfErr result (λ _. ended_before_input result ≡ true) }
+    ensures failed { HaveFailed table_and_data_roles (table.old ∷ properties.old ∷ [])
+        (table.new ∷ properties.new ∷ []) result }
+{
+    match read_packed_files(alloc, table, properties) {
+        Ok(files) => collation_of(alloc, files.0, files.1, weighting),
+        Err(fault) => Err(fault),
+    }
+}
+
+/// What keys go by under a table and a data file that were read before. It makes the rows ready to be looked up. The weighting is
+/// the one that is asked for, or else that of the table's `@variable`, or else shifted (UTS #10, section 4).
+///
+/// # Errors
+///
+/// `Memory` if an allocation fails for the rows.
+pub(crate) fn collation_of<A: Allocator + Copy>(
+    alloc: A,
+    table: PackedTable<A>,
+    properties: Data<A>,
+    asked: Option<Weighting>,
+) -> Result<ReadCollation<A>, RunFault>
+    ensures made { IfOk result (λ read. IsCollation asked (collation_in (⟦<Trie<A> as Lookup>⟧.content read.rows) read.header
+        (properties_of read.properties)) read.weighting (table_with table (properties_of properties))) }
+    ensures short { IfOk result (λ read. HasShortRows (⟦<Trie<A> as Lookup>⟧.content read.rows)) }
+    ensures refused { IfErr result (λ fault. fault ≡ RunFault.Memory) }
+{
+    match rows_of_table(alloc, table) {
+        Ok((header, rows)) => Ok(ReadCollation {
+            weighting: chosen_weighting(asked, &header),
+            header,
+            rows,
+            properties,
+        }),
+        Err(fault) => {
+            drop(properties);
+            Err(fault)
+        }
+    }
+}
+
+// The header of a table, and its rows, ready to be looked up.
+fn rows_of_table<A: Allocator + Copy>(
+    alloc: A,
+    table: PackedTable<A>,
+) -> Result<(Header<A>, Trie<A>), RunFault>
+    ensures header { IfOk result (λ both. both.0 ≡ table.header) }
+    ensures rows { IfOk result (λ both. ⟦<Trie<A> as Lookup>⟧.content both.1 ≡ rows_of table.rows) }
+    ensures short { IfOk result (λ both. HasShortRows (⟦<Trie<A> as Lookup>⟧.content both.1)) }
+    ensures refused { IfErr result (λ fault. fault ≡ RunFault.Memory) }
+{
+    // The rows keep the limits of a table, so they are short.
+    let _ = &table.rows;
+    rows_are_short();
+    match Trie::of_table(alloc, table) {
+        Ok(both) => Ok(both),
+        Err(_) => Err(RunFault::Memory),
+    }
+}
+
+// The weighting that is asked for, or else that of the table's `@variable`, or else shifted
+// (UTS #10, section 4).
+fn chosen_weighting<A: Allocator>(asked: Option<Weighting>, header: &Header<A>) -> Weighting
+    ensures { result ≡ weighting_by asked header.now.setting }
+{
+    asked.or(header.setting).unwrap_or(Weighting::Shifted)
+}

@@ -1,0 +1,366 @@
+//! The run that prints the sort key of each line.
+
+ghost use Rattle.std.specs.Prelude.{◌≡◌, ◌∷◌, [], ℕ, ◌+◌, ◌-◌, ◌*◌, ◌^◌, ◌<◌, ◌≤◌, ◌||◌, true, false, List, Option, IfErr, IfOk, IfSome, OnOk, length, chars};
+ghost use Rattle.std.specs.Bool.{OnTrue};
+ghost use Rattle.uca_values.specs.Content.{properties_of};
+ghost use Rattle.uca_lines.specs.OutputBuffer.{IsBuffered};
+ghost use Rattle.uca_lines.specs.Buffered.{HasRoom, WritesThrough};
+ghost use Rattle.uca_text.specs.Texts.{nfd_text};
+ghost use Rattle.uca_elements.specs.Collations.{collation_of};
+ghost use Rattle.uca_order.specs.Lengths.{HasShortRows};
+ghost use Rattle.uca_key_runs.specs.Keys.{key_settings_of, settings_at, settings_of};
+ghost use Rattle.uca_run_parts.specs.Runs.{is_input_read, ended_by_output};
+ghost use Rattle.uca_run_parts.specs.EachLine.{WritesEach, ended_before_input};
+ghost use Rattle.uca_run_parts.specs.EachLineSoFar.{HasWritten, WritesText, WritesRest};
+ghost use Rattle.uca_key_runs.specs.KeysRun.{PrintsKeys};
+ghost use Rattle.uca_run_parts.specs.Input.{cause_of};
+ghost use Rattle.uca_run_parts.specs.Texts.{HasRead, HasTextCause, ReadsCleanLine, is_read};
+ghost use Rattle.uca_key_runs.specs.KeyForms;
+ghost use Rattle.uca_key_runs.specs.KeyForms.{MakesKeys, PrintsAs, depth_as, line_as, printed_as};
+
+use crate::collations::read_collation;
+use crate::line_keys::write_line_key;
+use std::alloc::{Allocator, Global};
+use std::io::{Read, Write};
+use uca_elements::{Collator, Lookup};
+use uca_key_writer::KeyWriter;
+use uca_lines::{LINE_LIMIT, OutputBuffer};
+use uca_run_parts::faults::{InputKind, RunFault};
+use uca_run_parts::input::{InputLines, take_text};
+use uca_run_parts::output::end_output;
+use uca_run_parts::print::{KeyDigits, print_key, print_keyed_line};
+use uca_text::Normal;
+use uca_values::Data;
+use uca_weights::{Depth, Sink, Source, Weighting, WriteFault};
+
+/// What the output has of a line of the input.
+#[derive(Clone, Copy)]
+pub(crate) enum KeyForm {
+    /// Its key, in groups.
+    Alone,
+    /// The digits of its key, a tab, and the line.
+    BeforeLine,
+}
+
+// Writes the line of output of a line. The key is at the depth that the form asks for.
+fn print_as<W: Write>(
+    digits: &mut KeyDigits,
+    buffer: &mut OutputBuffer,
+    out: &mut Sink<W>,
+    form: KeyForm,
+    depth: Depth,
+    key: &[u8],
+    points: &[char],
+    line: &[u8],
+) -> Result<(), WriteFault>
+    requires { HasRoom buffer.old (length (printed_as form depth key.now points.now line.now)) }
+    ensures { WritesThrough (printed_as form depth key.now points.now line.now) buffer.old buffer.new out.old out.new result }
+{
+    match form {
+        KeyForm::Alone => print_key(digits, buffer, out, depth, key, points),
+        KeyForm::BeforeLine => print_keyed_line(digits, buffer, out, key, line),
+    }
+}
+
+// The depth of the key that is made for a form.
+fn depth_of(form: KeyForm, depth: Depth) -> Depth
+    ensures { result ≡ depth_as form depth }
+{
+    match form {
+        KeyForm::Alone => Depth::Weights,
+        KeyForm::BeforeLine => depth,
+    }
+}
+
+// Makes the text that of the line that was read, where its code points are printed.
+fn take_shown_text<A: Allocator, D: Allocator>(
+    text: &mut Normal,
+    form: KeyForm,
+    depth: Depth,
+    lines: &InputLines<A>,
+    properties: &Data<D>,
+) -> Result<(), InputKind>
+    ensures points { OnOk result (KeyForms.shows_points form depth ≡ true →
+        text.new.points ≡ (nfd_text (properties_of properties.now) (chars lines.now.line)).points) }
+    ensures fault { (before : ℕ) → before < LINE_LIMIT →
+        IfErr result (HasTextCause (properties_of properties.now) before lines.now.line) }
+    ensures not_read { is_read result ≡ false }
+{
+    match form {
+        KeyForm::Alone => match depth {
+            Depth::Weights => Ok(()),
+            Depth::Identical => take_text(text, lines, properties),
+        },
+        KeyForm::BeforeLine => Ok(()),
+    }
+}
+
+// Makes the key of the line that was read, and its text where its code points are printed.
+fn make_key<'a, L: Lookup, T: Allocator, A: Allocator, D: Allocator>(
+    key: &mut KeyWriter<'a, L, T, A>,
+    text: &mut Normal,
+    form: KeyForm,
+    depth: Depth,
+    lines: &InputLines<A>,
+    properties: &Data<D>,
+) -> Result<(), InputKind>
+    requires { MakesKeys form depth (properties_of properties.now) (settings_of L.content key.old) }
+    ensures made { OnOk result (printed_as form depth key.new.key text.new.points lines.now.line
+        ≡ line_as form (settings_at L.content key.old depth) lines.now.line) }
+    ensures short { OnOk result (length key.new.key < 2 ^ 40) }
+    ensures clean { (before : ℕ) → before < LINE_LIMIT →
+        OnOk result (cause_of (properties_of properties.now) before lines.now.line ≡ None) }
+    ensures fault { (before : ℕ) → before < LINE_LIMIT →
+        IfErr result (HasTextCause (properties_of properties.now) before lines.now.line) }
+    ensures not_read { is_read result ≡ false }
+    ensures kept { settings_of L.content key.new ≡ settings_of L.content key.old }
+{
+    match write_line_key(key, lines) {
+        Ok(()) => match take_shown_text(text, form, depth, lines, properties) {
+            Ok(()) => Ok(()),
+            Err(kind) => Err(kind),
+        },
+        Err(kind) => Err(kind),
+    }
+}
+
+// The lines of the input, and what is used again for each of them.
+#[derive(Drop)]
+struct KeyRun<'a, L: Lookup, T: Allocator, A: Allocator> {
+    lines: InputLines<A>,
+    key: KeyWriter<'a, L, T, A>,
+    // the text of the line, where its code points are printed
+    text: Normal,
+    output: OutputBuffer,
+    // room for the digits of a key
+    digits: KeyDigits,
+}
+
+impl<'a, L: Lookup, T: Allocator, A: Allocator> KeyRun<'a, L, T, A> {
+    // Reads the next line and makes its key, and returns whether there was a line.
+    fn next<D: Allocator, I: Read>(
+        &mut self,
+        form: KeyForm,
+        depth: Depth,
+        properties: &Data<D>,
+        input: &mut Source<I>,
+    ) -> Result<bool, RunFault>
+        requires { MakesKeys form depth (properties_of properties.now) (settings_of L.content self.old.key) }
+        ensures reads { (start : Option (List ℕ)) (before : List (List ℕ)) →
+            HasRead (properties_of properties.now) start before self.old.lines input.old →
+            ReadsCleanLine (properties_of properties.now) start before self.new.lines input.new result }
+        ensures made { IfOk result (λ more. OnTrue more (
+            printed_as form depth self.new.key.key self.new.text.points self.new.lines.line
+            ≡ line_as form (settings_at L.content self.old.key depth) self.new.lines.line)) }
+        ensures short { IfOk result (λ more. OnTrue more (length self.new.key.key < 2 ^ 40)) }
+        ensures count { IfOk result (λ more. OnTrue more ((self.new.lines.reader.number ≡ self.old.lines.reader.number + 1)
+            × (self.old.lines.reader.number < LINE_LIMIT))) }
+        ensures output { self.new.output ≡ self.old.output }
+        ensures kept { settings_of L.content self.new.key ≡ settings_of L.content self.old.key }
+        ensures not_write { ended_by_output result ≡ false }
+        ensures failed { input.new.failed ≡ (input.old.failed || is_input_read result) }
+    {
+        match self.lines.next(input) {
+            Ok(true) => match make_key(
+                &mut self.key,
+                &mut self.text,
+                form,
+                depth,
+                &self.lines,
+                properties,
+            ) {
+                Ok(()) => Ok(true),
+                Err(kind) => Err(RunFault::Input {
+                    line: self.lines.number(),
+                    kind,
+                }),
+            },
+            Ok(false) => Ok(false),
+            Err(fault) => Err(fault),
+        }
+    }
+
+    // Writes what the output has of the line that was read.
+    fn print_line<W: Write>(
+        &mut self,
+        form: KeyForm,
+        depth: Depth,
+        out: &mut Sink<W>,
+    ) -> Result<(), RunFault>
+        requires short { length self.old.key.key < 2 ^ 40 }
+        requires few { 0 < self.old.lines.reader.number }
+        requires most { self.old.lines.reader.number ≤ LINE_LIMIT }
+        requires small { self.old.output.written + length self.old.output.held
+            ≤ (self.old.lines.reader.number - 1) * 2 ^ 42 }
+        ensures prints { (begun : Option (List ℕ)) (before : List ℕ) →
+            IsBuffered begun out.old.contents before self.old.output →
+            WritesText begun before (printed_as form depth self.old.key.key self.old.text.points self.old.lines.line)
+            self.old.lines.reader.number self.old.output out.old self.new.output out.new result }
+        ensures small { OnOk result (self.new.output.written + length self.new.output.held
+            ≤ self.old.lines.reader.number * 2 ^ 42) }
+        ensures lines { self.new.lines ≡ self.old.lines }
+        ensures key { self.new.key ≡ self.old.key }
+        ensures not_read { is_input_read result ≡ false }
+        ensures failed { out.new.failed ≡ (out.old.failed || ended_by_output result) }
+    {
+        Ok(print_as(
+            &mut self.digits,
+            &mut self.output,
+            out,
+            form,
+            depth,
+            self.key.bytes(),
+            self.text.chars(),
+            self.lines.line(),
+        )?)
+    }
+
+    // Writes what the output has of all lines that are left.
+    fn print_rest<D: Allocator, I: Read, W: Write>(
+        &mut self,
+        form: KeyForm,
+        depth: Depth,
+        properties: &Data<D>,
+        input: &mut Source<I>,
+        out: &mut Sink<W>,
+    ) -> Result<(), RunFault>
+        requires makes { MakesKeys form depth (properties_of properties.now) (settings_of L.content self.old.key) }
+        requires small { self.old.output.written + length self.old.output.held
+            ≤ self.old.lines.reader.number * 2 ^ 42 }
+        ensures prints { (start begun : Option (List ℕ)) (before : List (List ℕ)) →
+            let points = properties_of properties.now in
+            let c = settings_at L.content self.old.key depth in
+            HasWritten points (line_as form c) start begun before self.old.lines input.old self.old.output out.old →
+            WritesRest points (line_as form c) start begun input.new self.new.output out.new result }
+        ensures input_failed { input.new.failed ≡ (input.old.failed || is_input_read result) }
+        ensures out_failed { out.new.failed ≡ (out.old.failed || ended_by_output result) }
+    {
+        while self.next(form, depth, properties, input)? {
+            self.print_line(form, depth, out)?;
+        }
+        Ok(())
+    }
+}
+
+/// Writes what the output has of each line of the input, until its end or its first line with an error.
+///
+/// # Errors
+///
+/// `Input` for the first line with an error, if what the output has of the lines before it was written.
+/// `Write` if the writer failed, also if a later line has an error.
+pub(crate) fn print_lines<L: Lookup, T: Allocator, A: Allocator + Copy, I: Read, W: Write>(
+    alloc: A,
+    global: Global,
+    collator: &Collator<L, T>,
+    weighting: Weighting,
+    depth: Depth,
+    form: KeyForm,
+    input: &mut Source<I>,
+    out: &mut Sink<W>,
+) -> Result<(), RunFault>
+    requires { HasShortRows (collation_of L.content collator.now).rows }
+    ensures writes { IfSome input.old.remaining (λ bytes.
+        let c = key_settings_of L.content collator.now weighting depth in
+        WritesEach c.collation.properties (line_as form c) bytes input.new.remaining out.old.contents out.new.contents result) }
+    ensures of_lines { ended_before_input result ≡ false }
+    ensures input_failed { ended_by_output result ≡ false →
+        input.new.failed ≡ (input.old.failed || is_input_read result) }
+    ensures out_failed { out.new.failed ≡ (out.old.failed || ended_by_output result) }
+{
+    let mut run = KeyRun {
+        lines: InputLines::new(alloc),
+        key: KeyWriter::new(alloc, global, *collator, weighting, depth_of(form, depth)),
+        text: Normal::new(global),
+        output: OutputBuffer::new(),
+        digits: KeyDigits::new(),
+    };
+    let end = run.print_rest(form, depth, collator.data, input, out);
+    let end = end_output(&mut run.output, out, end);
+    drop(run);
+    end
+}
+
+/// Prints the sort key of each line of `input`, under the table and the data file that are read first.
+/// The weighting is the one that is asked for, or else that of the table's `@variable`, or else shifted (UTS #10,
+/// section 4). At the depth `Identical` the code points of Normalization Form D follow as one more level, six digits
+/// each.
+///
+/// # Errors
+///
+/// - `File`: the table, or else the data file, is rejected. Nothing was written, and nothing of the input was read.
+/// - `Memory`: an allocation failed for looking up rows. Nothing was written, and nothing of the input was read.
+/// - `Input`: the first line with an error, if the keys of the lines before it were written.
+/// - `Write`: the writer failed, also if a later line has an error. The first `written` bytes of the whole output
+///   went out.
+pub fn run_keys<T: Read, D: Read, I: Read, W: Write>(
+    alloc: Global,
+    table: &mut Source<T>,
+    properties: &mut Source<D>,
+    input: &mut Source<I>,
+    out: &mut Sink<W>,
+    weighting: Option<Weighting>,
+    depth: Depth,
+) -> Result<(), RunFault>
+    ensures { PrintsKeys weighting depth (table.old ∷ properties.old ∷ []) (table.new ∷ properties.new ∷ [])
+        input.old input.new out.old out.new result }
+{
+    run_keys_in(
+        alloc, alloc, table, properties, input, out, weighting, depth,
+    )
+}
+
+/// As [`run_keys`], with the two files, the trie, the lines and the keys in memory of any allocator. Texts in
+/// Normalization Form D are in `global`.
+///
+/// # Errors
+///
+/// Those of [`run_keys`].
+pub fn run_keys_in<A: Allocator + Copy, T: Read, D: Read, I: Read, W: Write>(
+    alloc: A,
+    global: Global,
+    table: &mut Source<T>,
+    properties: &mut Source<D>,
+    input: &mut Source<I>,
+    out: &mut Sink<W>,
+    weighting: Option<Weighting>,
+    depth: Depth,
+) -> Result<(), RunFault>
+    ensures { PrintsKeys weighting depth (table.old ∷ properties.old ∷ []) (table.new ∷ properties.new ∷ [])
+        input.old input.new out.old out.new result }
+{
+    let form = KeyForm::Alone;
+    run_lines_in(
+        alloc, global, form, table, properties, input, out, weighting, depth,
+    )
+}
+
+/// Writes what the output has of each line of `input`, under the table and the data file that are read first.
+///
+/// # Errors
+///
+/// Those of [`run_keys`].
+pub(crate) fn run_lines_in<A: Allocator + Copy, T: Read, D: Read, I: Read, W: Write>(
+    alloc: A,
+    global: Global,
+    form: KeyForm,
+    table: &mut Source<T>,
+    properties: &mut Source<D>,
+    input: &mut Source<I>,
+    out: &mut Sink<W>,
+    weighting: Option<Weighting>,
+    depth: Depth,
+) -> Result<(), RunFault>
+    ensures { PrintsAs form weighting depth (table.old ∷ properties.old ∷ []) (table.new ∷ properties.new ∷ [])
+        input.old input.new out.old out.new result }
+{
+    match read_collation(alloc, table, properties, weighting) {
+        Ok(read) => {
+            let collator = read.collator();
+            let chosen = read.weighting;
+            let end = print_lines(alloc, global, &collator, chosen, depth, form, input, out);
+            drop(read);
+            end
+        }
+        Err(fault) => Err(fault),
+    }
+}

@@ -1,0 +1,74 @@
+//! The sort key of a line of the input.
+
+ghost use Rattle.std.specs.Prelude.{◌≡◌, ℕ, ◌<◌, ◌^◌, false, IfErr, OnOk, length, take};
+ghost use Rattle.uca_order.specs.Lengths.{HasShortRows};
+ghost use Rattle.uca_key_writer.specs.Writers.{collation_by};
+ghost use Rattle.uca_run_parts.specs.Input.{cause_of};
+ghost use Rattle.uca_key_runs.specs.Keys.{line_key, settings_at};
+ghost use Rattle.uca_run_parts.specs.Texts.{HasTextCause, is_read};
+
+use std::alloc::Allocator;
+use uca_elements::Lookup;
+use uca_key_writer::KeyWriter;
+use uca_lines::LINE_LIMIT;
+use uca_run_parts::faults::InputKind;
+use uca_run_parts::input::{InputLines, kind_of_text};
+
+/// Writes the key of the line that was read, over the key that was there.
+///
+/// # Errors
+///
+/// Why the line gives no text, or `Memory`.
+pub(crate) fn write_line_key<'a, L: Lookup, T: Allocator, A: Allocator>(
+    writer: &mut KeyWriter<'a, L, T, A>,
+    lines: &InputLines<A>,
+) -> Result<(), InputKind>
+    ensures key { OnOk result (writer.new.key ≡ line_key (settings_at L.content writer.old writer.old.depth) lines.now.line) }
+    ensures clean { (before : ℕ) → before < LINE_LIMIT →
+        OnOk result (cause_of (collation_by L.content writer.old).properties before lines.now.line ≡ None) }
+    ensures fault { (before : ℕ) → before < LINE_LIMIT →
+        IfErr result (HasTextCause (collation_by L.content writer.old).properties before lines.now.line) }
+    ensures not_read { is_read result ≡ false }
+    ensures short { HasShortRows (collation_by L.content writer.old).rows → OnOk result (length writer.new.key < 2 ^ 40) }
+    ensures collation { collation_by L.content writer.new ≡ collation_by L.content writer.old }
+    ensures weighting { writer.new.weighting ≡ writer.old.weighting }
+    ensures depth { writer.new.depth ≡ writer.old.depth }
+{
+    match lines.text() {
+        Ok(line) => match writer.write(line) {
+            Ok(()) => Ok(()),
+            Err(fault) => Err(kind_of_text(fault)),
+        },
+        Err(kind) => Err(kind),
+    }
+}
+
+/// Writes at least the first sixteen bytes of the key of the line that was read, over the key that was there. A shorter key is
+/// written whole.
+///
+/// # Errors
+///
+/// Why the line gives no text, or `Memory`.
+pub(crate) fn write_line_beginning<'a, L: Lookup, T: Allocator, A: Allocator>(
+    writer: &mut KeyWriter<'a, L, T, A>,
+    lines: &InputLines<A>,
+) -> Result<(), InputKind>
+    ensures beginning { OnOk result (take 16 writer.new.key ≡
+        take 16 (line_key (settings_at L.content writer.old writer.old.depth) lines.now.line)) }
+    ensures clean { (before : ℕ) → before < LINE_LIMIT →
+        OnOk result (cause_of (collation_by L.content writer.old).properties before lines.now.line ≡ None) }
+    ensures fault { (before : ℕ) → before < LINE_LIMIT →
+        IfErr result (HasTextCause (collation_by L.content writer.old).properties before lines.now.line) }
+    ensures not_read { is_read result ≡ false }
+    ensures collation { collation_by L.content writer.new ≡ collation_by L.content writer.old }
+    ensures weighting { writer.new.weighting ≡ writer.old.weighting }
+    ensures depth { writer.new.depth ≡ writer.old.depth }
+{
+    match lines.text() {
+        Ok(line) => match writer.write_beginning(line) {
+            Ok(()) => Ok(()),
+            Err(fault) => Err(kind_of_text(fault)),
+        },
+        Err(kind) => Err(kind),
+    }
+}

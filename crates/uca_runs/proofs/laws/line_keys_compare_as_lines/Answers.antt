@@ -1,5 +1,0 @@
-use Rattle.uca_runs.proofs.LineLaws.{line_keys_compare}
-use Rattle.uca_runs.proofs.laws.line_keys_compare_as_lines.Goals as goal
-
-pub returns : goal.returns
-returns c = line_keys_compare c.keys_compare_as_texts.ensures

@@ -1,3 +1,0 @@
-pub mod SortRun
-pub mod KeptLines
-pub mod SortSoFar
