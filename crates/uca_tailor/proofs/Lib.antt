@@ -1,3 +1,7 @@
+pub mod Mapped
+pub mod RowElements
 pub mod PartLaws
 pub mod RefusalLaws
 pub mod PlanAudits
+pub mod drafts
+pub mod numbers

@@ -1,1 +1,3 @@
 pub mod PlanParts
+pub mod drafts
+pub mod numbers

@@ -11,15 +11,15 @@ ghost use Rattle.uca_plans.specs.Lists.{InsertsBelow};
 ghost use Rattle.uca_plans.specs.Plans as plans;
 ghost use Rattle.uca_plans.specs.Plans.{plan_drafted, plan_of};
 ghost use Rattle.uca_plans.specs.Tailors.{out_of_memory, plan_in, table_of};
-ghost use Rattle.uca_drafts.specs.RowDrafts.{row_elements};
+ghost use Rattle.uca_tailor.specs.drafts.RowDrafts.{row_elements};
 ghost use Rattle.uca_tailor.specs.PlanParts as parts;
 ghost use Rattle.uca_tailor.specs.PlanParts.{AreSound, IsMade, IsNotMade};
 
+use crate::drafts::{Drafting, RowDraft, RowElements, as_draft, draft};
+use crate::numbers::{LevelNumbers, level_numbers};
 use std::alloc::{AllocError, Allocator};
 use std::marker::Model;
 use uca_certificates::Certificate;
-use uca_drafts::{Drafting, RowDraft, RowElements, as_draft, draft};
-use uca_numbers::{LevelNumbers, level_numbers};
 use uca_plans::{DraftElement, Insertion, TailorFault, TailorKind};
 use uca_rules::Rules;
 use uca_values::{Data, Header, Row, Table};

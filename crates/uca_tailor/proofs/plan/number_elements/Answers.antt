@@ -6,14 +6,12 @@ use Rattle.uca_plans.specs.declared.drafts.DraftElement.{DraftElement}
 use Rattle.uca_plans.specs.declared.drafts.DraftWeight.TheVariants.{Base}
 use Rattle.uca_plans.specs.Drafts.{as_draft}
 use Rattle.uca_plans.specs.Plans.{numbered}
-use Rattle.uca_drafts.specs.RowDrafts.{row_elements}
-use Rattle.uca_drafts.proofs.Mapped.{mapped_more, mapped_all}
+use Rattle.uca_tailor.specs.drafts.RowDrafts.{row_elements}
+use Rattle.uca_tailor.proofs.Mapped.{mapped_more, mapped_all}
+use Rattle.uca_tailor.proofs.RowElements.{no_element}
 use Rattle.uca_tailor.proofs.plan.number_elements.Goals as goal
 
 -- What a read past the end would give.
-abbrev no_element : Element
-no_element = record { primary = 0; secondary = 0; tertiary = 0; mark = false }
-
 abbrev none_drafted : DraftElement
 none_drafted = record { primary = Base 0; secondary = Base 0; tertiary = Base 0; mark = false; implicit = false }
 

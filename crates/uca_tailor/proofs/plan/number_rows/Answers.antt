@@ -1,7 +1,7 @@
 -- With one more row, and with all of them.
 use Rattle.std.proofs.Common.{[], ap, ◌∙◌}
 use Rattle.uca_plans.specs.Plans.{numbered_row}
-use Rattle.uca_drafts.proofs.Mapped.{mapped_more, mapped_all}
+use Rattle.uca_tailor.proofs.Mapped.{mapped_more, mapped_all}
 use Rattle.uca_tailor.proofs.plan.number_rows.Goals as goal
 
 pub loop-row-preserved : goal.loop-row-preserved

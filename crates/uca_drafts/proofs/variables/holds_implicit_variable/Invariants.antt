@@ -1,8 +1,0 @@
--- None of the elements so far is such a one.
-use Rattle.std.proofs.Common.{◌≡◌, ◌&&◌, drop}
-use Rattle.std.specs.List.{list_any}
-use Rattle.uca_drafts.specs.Variables.{is_within}
-use Rattle.uca_drafts.proofs.variables.holds_implicit_variable.Given as goal
-
-abbrev pub invariant-loop-element : goal.invariant-loop-element
-invariant-loop-element l = list_any (λ e. e.implicit && is_within l.span e.primary) l.elements ≡ list_any (λ e. e.implicit && is_within l.span e.primary) (drop l.element-index l.elements)

@@ -1,6 +1,0 @@
-pub mod RowDrafts
-pub mod MatchDrafts
-pub mod Places
-pub mod Ready
-pub mod Targets
-pub mod Variables

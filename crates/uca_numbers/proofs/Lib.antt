@@ -1,5 +1,0 @@
-pub mod MarkLaws
-pub mod PlaceLaws
-pub mod LevelLaws
-pub mod RunLaws
-pub mod TableLaws

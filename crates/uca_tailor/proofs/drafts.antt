@@ -1,0 +1,9 @@
+pub mod AnchorParts
+pub mod ListedKeys
+pub mod MatchReadings
+pub mod KeyLookups
+pub mod RowLookups
+pub mod Names
+pub mod DraftingSteps
+pub mod Readiness
+pub mod VariableLaws
