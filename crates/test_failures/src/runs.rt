@@ -5,7 +5,7 @@ use crate::streams::Streams;
 use std::alloc::{Allocator, Global};
 use std::test::Fail;
 use uca_certificates::Certificate;
-use uca_reports::report;
+use uca_host::report;
 use uca_run_parts::{RunFault, run_affected_in, run_check};
 use uca_runs::{run_compare_in, run_keyed_lines_in, run_keys_in};
 use uca_sort_runs::run_sort_in;

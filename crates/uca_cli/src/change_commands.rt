@@ -2,7 +2,7 @@
 
 ghost use Rattle.std.specs.Prelude.{◌∷◌, []};
 ghost use Rattle.uca_cli.specs.Command.{DoesAuditChanges, DoesChanges, DoesRekey, Finds, KeepsAndPrints, KeepsMade, MakesOpened, Rekeys, made_changes, streams};
-ghost use Rattle.uca_named_files.specs.NamedFiles.{edition_files, file_system};
+ghost use Rattle.uca_host.specs.NamedFiles.{edition_files, file_system};
 
 use crate::printing::print_changes;
 use crate::statuses::{checked, done};
@@ -10,9 +10,9 @@ use std::alloc::Global;
 use std::io::{Read, Write};
 use uca_change_runs::{run_audit_changes, run_changes};
 use uca_editions::FoundChanges;
-use uca_named_files::Opens;
-use uca_named_files::keeping::{find_certificate_of_editions, keep_certificate};
-use uca_named_files::opening::{open_change_files, open_editions, open_one};
+use uca_host::Opens;
+use uca_host::files::keeping::{find_certificate_of_editions, keep_certificate};
+use uca_host::files::opening::{open_change_files, open_editions, open_one};
 use uca_rekey::{run_headed_rekey, run_rekey};
 use uca_run_parts::faults::{Role, RunFault};
 use uca_weights::{Sink, Source, Weighting};

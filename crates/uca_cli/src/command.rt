@@ -3,7 +3,7 @@
 ghost use Rattle.std.specs.Prelude.{◌∷◌, [], ⊤, ℕ, Bool, List, Result, ◌≡◌};
 ghost use Rattle.clap.specs.Walk.{texts};
 ghost use Rattle.uca_cli.specs.Command.{DoesAffected, DoesAudit, DoesCheck, DoesCommand, DoesCompare, DoesFingerprint, DoesKeys, DoesSort, DoesTailor, DoesWords, EndsWith, KeepsAndPrints, KeepsMade, MakesOpened, Prints, PrintsLines, files_of_tailor, made_table, streams};
-ghost use Rattle.uca_named_files.specs.NamedFiles.{affected_role, file_system};
+ghost use Rattle.uca_host.specs.NamedFiles.{affected_role, file_system};
 ghost use Rattle.uca_tailor_runs.specs.TailorRun.{TailorsFiles};
 
 use crate::change_commands::{audit_changes, changes, rekey};
@@ -14,10 +14,9 @@ use std::io::{Read, Write};
 use uca_certificates::Certificate;
 use uca_change_runs::run_affected_by_changes;
 use uca_fingerprint_runs::run_fingerprint;
-use uca_named_files::Opens;
-use uca_named_files::keeping::{find_certificate, keep_certificate};
-use uca_named_files::opening::{open_audit_files, open_files, open_three, open_two};
-use uca_reports::report;
+use uca_host::files::keeping::{find_certificate, keep_certificate};
+use uca_host::files::opening::{open_audit_files, open_files, open_three, open_two};
+use uca_host::{Opens, report};
 use uca_run_parts::faults::{Role, RunFault};
 use uca_run_parts::{run_affected, run_check};
 use uca_runs::{run_compare, run_headed_keys, run_headed_lines, run_keyed_lines, run_keys};

@@ -1,6 +1,6 @@
 //! The command: it opens the files that its arguments name, runs over them, and reports what comes of it. The runs are those of
 //! `uca_run_parts`, `uca_runs`, `uca_sort_runs`, `uca_tailor_runs`, `uca_change_runs`, `uca_rekey` and `uca_fingerprint_runs`, and the reports those of
-//! `uca_reports`.
+//! `uca_host`.
 #![tactic(auto)]
 
 mod change_commands;
@@ -14,11 +14,10 @@ pub use uca_change_runs::{
     run_audit_changes, run_audit_changes_in, run_changes, run_changes_in,
 };
 pub use uca_fingerprint_runs::run_fingerprint;
-pub use uca_named_files::{MakeFault, OpenFault, Opens};
+pub use uca_host::{MakeFault, OpenFault, Opens, STREAM_FAILED, report};
 pub use uca_rekey::{
     lines_move_with_keys, run_headed_rekey, run_headed_rekey_in, run_rekey, run_rekey_in,
 };
-pub use uca_reports::{STREAM_FAILED, report};
 pub use uca_run_parts::{
     Affects, FileFault, InputKind, Role, RunFault, StoredKeyKind, print_affected, run_affected,
     run_affected_in, run_check,

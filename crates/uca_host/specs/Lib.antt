@@ -1,0 +1,3 @@
+pub mod NamedFiles
+pub mod Statuses
+pub mod Reports
