@@ -25,7 +25,7 @@ pub(crate) fn changes<O: Opens, W: Write>(
     words: &ChangesWords,
     out: &mut Sink<W>,
 ) -> Result<u8, RunFault>
-    ensures { DoesChanges (file_system O.open_gives O.same_gives O.create_gives O.keep_gives O.remove_gives O.File.remaining O.Made.contents)
+    ensures { DoesChanges (file_system O.calls O.File.remaining O.Made.contents)
         opener.old opener.new words.now out.old out.new result }
 {
     match find_certificate_of_editions(opener, &words.editions, words.certificate) {
@@ -42,7 +42,7 @@ fn change_files<O: Opens, W: Write>(
     certificate: &str,
     out: &mut Sink<W>,
 ) -> Result<u8, RunFault>
-    ensures { MakesOpened (file_system O.open_gives O.same_gives O.create_gives O.keep_gives O.remove_gives O.File.remaining O.Made.contents)
+    ensures { MakesOpened (file_system O.calls O.File.remaining O.Made.contents)
         opener.old opener.new (edition_files names.now) certificate.now Finds made_changes out.old out.new result }
 {
     match open_editions(opener, names) {
@@ -69,7 +69,7 @@ fn keep_run<O: Opens, W: Write>(
     name: &str,
     out: &mut Sink<W>,
 ) -> Result<u8, RunFault>
-    ensures { KeepsMade (file_system O.open_gives O.same_gives O.create_gives O.keep_gives O.remove_gives O.File.remaining O.Made.contents)
+    ensures { KeepsMade (file_system O.calls O.File.remaining O.Made.contents)
         opener.old opener.new name.now out.old out.new made_changes run result }
 {
     match run {
@@ -89,7 +89,7 @@ fn keep_found<O: Opens, W: Write>(
     name: &str,
     out: &mut Sink<W>,
 ) -> Result<u8, RunFault>
-    ensures { KeepsAndPrints (file_system O.open_gives O.same_gives O.create_gives O.keep_gives O.remove_gives O.File.remaining O.Made.contents)
+    ensures { KeepsAndPrints (file_system O.calls O.File.remaining O.Made.contents)
         opener.old opener.new name.now (made_changes found.now) out.old out.new result }
 {
     keep_certificate(opener, &found.certificate, name)?;
@@ -103,7 +103,7 @@ pub(crate) fn audit_changes<O: Opens, W: Write>(
     words: &AuditChangesWords,
     out: &mut Sink<W>,
 ) -> Result<u8, RunFault>
-    ensures { DoesAuditChanges (file_system O.open_gives O.same_gives O.create_gives O.keep_gives O.remove_gives O.File.remaining O.Made.contents)
+    ensures { DoesAuditChanges (file_system O.calls O.File.remaining O.Made.contents)
         opener.old opener.new words.now out.old out.new result }
 {
     match open_change_files(opener, &words.editions, words.changes, words.certificate) {
@@ -133,9 +133,8 @@ pub(crate) fn rekey<O: Opens, I: Read, W: Write>(
     input: &mut Source<I>,
     out: &mut Sink<W>,
 ) -> Result<u8, RunFault>
-    ensures { DoesRekey (file_system O.open_gives O.same_gives O.create_gives O.keep_gives O.remove_gives O.File.remaining O.Made.contents)
-        opener.old opener.new words.now
-        (streams input.old out.old) (streams input.new out.new) result }
+    ensures { DoesRekey (file_system O.calls O.File.remaining O.Made.contents)
+        opener.old opener.new words.now (streams input.old out.old) (streams input.new out.new) result }
 {
     match open_one(opener, Role::Certificate, words.certificate) {
         Ok(mut certificate) => {

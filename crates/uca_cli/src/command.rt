@@ -36,7 +36,7 @@ fn check<O: Opens, W: Write>(
     words: &CheckWords,
     out: &mut Sink<W>,
 ) -> Result<u8, RunFault>
-    ensures { DoesCheck (file_system O.open_gives O.same_gives O.create_gives O.keep_gives O.remove_gives O.File.remaining O.Made.contents)
+    ensures { DoesCheck (file_system O.calls O.File.remaining O.Made.contents)
         opener.old opener.new words.now out.old out.new result }
 {
     match open_files(opener, words.table, words.properties) {
@@ -55,9 +55,8 @@ fn keys<O: Opens, I: Read, W: Write>(
     input: &mut Source<I>,
     out: &mut Sink<W>,
 ) -> Result<u8, RunFault>
-    ensures { DoesKeys (file_system O.open_gives O.same_gives O.create_gives O.keep_gives O.remove_gives O.File.remaining O.Made.contents)
-        opener.old opener.new words.now
-        (streams input.old out.old) (streams input.new out.new) result }
+    ensures { DoesKeys (file_system O.calls O.File.remaining O.Made.contents)
+        opener.old opener.new words.now (streams input.old out.old) (streams input.new out.new) result }
 {
     match open_files(opener, words.table, words.properties) {
         Ok((mut table, mut properties)) => {
@@ -102,9 +101,8 @@ fn sort<O: Opens, I: Read, W: Write>(
     input: &mut Source<I>,
     out: &mut Sink<W>,
 ) -> Result<u8, RunFault>
-    ensures { DoesSort (file_system O.open_gives O.same_gives O.create_gives O.keep_gives O.remove_gives O.File.remaining O.Made.contents)
-        opener.old opener.new words.now
-        (streams input.old out.old) (streams input.new out.new) result }
+    ensures { DoesSort (file_system O.calls O.File.remaining O.Made.contents)
+        opener.old opener.new words.now (streams input.old out.old) (streams input.new out.new) result }
 {
     match open_files(opener, words.table, words.properties) {
         Ok((mut table, mut properties)) => done(run_sort(
@@ -127,7 +125,7 @@ fn compare<O: Opens, W: Write>(
     words: &CompareWords,
     out: &mut Sink<W>,
 ) -> Result<u8, RunFault>
-    ensures { DoesCompare (file_system O.open_gives O.same_gives O.create_gives O.keep_gives O.remove_gives O.File.remaining O.Made.contents)
+    ensures { DoesCompare (file_system O.calls O.File.remaining O.Made.contents)
         opener.old opener.new words.now out.old out.new result }
 {
     match open_files(opener, words.table, words.properties) {
@@ -152,7 +150,7 @@ fn fingerprint<O: Opens, W: Write>(
     words: &FingerprintWords,
     out: &mut Sink<W>,
 ) -> Result<u8, RunFault>
-    ensures { DoesFingerprint (file_system O.open_gives O.same_gives O.create_gives O.keep_gives O.remove_gives O.File.remaining O.Made.contents)
+    ensures { DoesFingerprint (file_system O.calls O.File.remaining O.Made.contents)
         opener.old opener.new words.now out.old out.new result }
 {
     match open_files(opener, words.table, words.properties) {
@@ -175,7 +173,7 @@ fn tailor<O: Opens, W: Write>(
     words: &TailorWords,
     out: &mut Sink<W>,
 ) -> Result<u8, RunFault>
-    ensures { DoesTailor (file_system O.open_gives O.same_gives O.create_gives O.keep_gives O.remove_gives O.File.remaining O.Made.contents)
+    ensures { DoesTailor (file_system O.calls O.File.remaining O.Made.contents)
         opener.old opener.new words.now out.old out.new result }
 {
     match find_certificate(
@@ -197,9 +195,8 @@ fn tailor_files<O: Opens, W: Write>(
     words: &TailorWords,
     out: &mut Sink<W>,
 ) -> Result<u8, RunFault>
-    ensures { MakesOpened (file_system O.open_gives O.same_gives O.create_gives O.keep_gives O.remove_gives O.File.remaining O.Made.contents)
-        opener.old opener.new (files_of_tailor words.now) words.now.certificate.now
-        TailorsFiles made_table out.old out.new result }
+    ensures { MakesOpened (file_system O.calls O.File.remaining O.Made.contents)
+        opener.old opener.new (files_of_tailor words.now) words.now.certificate.now TailorsFiles made_table out.old out.new result }
 {
     match open_three(
         opener,
@@ -225,7 +222,7 @@ fn keep_run<O: Opens, W: Write>(
     name: &str,
     out: &mut Sink<W>,
 ) -> Result<u8, RunFault>
-    ensures { KeepsMade (file_system O.open_gives O.same_gives O.create_gives O.keep_gives O.remove_gives O.File.remaining O.Made.contents)
+    ensures { KeepsMade (file_system O.calls O.File.remaining O.Made.contents)
         opener.old opener.new name.now out.old out.new made_table run result }
 {
     match run {
@@ -247,7 +244,7 @@ fn keep_tailored<O: Opens, W: Write>(
     name: &str,
     out: &mut Sink<W>,
 ) -> Result<u8, RunFault>
-    ensures { KeepsAndPrints (file_system O.open_gives O.same_gives O.create_gives O.keep_gives O.remove_gives O.File.remaining O.Made.contents)
+    ensures { KeepsAndPrints (file_system O.calls O.File.remaining O.Made.contents)
         opener.old opener.new name.now (made_table (table.now, certificate.now)) out.old out.new result }
 {
     keep_certificate(opener, certificate, name)?;
@@ -261,7 +258,7 @@ fn audit<O: Opens, W: Write>(
     words: &AuditWords,
     out: &mut Sink<W>,
 ) -> Result<u8, RunFault>
-    ensures { DoesAudit (file_system O.open_gives O.same_gives O.create_gives O.keep_gives O.remove_gives O.File.remaining O.Made.contents)
+    ensures { DoesAudit (file_system O.calls O.File.remaining O.Made.contents)
         opener.old opener.new words.now out.old out.new result }
 {
     match open_audit_files(
@@ -297,9 +294,8 @@ fn affected<O: Opens, I: Read, W: Write>(
     input: &mut Source<I>,
     out: &mut Sink<W>,
 ) -> Result<u8, RunFault>
-    ensures { DoesAffected (file_system O.open_gives O.same_gives O.create_gives O.keep_gives O.remove_gives O.File.remaining O.Made.contents)
-        opener.old opener.new words.now
-        (streams input.old out.old) (streams input.new out.new) result }
+    ensures { DoesAffected (file_system O.calls O.File.remaining O.Made.contents)
+        opener.old opener.new words.now (streams input.old out.old) (streams input.new out.new) result }
 {
     match open_two(
         opener,
@@ -354,9 +350,8 @@ fn run_words<O: Opens, I: Read, W: Write>(
     input: &mut Source<I>,
     out: &mut Sink<W>,
 ) -> Result<u8, RunFault>
-    ensures { DoesWords (file_system O.open_gives O.same_gives O.create_gives O.keep_gives O.remove_gives O.File.remaining O.Made.contents)
-        opener.old opener.new asked.now
-        (streams input.old out.old) (streams input.new out.new) result }
+    ensures { DoesWords (file_system O.calls O.File.remaining O.Made.contents)
+        opener.old opener.new asked.now (streams input.old out.old) (streams input.new out.new) result }
 {
     match asked {
         Words::Check(words) => check(alloc, opener, words, out),
@@ -404,9 +399,8 @@ pub fn run_command<'a, O: Opens, I: Read, W: Write, E: Write>(
     out: &mut Sink<W>,
     err: &mut Sink<E>,
 ) -> u8
-    ensures { DoesCommand (file_system O.open_gives O.same_gives O.create_gives O.keep_gives O.remove_gives O.File.remaining O.Made.contents)
-        opener.old opener.new (texts words.entry.now)
-        (streams input.old out.old) (streams input.new out.new) err.old err.new result }
+    ensures { DoesCommand (file_system O.calls O.File.remaining O.Made.contents)
+        opener.old opener.new (texts words.entry.now) (streams input.old out.old) (streams input.new out.new) err.old err.new result }
 {
     match read_words(alloc, words) {
         Ok(asked) => {

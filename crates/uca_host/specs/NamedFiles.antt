@@ -10,38 +10,22 @@ use Rattle.uca_run_parts.specs.declared.faults.Role.{Role}
 use Rattle.uca_run_parts.specs.declared.faults.Role.TheVariants as roles
 use Rattle.uca_run_parts.specs.declared.faults.RunFault.{RunFault}
 use Rattle.uca_run_parts.specs.declared.faults.RunFault.TheVariants.{CertificateWrite, Memory}
+use Rattle.uca_host.specs.FileCalls.{FileCalls}
 use Rattle.uca_host.specs.declared.files.opens.OpenFault.{OpenFault}
 use Rattle.uca_host.specs.declared.files.opens.MakeFault.{MakeFault}
 use Rattle.uca_host.specs.declared.files.opens.MakeFault.TheVariants as make_fault
 
 -- ---- A file system
 
--- A file system, whose states are of O. It opens a file of a name, says whether two names are of one file, and makes a file
--- for a name. A file that was made is kept under the name, or removed. Then what the bytes of an opened file are, and those
--- of a file that was made.
+-- A file system: what is true of its calls, what the bytes of an opened file are, and those of a file that was made.
 pub record FileSystem (O F M : Type 0) : Type 1 where
-  pub gives : O → List ℕ → Result F OpenFault → O → Type 0
-  pub compares : O → List ℕ → List ℕ → Bool → O → Type 0
-  pub makes : O → List ℕ → Result M MakeFault → O → Type 0
-  pub keeps : O → M → List ℕ → Result (Unit {0}) MakeFault → O → Type 0
-  pub removes : O → M → O → Type 0
+  pub calls : FileCalls O F M
   pub remaining : F → Option (List ℕ)
   pub contents : M → Option (List ℕ)
 
 -- the same from its parts
-abbrev pub file_system : {O F M : Type 0} → (O → List ℕ → Result F OpenFault → O → Type 0)
-    → (O → List ℕ → List ℕ → Bool → O → Type 0) → (O → List ℕ → Result M MakeFault → O → Type 0)
-    → (O → M → List ℕ → Result (Unit {0}) MakeFault → O → Type 0) → (O → M → O → Type 0)
-    → (F → Option (List ℕ)) → (M → Option (List ℕ)) → FileSystem O F M
-file_system gives compares makes keeps removes remaining contents = record {
-  gives = gives;
-  compares = compares;
-  makes = makes;
-  keeps = keeps;
-  removes = removes;
-  remaining = remaining;
-  contents = contents;
-}
+abbrev pub file_system : {O F M : Type 0} → FileCalls O F M → (F → Option (List ℕ)) → (M → Option (List ℕ)) → FileSystem O F M
+file_system calls remaining contents = record { calls = calls; remaining = remaining; contents = contents }
 
 -- ---- The files of a subcommand
 
@@ -97,7 +81,7 @@ change_files names changes certificate =
 -- the file of this name was opened, and this is its source, and nothing of it was read
 abbrev pub IsOpened : {O F M : Type 0} → FileSystem O F M → O → O → List ℕ → SourceState → Type 0
 IsOpened {F = F} files old new name source =
-    (file : F) × files.gives old name (Ok file) new
+    (file : F) × files.calls.gives old name (Ok file) new
     × (source ≡ record { remaining = files.remaining file; failed = false })
 
 -- the files were opened in this order, and these are their sources
@@ -111,7 +95,7 @@ AreOpened files old new _ _ = ⊥
 abbrev pub DoesNotOpen : {O F M : Type 0} → FileSystem O F M → O → O → List NamedFile → Role → Type 0
 DoesNotOpen files old new [] role = ⊥
 DoesNotOpen {O = O} files old new (file ∷ named) role =
-    ((role ≡ file.role) × (fault : OpenFault) × files.gives old file.name (Err fault) new)
+    ((role ≡ file.role) × (fault : OpenFault) × files.calls.gives old file.name (Err fault) new)
     ⊎ ((between : O) × (source : SourceState) × IsOpened files old between file.name source
     × DoesNotOpen files between new named role)
 
@@ -120,7 +104,7 @@ DoesNotOpen {O = O} files old new (file ∷ named) role =
 -- whether a name is that of the certificate: the names are equal, or the file system says that they are of one file
 abbrev pub IsCertificate : {O F M : Type 0} → FileSystem O F M → O → O → List ℕ → List ℕ → Bool → Type 0
 IsCertificate files old new name certificate same = ((name ≡ certificate) × (same ≡ true) × (new ≡ old))
-    ⊎ ((name ≢ certificate) × files.compares old name certificate same new)
+    ⊎ ((name ≢ certificate) × files.calls.compares old name certificate same new)
 
 -- none of these files is the certificate's
 abbrev pub AreOthers : {O F M : Type 0} → FileSystem O F M → O → O → List NamedFile → List ℕ → Type 0
@@ -151,9 +135,9 @@ kept_result (Err fault) = Err (make_fault_of fault)
 abbrev pub EndsFile : {O F M : Type 0} → FileSystem O F M → O → O → M → List ℕ → Result (Unit {0}) WriteFault
     → Result (Unit {0}) RunFault → Type 0
 EndsFile files old new file name (Ok done) result = (kept : Result (Unit {0}) MakeFault)
-    × files.keeps old file name kept new × (result ≡ kept_result kept)
+    × files.calls.keeps old file name kept new × (result ≡ kept_result kept)
 EndsFile files old new file name (Err fault) result =
-    files.removes old file new × (result ≡ Err (CertificateWrite fault.written))
+    files.calls.removes old file new × (result ≡ Err (CertificateWrite fault.written))
 
 -- A file was made for this name, and the certificate was written to it, or as much of it as a writer that fails leaves.
 -- Then the file is kept or removed. `file` is what was made, and `file_new` the same after the writing.
@@ -161,7 +145,7 @@ pub record WritesFile {O F M : Type 0} (files : FileSystem O F M) (old new : O) 
     (certificate : CertificateContent) (result : Result (Unit {0}) RunFault) : Type 0 where
   pub file : M
   pub between : O
-  pub made : files.makes old name (Ok file) between
+  pub made : files.calls.makes old name (Ok file) between
   pub sink : SinkState
   pub written : Result (Unit {0}) WriteFault
   pub writes : Writes (files.contents file) sink.contents (certificate_text certificate) written
@@ -174,7 +158,7 @@ pub record WritesFile {O F M : Type 0} (files : FileSystem O F M) (old new : O) 
 -- no file can be made for this name
 abbrev pub DoesNotMake : {O F M : Type 0} → FileSystem O F M → O → O → List ℕ → Result (Unit {0}) RunFault → Type 0
 DoesNotMake files old new name result =
-    (fault : MakeFault) × files.makes old name (Err fault) new × (result ≡ Err (make_fault_of fault))
+    (fault : MakeFault) × files.calls.makes old name (Err fault) new × (result ≡ Err (make_fault_of fault))
 
 -- the certificate is written to a file that is made for this name, and that is kept under it only as a whole
 abbrev pub KeepsCertificate : {O F M : Type 0} → FileSystem O F M → O → O → List ℕ → CertificateContent

@@ -12,7 +12,7 @@ use uca_words::EditionNames;
 
 // Whether this name is that of the certificate: the names are equal, or they are of one file.
 fn is_certificate<O: Opens>(opener: &mut O, name: &str, certificate: &str) -> bool
-    ensures { IsCertificate (file_system O.open_gives O.same_gives O.create_gives O.keep_gives O.remove_gives O.File.remaining O.Made.contents)
+    ensures { IsCertificate (file_system O.calls O.File.remaining O.Made.contents)
         opener.old opener.new name.now certificate.now result }
 {
     name == certificate || opener.is_same(name, certificate)
@@ -27,9 +27,9 @@ pub fn find_certificate<O: Opens>(
     certificate: &str,
 ) -> Result<(), Role>
     ensures { MatchResult result
-        (λ done. AreOthers (file_system O.open_gives O.same_gives O.create_gives O.keep_gives O.remove_gives O.File.remaining O.Made.contents)
+        (λ done. AreOthers (file_system O.calls O.File.remaining O.Made.contents)
         opener.old opener.new (tailor_files table.now properties.now rules.now) certificate.now)
-        (IsFirstSame (file_system O.open_gives O.same_gives O.create_gives O.keep_gives O.remove_gives O.File.remaining O.Made.contents)
+        (IsFirstSame (file_system O.calls O.File.remaining O.Made.contents)
         opener.old opener.new (tailor_files table.now properties.now rules.now) certificate.now) }
 {
     if is_certificate(opener, table, certificate) {
@@ -51,9 +51,9 @@ pub fn find_certificate_of_editions<O: Opens>(
     certificate: &str,
 ) -> Result<(), Role>
     ensures { MatchResult result
-        (λ done. AreOthers (file_system O.open_gives O.same_gives O.create_gives O.keep_gives O.remove_gives O.File.remaining O.Made.contents)
+        (λ done. AreOthers (file_system O.calls O.File.remaining O.Made.contents)
         opener.old opener.new (edition_files names.now) certificate.now)
-        (IsFirstSame (file_system O.open_gives O.same_gives O.create_gives O.keep_gives O.remove_gives O.File.remaining O.Made.contents)
+        (IsFirstSame (file_system O.calls O.File.remaining O.Made.contents)
         opener.old opener.new (edition_files names.now) certificate.now) }
 {
     if is_certificate(opener, names.old, certificate) {
@@ -88,7 +88,7 @@ fn end_file<O: Opens>(
     name: &str,
     written: Result<(), WriteFault>,
 ) -> Result<(), RunFault>
-    ensures { EndsFile (file_system O.open_gives O.same_gives O.create_gives O.keep_gives O.remove_gives O.File.remaining O.Made.contents)
+    ensures { EndsFile (file_system O.calls O.File.remaining O.Made.contents)
         opener.old opener.new file name.now written result }
 {
     match written {
@@ -106,7 +106,7 @@ pub fn keep_certificate<O: Opens>(
     certificate: &Certificate,
     name: &str,
 ) -> Result<(), RunFault>
-    ensures { KeepsCertificate (file_system O.open_gives O.same_gives O.create_gives O.keep_gives O.remove_gives O.File.remaining O.Made.contents)
+    ensures { KeepsCertificate (file_system O.calls O.File.remaining O.Made.contents)
         opener.old opener.new name.now certificate.now result }
 {
     let file = match opener.create(name) {

@@ -12,9 +12,9 @@ use uca_words::EditionNames;
 /// The source of a file, or its role if it does not open.
 pub fn open_one<O: Opens>(opener: &mut O, role: Role, name: &str) -> Result<Source<O::File>, Role>
     ensures { MatchResult result
-        (λ source. AreOpened (file_system O.open_gives O.same_gives O.create_gives O.keep_gives O.remove_gives O.File.remaining O.Made.contents)
+        (λ source. AreOpened (file_system O.calls O.File.remaining O.Made.contents)
         opener.old opener.new (file_for role name.now ∷ []) (source ∷ []))
-        (DoesNotOpen (file_system O.open_gives O.same_gives O.create_gives O.keep_gives O.remove_gives O.File.remaining O.Made.contents)
+        (DoesNotOpen (file_system O.calls O.File.remaining O.Made.contents)
         opener.old opener.new (file_for role name.now ∷ [])) }
 {
     match opener.open(name) {
@@ -32,9 +32,9 @@ pub fn open_two<O: Opens>(
     second_name: &str,
 ) -> Result<(Source<O::File>, Source<O::File>), Role>
     ensures { MatchResult result
-        (λ files. AreOpened (file_system O.open_gives O.same_gives O.create_gives O.keep_gives O.remove_gives O.File.remaining O.Made.contents)
+        (λ files. AreOpened (file_system O.calls O.File.remaining O.Made.contents)
         opener.old opener.new (file_for first first_name.now ∷ file_for second second_name.now ∷ []) (files.0 ∷ files.1 ∷ []))
-        (DoesNotOpen (file_system O.open_gives O.same_gives O.create_gives O.keep_gives O.remove_gives O.File.remaining O.Made.contents)
+        (DoesNotOpen (file_system O.calls O.File.remaining O.Made.contents)
         opener.old opener.new (file_for first first_name.now ∷ file_for second second_name.now ∷ [])) }
 {
     let Ok(one) = opener.open(first_name) else {
@@ -54,9 +54,9 @@ pub fn open_files<O: Opens>(
     properties: &str,
 ) -> Result<(Source<O::File>, Source<O::File>), Role>
     ensures { MatchResult result
-        (λ files. AreOpened (file_system O.open_gives O.same_gives O.create_gives O.keep_gives O.remove_gives O.File.remaining O.Made.contents)
+        (λ files. AreOpened (file_system O.calls O.File.remaining O.Made.contents)
         opener.old opener.new (table_and_data table.now properties.now) (files.0 ∷ files.1 ∷ []))
-        (DoesNotOpen (file_system O.open_gives O.same_gives O.create_gives O.keep_gives O.remove_gives O.File.remaining O.Made.contents)
+        (DoesNotOpen (file_system O.calls O.File.remaining O.Made.contents)
         opener.old opener.new (table_and_data table.now properties.now)) }
 {
     open_two(opener, Role::Table, table, Role::Data, properties)
@@ -73,10 +73,10 @@ pub fn open_three<O: Opens>(
     third_name: &str,
 ) -> Result<(Source<O::File>, Source<O::File>, Source<O::File>), Role>
     ensures { MatchResult result
-        (λ files. AreOpened (file_system O.open_gives O.same_gives O.create_gives O.keep_gives O.remove_gives O.File.remaining O.Made.contents)
+        (λ files. AreOpened (file_system O.calls O.File.remaining O.Made.contents)
         opener.old opener.new (file_for first first_name.now ∷ file_for second second_name.now ∷ file_for third third_name.now ∷ [])
         (files.0 ∷ files.1 ∷ files.2 ∷ []))
-        (DoesNotOpen (file_system O.open_gives O.same_gives O.create_gives O.keep_gives O.remove_gives O.File.remaining O.Made.contents)
+        (DoesNotOpen (file_system O.calls O.File.remaining O.Made.contents)
         opener.old opener.new (file_for first first_name.now ∷ file_for second second_name.now ∷ file_for third third_name.now ∷ [])) }
 {
     match open_two(opener, first, first_name, second, second_name) {
@@ -108,10 +108,10 @@ pub fn open_audit_files<O: Opens>(
     certificate: &str,
 ) -> Result<OpenedAudit<O::File>, Role>
     ensures { MatchResult result
-        (λ files. AreOpened (file_system O.open_gives O.same_gives O.create_gives O.keep_gives O.remove_gives O.File.remaining O.Made.contents)
+        (λ files. AreOpened (file_system O.calls O.File.remaining O.Made.contents)
         opener.old opener.new (audit_files base.now data_file.now rules.now tailored.now certificate.now)
         (files.base ∷ files.properties ∷ files.rules ∷ files.tailored ∷ files.certificate ∷ []))
-        (DoesNotOpen (file_system O.open_gives O.same_gives O.create_gives O.keep_gives O.remove_gives O.File.remaining O.Made.contents)
+        (DoesNotOpen (file_system O.calls O.File.remaining O.Made.contents)
         opener.old opener.new (audit_files base.now data_file.now rules.now tailored.now certificate.now)) }
 {
     match open_three(
@@ -159,10 +159,9 @@ pub fn open_editions<O: Opens>(
     names: &EditionNames,
 ) -> Result<OpenedEditions<O::File>, Role>
     ensures { MatchResult result
-        (λ files. AreOpened (file_system O.open_gives O.same_gives O.create_gives O.keep_gives O.remove_gives O.File.remaining O.Made.contents)
+        (λ files. AreOpened (file_system O.calls O.File.remaining O.Made.contents)
         opener.old opener.new (edition_files names.now) (files.old ∷ files.old_data ∷ files.new ∷ files.new_data ∷ []))
-        (DoesNotOpen (file_system O.open_gives O.same_gives O.create_gives O.keep_gives O.remove_gives O.File.remaining O.Made.contents)
-        opener.old opener.new (edition_files names.now)) }
+        (DoesNotOpen (file_system O.calls O.File.remaining O.Made.contents) opener.old opener.new (edition_files names.now)) }
 {
     match open_two(opener, Role::Old, names.old, Role::OldData, names.old_data) {
         Ok((old, old_data)) => match open_two(
@@ -201,10 +200,10 @@ pub fn open_change_files<O: Opens>(
     certificate: &str,
 ) -> Result<OpenedChange<O::File>, Role>
     ensures { MatchResult result
-        (λ files. AreOpened (file_system O.open_gives O.same_gives O.create_gives O.keep_gives O.remove_gives O.File.remaining O.Made.contents)
+        (λ files. AreOpened (file_system O.calls O.File.remaining O.Made.contents)
         opener.old opener.new (change_files names.now changes.now certificate.now)
         (files.editions.old ∷ files.editions.old_data ∷ files.editions.new ∷ files.editions.new_data ∷ files.changes ∷ files.certificate ∷ []))
-        (DoesNotOpen (file_system O.open_gives O.same_gives O.create_gives O.keep_gives O.remove_gives O.File.remaining O.Made.contents)
+        (DoesNotOpen (file_system O.calls O.File.remaining O.Made.contents)
         opener.old opener.new (change_files names.now changes.now certificate.now)) }
 {
     match open_editions(opener, names) {

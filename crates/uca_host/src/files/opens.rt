@@ -1,8 +1,6 @@
 //! What a command needs of a file system.
 
-ghost use Rattle.std.specs.Prelude.{⊤, ℕ, Bool, List, Result};
-ghost use Rattle.uca_host.specs.declared.files.opens.OpenFault.{OpenFault};
-ghost use Rattle.uca_host.specs.declared.files.opens.MakeFault.{MakeFault};
+ghost use Rattle.uca_host.specs.FileCalls.{FileCalls, unsaid_calls};
 
 use std::io::{Read, Write};
 use thiserror::Error;
@@ -34,20 +32,8 @@ pub trait Opens {
     /// A file that was made, and is not kept yet.
     type Made: Write + Drop;
 
-    // What is true of the opener before a call, the name, the result and the opener after, if the impl says it.
-    ghost open_gives: { Self → List ℕ → Result Self.File OpenFault → Self → Type 0 } = { λ _ _ _ _. ⊤ };
-
-    // The same for a call that compares two names.
-    ghost same_gives: { Self → List ℕ → List ℕ → Bool → Self → Type 0 } = { λ _ _ _ _ _. ⊤ };
-
-    // The same for a call that makes a file.
-    ghost create_gives: { Self → List ℕ → Result Self.Made MakeFault → Self → Type 0 } = { λ _ _ _ _. ⊤ };
-
-    // The same for a call that keeps a file under a name.
-    ghost keep_gives: { Self → Self.Made → List ℕ → Result (Unit {0}) MakeFault → Self → Type 0 } = { λ _ _ _ _ _. ⊤ };
-
-    // The same for a call that removes a file.
-    ghost remove_gives: { Self → Self.Made → Self → Type 0 } = { λ _ _ _. ⊤ };
+    // What is true of each call: of the opener before it, its arguments, its result and the opener after, if the impl says it.
+    ghost calls: { FileCalls Self Self.File Self.Made } = { unsaid_calls };
 
     /// Opens the file of this name to be read.
     ///
@@ -55,12 +41,12 @@ pub trait Opens {
     ///
     /// `OpenFault` if the file does not open.
     fn open(&mut self, name: &str) -> Result<Self::File, OpenFault>
-        ensures { open_gives self.old name.now result self.new };
+        ensures { calls.gives self.old name.now result self.new };
 
     /// Whether two names that differ are of one file, so that writing to the one changes the other. Where it cannot be
     /// told, the result is `false`. It opens no file.
     fn is_same(&mut self, left: &str, right: &str) -> bool
-        ensures { same_gives self.old left.now right.now result self.new };
+        ensures { calls.compares self.old left.now right.now result self.new };
 
     /// Makes a file to be written, which is to have this name. It gets the name by `keep`.
     ///
@@ -68,7 +54,7 @@ pub trait Opens {
     ///
     /// `Write` where the file cannot be made, and `Memory` where an allocation failed.
     fn create(&mut self, name: &str) -> Result<Self::Made, MakeFault>
-        ensures { create_gives self.old name.now result self.new };
+        ensures { calls.makes self.old name.now result self.new };
 
     /// Closes a file that was made for this name, and gives it the name, in place of a file that has it.
     ///
@@ -76,9 +62,9 @@ pub trait Opens {
     ///
     /// `Write` where the file cannot have the name, and `Memory` where an allocation failed. Then the file is removed.
     fn keep(&mut self, file: Self::Made, name: &str) -> Result<(), MakeFault>
-        ensures { keep_gives self.old file name.now result self.new };
+        ensures { calls.keeps self.old file name.now result self.new };
 
     /// Closes a file that was made, and removes it.
     fn remove(&mut self, file: Self::Made)
-        ensures { remove_gives self.old file self.new };
+        ensures { calls.removes self.old file self.new };
 }

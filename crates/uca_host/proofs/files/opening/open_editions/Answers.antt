@@ -7,9 +7,7 @@ use Rattle.uca_host.proofs.files.opening.open_editions.Goals as goal
 
 pub returns-in-Ok-open_two : goal.returns-in-Ok-open_two
 returns-in-Ok-open_two g c =
-    let files =
-    file_system g.O.Opens.open_gives g.O.Opens.same_gives g.O.Opens.create_gives g.O.Opens.keep_gives g.O.Opens.remove_gives g.O.File.Read.remaining
-    g.O.Made.Write.contents in
+    let files = file_system g.O.Opens.calls g.O.File.Read.remaining g.O.Made.Write.contents in
     opened_after files
     (file_for roles.Old c.args.names.now.old.now ∷ file_for roles.OldData c.args.names.now.old_data.now ∷ [])
     (file_for roles.New c.args.names.now.new.now ∷ file_for roles.NewData c.args.names.now.new_data.now ∷ [])
@@ -18,9 +16,7 @@ returns-in-Ok-open_two g c =
 
 pub returns-in-Err-open_two : goal.returns-in-Err-open_two
 returns-in-Err-open_two g c =
-    let files =
-    file_system g.O.Opens.open_gives g.O.Opens.same_gives g.O.Opens.create_gives g.O.Opens.keep_gives g.O.Opens.remove_gives g.O.File.Read.remaining
-    g.O.Made.Write.contents in
+    let files = file_system g.O.Opens.calls g.O.File.Read.remaining g.O.Made.Write.contents in
     fails_after files
     (file_for roles.Old c.args.names.now.old.now ∷ file_for roles.OldData c.args.names.now.old_data.now ∷ [])
     (file_for roles.New c.args.names.now.new.now ∷ file_for roles.NewData c.args.names.now.new_data.now ∷ [])
@@ -29,9 +25,7 @@ returns-in-Err-open_two g c =
 
 pub returns-in-Err : goal.returns-in-Err
 returns-in-Err g c =
-    let files =
-    file_system g.O.Opens.open_gives g.O.Opens.same_gives g.O.Opens.create_gives g.O.Opens.keep_gives g.O.Opens.remove_gives g.O.File.Read.remaining
-    g.O.Made.Write.contents in
+    let files = file_system g.O.Opens.calls g.O.File.Read.remaining g.O.Made.Write.contents in
     fails_before files
     (file_for roles.Old c.args.names.now.old.now ∷ file_for roles.OldData c.args.names.now.old_data.now ∷ [])
     (file_for roles.New c.args.names.now.new.now ∷ file_for roles.NewData c.args.names.now.new_data.now ∷ [])

@@ -6,9 +6,7 @@ use Rattle.uca_host.proofs.files.opening.open_three.Goals as goal
 
 pub returns-in-Ok-open_one : goal.returns-in-Ok-open_one
 returns-in-Ok-open_one g c =
-    let files =
-    file_system g.O.Opens.open_gives g.O.Opens.same_gives g.O.Opens.create_gives g.O.Opens.keep_gives g.O.Opens.remove_gives g.O.File.Read.remaining
-    g.O.Made.Write.contents in
+    let files = file_system g.O.Opens.calls g.O.File.Read.remaining g.O.Made.Write.contents in
     opened_after files
     (file_for c.args.first c.args.first_name.now ∷ file_for c.args.second c.args.second_name.now ∷ [])
     (file_for c.args.third c.args.third_name.now ∷ [])
@@ -17,9 +15,7 @@ returns-in-Ok-open_one g c =
 
 pub returns-in-Err-open_one : goal.returns-in-Err-open_one
 returns-in-Err-open_one g c =
-    let files =
-    file_system g.O.Opens.open_gives g.O.Opens.same_gives g.O.Opens.create_gives g.O.Opens.keep_gives g.O.Opens.remove_gives g.O.File.Read.remaining
-    g.O.Made.Write.contents in
+    let files = file_system g.O.Opens.calls g.O.File.Read.remaining g.O.Made.Write.contents in
     fails_after files
     (file_for c.args.first c.args.first_name.now ∷ file_for c.args.second c.args.second_name.now ∷ [])
     (file_for c.args.third c.args.third_name.now ∷ [])
@@ -28,9 +24,7 @@ returns-in-Err-open_one g c =
 
 pub returns-in-Err : goal.returns-in-Err
 returns-in-Err g c =
-    let files =
-    file_system g.O.Opens.open_gives g.O.Opens.same_gives g.O.Opens.create_gives g.O.Opens.keep_gives g.O.Opens.remove_gives g.O.File.Read.remaining
-    g.O.Made.Write.contents in
+    let files = file_system g.O.Opens.calls g.O.File.Read.remaining g.O.Made.Write.contents in
     fails_before files
     (file_for c.args.first c.args.first_name.now ∷ file_for c.args.second c.args.second_name.now ∷ [])
     (file_for c.args.third c.args.third_name.now ∷ [])
