@@ -5,9 +5,9 @@ use std::alloc::AllocError;
 use std::io::{Stderr, Stdout};
 use std::process::ExitCode;
 use uca_cli::{RunFault, STREAM_FAILED, report, run_command};
-use uca_named_files::arguments::{given_words, words_of};
-use uca_named_files::standard_streams::hold_standard_streams;
-use uca_named_files::system::SystemFiles;
+use uca_host::arguments::{given_words, words_of};
+use uca_host::files::system::SystemFiles;
+use uca_host::standard_streams::hold_standard_streams;
 use uca_weights::{Sink, Source};
 
 fn main(rt: HostRuntime) -> ExitCode {

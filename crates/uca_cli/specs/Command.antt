@@ -45,11 +45,11 @@ use Rattle.uca_change_runs.specs.AffectedRun.{PrintsAffectedByChanges}
 use Rattle.uca_rekey.specs.HeadedRun.{RekeysHeaded}
 use Rattle.uca_rekey.specs.RekeyRun.{RekeysLines}
 use Rattle.uca_fingerprint_runs.specs.FingerprintRun.{PrintsFingerprint}
-use Rattle.uca_named_files.specs.NamedFiles.{FileSystem, NamedFile, file_for, table_and_data, tailor_files, affected_files, audit_files, edition_files, change_files, AreOpened, DoesNotOpen, AreOthers, IsFirstSame, KeepsCertificate}
+use Rattle.uca_host.specs.NamedFiles.{FileSystem, NamedFile, file_for, table_and_data, tailor_files, affected_files, audit_files, edition_files, change_files, AreOpened, DoesNotOpen, AreOthers, IsFirstSame, KeepsCertificate}
 use Rattle.uca_tailor_runs.specs.AuditRun.{Audits}
 use Rattle.uca_tailor_runs.specs.TailorRun.{TailorsFiles}
-use Rattle.uca_reports.specs.Reports.{Reports}
-use Rattle.uca_reports.specs.Statuses.{IsStatus}
+use Rattle.uca_host.specs.Reports.{Reports}
+use Rattle.uca_host.specs.Statuses.{IsStatus}
 
 -- ---- What a command works with
 

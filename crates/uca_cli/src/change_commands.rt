@@ -2,7 +2,7 @@
 
 ghost use Rattle.std.specs.Prelude.{◌∷◌, []};
 ghost use Rattle.uca_cli.specs.Command.{DoesAuditChanges, DoesChanges, DoesRekey, Finds, KeepsAndPrints, KeepsMade, MakesOpened, Rekeys, made_changes, streams};
-ghost use Rattle.uca_named_files.specs.NamedFiles.{edition_files, file_system};
+ghost use Rattle.uca_host.specs.NamedFiles.{edition_files, file_system};
 
 use crate::printing::print_changes;
 use crate::statuses::{checked, done};
@@ -10,9 +10,9 @@ use std::alloc::Global;
 use std::io::{Read, Write};
 use uca_change_runs::{run_audit_changes, run_changes};
 use uca_editions::FoundChanges;
-use uca_named_files::Opens;
-use uca_named_files::keeping::{find_certificate_of_editions, keep_certificate};
-use uca_named_files::opening::{open_change_files, open_editions, open_one};
+use uca_host::Opens;
+use uca_host::files::keeping::{find_certificate_of_editions, keep_certificate};
+use uca_host::files::opening::{open_change_files, open_editions, open_one};
 use uca_rekey::{run_headed_rekey, run_rekey};
 use uca_run_parts::faults::{Role, RunFault};
 use uca_weights::{Sink, Source, Weighting};
@@ -25,7 +25,7 @@ pub(crate) fn changes<O: Opens, W: Write>(
     words: &ChangesWords,
     out: &mut Sink<W>,
 ) -> Result<u8, RunFault>
-    ensures { DoesChanges (file_system O.open_gives O.same_gives O.create_gives O.keep_gives O.remove_gives O.File.remaining O.Made.contents)
+    ensures { DoesChanges (file_system O.calls O.File.remaining O.Made.contents)
         opener.old opener.new words.now out.old out.new result }
 {
     match find_certificate_of_editions(opener, &words.editions, words.certificate) {
@@ -42,7 +42,7 @@ fn change_files<O: Opens, W: Write>(
     certificate: &str,
     out: &mut Sink<W>,
 ) -> Result<u8, RunFault>
-    ensures { MakesOpened (file_system O.open_gives O.same_gives O.create_gives O.keep_gives O.remove_gives O.File.remaining O.Made.contents)
+    ensures { MakesOpened (file_system O.calls O.File.remaining O.Made.contents)
         opener.old opener.new (edition_files names.now) certificate.now Finds made_changes out.old out.new result }
 {
     match open_editions(opener, names) {
@@ -69,7 +69,7 @@ fn keep_run<O: Opens, W: Write>(
     name: &str,
     out: &mut Sink<W>,
 ) -> Result<u8, RunFault>
-    ensures { KeepsMade (file_system O.open_gives O.same_gives O.create_gives O.keep_gives O.remove_gives O.File.remaining O.Made.contents)
+    ensures { KeepsMade (file_system O.calls O.File.remaining O.Made.contents)
         opener.old opener.new name.now out.old out.new made_changes run result }
 {
     match run {
@@ -89,7 +89,7 @@ fn keep_found<O: Opens, W: Write>(
     name: &str,
     out: &mut Sink<W>,
 ) -> Result<u8, RunFault>
-    ensures { KeepsAndPrints (file_system O.open_gives O.same_gives O.create_gives O.keep_gives O.remove_gives O.File.remaining O.Made.contents)
+    ensures { KeepsAndPrints (file_system O.calls O.File.remaining O.Made.contents)
         opener.old opener.new name.now (made_changes found.now) out.old out.new result }
 {
     keep_certificate(opener, &found.certificate, name)?;
@@ -103,7 +103,7 @@ pub(crate) fn audit_changes<O: Opens, W: Write>(
     words: &AuditChangesWords,
     out: &mut Sink<W>,
 ) -> Result<u8, RunFault>
-    ensures { DoesAuditChanges (file_system O.open_gives O.same_gives O.create_gives O.keep_gives O.remove_gives O.File.remaining O.Made.contents)
+    ensures { DoesAuditChanges (file_system O.calls O.File.remaining O.Made.contents)
         opener.old opener.new words.now out.old out.new result }
 {
     match open_change_files(opener, &words.editions, words.changes, words.certificate) {
@@ -133,9 +133,8 @@ pub(crate) fn rekey<O: Opens, I: Read, W: Write>(
     input: &mut Source<I>,
     out: &mut Sink<W>,
 ) -> Result<u8, RunFault>
-    ensures { DoesRekey (file_system O.open_gives O.same_gives O.create_gives O.keep_gives O.remove_gives O.File.remaining O.Made.contents)
-        opener.old opener.new words.now
-        (streams input.old out.old) (streams input.new out.new) result }
+    ensures { DoesRekey (file_system O.calls O.File.remaining O.Made.contents)
+        opener.old opener.new words.now (streams input.old out.old) (streams input.new out.new) result }
 {
     match open_one(opener, Role::Certificate, words.certificate) {
         Ok(mut certificate) => {

@@ -3,7 +3,7 @@
 ghost use Rattle.std.specs.Prelude.{◌∷◌, [], ⊤, ℕ, Bool, List, Result, ◌≡◌};
 ghost use Rattle.clap.specs.Walk.{texts};
 ghost use Rattle.uca_cli.specs.Command.{DoesAffected, DoesAudit, DoesCheck, DoesCommand, DoesCompare, DoesFingerprint, DoesKeys, DoesSort, DoesTailor, DoesWords, EndsWith, KeepsAndPrints, KeepsMade, MakesOpened, Prints, PrintsLines, files_of_tailor, made_table, streams};
-ghost use Rattle.uca_named_files.specs.NamedFiles.{affected_role, file_system};
+ghost use Rattle.uca_host.specs.NamedFiles.{affected_role, file_system};
 ghost use Rattle.uca_tailor_runs.specs.TailorRun.{TailorsFiles};
 
 use crate::change_commands::{audit_changes, changes, rekey};
@@ -14,13 +14,12 @@ use std::io::{Read, Write};
 use uca_certificates::Certificate;
 use uca_change_runs::run_affected_by_changes;
 use uca_fingerprint_runs::run_fingerprint;
+use uca_host::files::keeping::{find_certificate, keep_certificate};
+use uca_host::files::opening::{open_audit_files, open_files, open_three, open_two};
+use uca_host::{Opens, report};
 use uca_key_runs::{
     run_compare, run_headed_keys, run_headed_lines, run_keyed_lines, run_keys, run_sort,
 };
-use uca_named_files::Opens;
-use uca_named_files::keeping::{find_certificate, keep_certificate};
-use uca_named_files::opening::{open_audit_files, open_files, open_three, open_two};
-use uca_reports::report;
 use uca_run_parts::faults::{Role, RunFault};
 use uca_run_parts::{run_affected, run_check};
 use uca_tailor_runs::{run_audit, run_tailor};
@@ -38,7 +37,7 @@ fn check<O: Opens, W: Write>(
     words: &CheckWords,
     out: &mut Sink<W>,
 ) -> Result<u8, RunFault>
-    ensures { DoesCheck (file_system O.open_gives O.same_gives O.create_gives O.keep_gives O.remove_gives O.File.remaining O.Made.contents)
+    ensures { DoesCheck (file_system O.calls O.File.remaining O.Made.contents)
         opener.old opener.new words.now out.old out.new result }
 {
     match open_files(opener, words.table, words.properties) {
@@ -57,9 +56,8 @@ fn keys<O: Opens, I: Read, W: Write>(
     input: &mut Source<I>,
     out: &mut Sink<W>,
 ) -> Result<u8, RunFault>
-    ensures { DoesKeys (file_system O.open_gives O.same_gives O.create_gives O.keep_gives O.remove_gives O.File.remaining O.Made.contents)
-        opener.old opener.new words.now
-        (streams input.old out.old) (streams input.new out.new) result }
+    ensures { DoesKeys (file_system O.calls O.File.remaining O.Made.contents)
+        opener.old opener.new words.now (streams input.old out.old) (streams input.new out.new) result }
 {
     match open_files(opener, words.table, words.properties) {
         Ok((mut table, mut properties)) => {
@@ -104,9 +102,8 @@ fn sort<O: Opens, I: Read, W: Write>(
     input: &mut Source<I>,
     out: &mut Sink<W>,
 ) -> Result<u8, RunFault>
-    ensures { DoesSort (file_system O.open_gives O.same_gives O.create_gives O.keep_gives O.remove_gives O.File.remaining O.Made.contents)
-        opener.old opener.new words.now
-        (streams input.old out.old) (streams input.new out.new) result }
+    ensures { DoesSort (file_system O.calls O.File.remaining O.Made.contents)
+        opener.old opener.new words.now (streams input.old out.old) (streams input.new out.new) result }
 {
     match open_files(opener, words.table, words.properties) {
         Ok((mut table, mut properties)) => done(run_sort(
@@ -129,7 +126,7 @@ fn compare<O: Opens, W: Write>(
     words: &CompareWords,
     out: &mut Sink<W>,
 ) -> Result<u8, RunFault>
-    ensures { DoesCompare (file_system O.open_gives O.same_gives O.create_gives O.keep_gives O.remove_gives O.File.remaining O.Made.contents)
+    ensures { DoesCompare (file_system O.calls O.File.remaining O.Made.contents)
         opener.old opener.new words.now out.old out.new result }
 {
     match open_files(opener, words.table, words.properties) {
@@ -154,7 +151,7 @@ fn fingerprint<O: Opens, W: Write>(
     words: &FingerprintWords,
     out: &mut Sink<W>,
 ) -> Result<u8, RunFault>
-    ensures { DoesFingerprint (file_system O.open_gives O.same_gives O.create_gives O.keep_gives O.remove_gives O.File.remaining O.Made.contents)
+    ensures { DoesFingerprint (file_system O.calls O.File.remaining O.Made.contents)
         opener.old opener.new words.now out.old out.new result }
 {
     match open_files(opener, words.table, words.properties) {
@@ -177,7 +174,7 @@ fn tailor<O: Opens, W: Write>(
     words: &TailorWords,
     out: &mut Sink<W>,
 ) -> Result<u8, RunFault>
-    ensures { DoesTailor (file_system O.open_gives O.same_gives O.create_gives O.keep_gives O.remove_gives O.File.remaining O.Made.contents)
+    ensures { DoesTailor (file_system O.calls O.File.remaining O.Made.contents)
         opener.old opener.new words.now out.old out.new result }
 {
     match find_certificate(
@@ -199,9 +196,8 @@ fn tailor_files<O: Opens, W: Write>(
     words: &TailorWords,
     out: &mut Sink<W>,
 ) -> Result<u8, RunFault>
-    ensures { MakesOpened (file_system O.open_gives O.same_gives O.create_gives O.keep_gives O.remove_gives O.File.remaining O.Made.contents)
-        opener.old opener.new (files_of_tailor words.now) words.now.certificate.now
-        TailorsFiles made_table out.old out.new result }
+    ensures { MakesOpened (file_system O.calls O.File.remaining O.Made.contents)
+        opener.old opener.new (files_of_tailor words.now) words.now.certificate.now TailorsFiles made_table out.old out.new result }
 {
     match open_three(
         opener,
@@ -227,7 +223,7 @@ fn keep_run<O: Opens, W: Write>(
     name: &str,
     out: &mut Sink<W>,
 ) -> Result<u8, RunFault>
-    ensures { KeepsMade (file_system O.open_gives O.same_gives O.create_gives O.keep_gives O.remove_gives O.File.remaining O.Made.contents)
+    ensures { KeepsMade (file_system O.calls O.File.remaining O.Made.contents)
         opener.old opener.new name.now out.old out.new made_table run result }
 {
     match run {
@@ -249,7 +245,7 @@ fn keep_tailored<O: Opens, W: Write>(
     name: &str,
     out: &mut Sink<W>,
 ) -> Result<u8, RunFault>
-    ensures { KeepsAndPrints (file_system O.open_gives O.same_gives O.create_gives O.keep_gives O.remove_gives O.File.remaining O.Made.contents)
+    ensures { KeepsAndPrints (file_system O.calls O.File.remaining O.Made.contents)
         opener.old opener.new name.now (made_table (table.now, certificate.now)) out.old out.new result }
 {
     keep_certificate(opener, certificate, name)?;
@@ -263,7 +259,7 @@ fn audit<O: Opens, W: Write>(
     words: &AuditWords,
     out: &mut Sink<W>,
 ) -> Result<u8, RunFault>
-    ensures { DoesAudit (file_system O.open_gives O.same_gives O.create_gives O.keep_gives O.remove_gives O.File.remaining O.Made.contents)
+    ensures { DoesAudit (file_system O.calls O.File.remaining O.Made.contents)
         opener.old opener.new words.now out.old out.new result }
 {
     match open_audit_files(
@@ -299,9 +295,8 @@ fn affected<O: Opens, I: Read, W: Write>(
     input: &mut Source<I>,
     out: &mut Sink<W>,
 ) -> Result<u8, RunFault>
-    ensures { DoesAffected (file_system O.open_gives O.same_gives O.create_gives O.keep_gives O.remove_gives O.File.remaining O.Made.contents)
-        opener.old opener.new words.now
-        (streams input.old out.old) (streams input.new out.new) result }
+    ensures { DoesAffected (file_system O.calls O.File.remaining O.Made.contents)
+        opener.old opener.new words.now (streams input.old out.old) (streams input.new out.new) result }
 {
     match open_two(
         opener,
@@ -356,9 +351,8 @@ fn run_words<O: Opens, I: Read, W: Write>(
     input: &mut Source<I>,
     out: &mut Sink<W>,
 ) -> Result<u8, RunFault>
-    ensures { DoesWords (file_system O.open_gives O.same_gives O.create_gives O.keep_gives O.remove_gives O.File.remaining O.Made.contents)
-        opener.old opener.new asked.now
-        (streams input.old out.old) (streams input.new out.new) result }
+    ensures { DoesWords (file_system O.calls O.File.remaining O.Made.contents)
+        opener.old opener.new asked.now (streams input.old out.old) (streams input.new out.new) result }
 {
     match asked {
         Words::Check(words) => check(alloc, opener, words, out),
@@ -406,9 +400,8 @@ pub fn run_command<'a, O: Opens, I: Read, W: Write, E: Write>(
     out: &mut Sink<W>,
     err: &mut Sink<E>,
 ) -> u8
-    ensures { DoesCommand (file_system O.open_gives O.same_gives O.create_gives O.keep_gives O.remove_gives O.File.remaining O.Made.contents)
-        opener.old opener.new (texts words.entry.now)
-        (streams input.old out.old) (streams input.new out.new) err.old err.new result }
+    ensures { DoesCommand (file_system O.calls O.File.remaining O.Made.contents)
+        opener.old opener.new (texts words.entry.now) (streams input.old out.old) (streams input.new out.new) err.old err.new result }
 {
     match read_words(alloc, words) {
         Ok(asked) => {

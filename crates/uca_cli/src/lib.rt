@@ -1,5 +1,6 @@
 //! The command: it opens the files that its arguments name, runs over them, and reports what comes of it. The runs are those of
-//! `uca_run_parts`, `uca_key_runs`, `uca_tailor_runs`, `uca_change_runs`, `uca_rekey` and `uca_fingerprint_runs`, and the reports those of `uca_reports`.
+//! `uca_run_parts`, `uca_key_runs`, `uca_tailor_runs`, `uca_change_runs`, `uca_rekey` and `uca_fingerprint_runs`, and the reports
+//! those of `uca_host`.
 #![tactic(auto)]
 
 mod change_commands;
@@ -13,6 +14,7 @@ pub use uca_change_runs::{
     run_audit_changes, run_audit_changes_in, run_changes, run_changes_in,
 };
 pub use uca_fingerprint_runs::run_fingerprint;
+pub use uca_host::{MakeFault, OpenFault, Opens, STREAM_FAILED, report};
 pub use uca_key_runs::{
     affected_texts_are_the_others, canonically_equivalent_lines_have_one_key_line, compare_words,
     identical_line_keys_are_of_equivalent_lines, key_order_is_one, line_keys_compare_as_lines,
@@ -20,11 +22,9 @@ pub use uca_key_runs::{
     run_headed_lines_in, run_keyed_lines, run_keyed_lines_in, run_keys, run_keys_in, run_sort,
     run_sort_in, sort_lines, untouched_lines_keep_their_order,
 };
-pub use uca_named_files::{MakeFault, OpenFault, Opens};
 pub use uca_rekey::{
     lines_move_with_keys, run_headed_rekey, run_headed_rekey_in, run_rekey, run_rekey_in,
 };
-pub use uca_reports::{STREAM_FAILED, report};
 pub use uca_run_parts::{
     Affects, FileFault, InputKind, Role, RunFault, StoredKeyKind, print_affected, run_affected,
     run_affected_in, run_check,

@@ -6,7 +6,7 @@ ghost use Rattle.uca_cli.specs.Command.{PrintsText};
 
 use std::io::Write;
 use uca_change_files::{ChangeList, write_changes};
-use uca_reports::DONE;
+use uca_host::DONE;
 use uca_run_parts::faults::RunFault;
 use uca_table::write_table;
 use uca_values::Table;

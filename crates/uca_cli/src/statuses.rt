@@ -3,7 +3,7 @@
 ghost use Rattle.std.specs.Prelude.{◌≡◌};
 ghost use Rattle.uca_cli.specs.Command.{check_result, done_result};
 
-use uca_reports::{DONE, REFUSED};
+use uca_host::{DONE, REFUSED};
 use uca_run_parts::RunFault;
 
 /// The status of a run that was done.

@@ -1,0 +1,4 @@
+pub mod FileCalls
+pub mod NamedFiles
+pub mod Statuses
+pub mod Reports

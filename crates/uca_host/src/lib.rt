@@ -1,0 +1,13 @@
+//! What the command has of the system that it runs on, and what it reports to it. `files`: the files of a subcommand are opened
+//! in their order, and that of a certificate is kept only as a whole. `reports`: what an error writes, and the status that
+//! the program ends with. `arguments` and `standard_streams`: the program's arguments, and its standard streams where they are
+//! closed.
+#![tactic(auto)]
+
+pub mod arguments;
+pub mod files;
+pub mod reports;
+pub mod standard_streams;
+
+pub use files::opens::{MakeFault, OpenFault, Opens};
+pub use reports::{DONE, NO_MEMORY, REFUSED, STREAM_FAILED, WRONG_WORDS, report};
