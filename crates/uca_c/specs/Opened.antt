@@ -5,7 +5,7 @@ use Rattle.uca_weights.specs.declared.Weighting.{Weighting}
 use Rattle.uca_values.specs.Content.{TableContent, Properties}
 use Rattle.uca_values.specs.declared.faults.FaultKind.TheVariants.{Read, Memory}
 use Rattle.uca_values.specs.declared.faults.TableFault.{TableFault}
-use Rattle.uca_owned.specs.Keyings.{Keying}
+use Rattle.uca_order.specs.Keyings.{Keying}
 use Rattle.uca_owned.specs.Opening.{HasFingerprint, MeanFiles, Opens, IsOpenCause}
 use Rattle.uca_owned.specs.declared.faults.OpenFault.{OpenFault}
 use Rattle.uca_owned.specs.declared.faults.OpenFault.TheVariants as faults

@@ -2,7 +2,7 @@
 use Rattle.std.specs.Prelude.{◌≡◌, ℕ, ℤ, ◌≤◌, ◌<◌, List, length, take, drop}
 use Rattle.std.specs.declared.cmp.Ordering.{Ordering}
 use Rattle.uca_order.specs.Levels.{Comparison}
-use Rattle.uca_owned.specs.Keyings.{Keying}
+use Rattle.uca_order.specs.Keyings.{Keying}
 use Rattle.uca_owned.specs.Orders.{IsOrder}
 use Rattle.uca_c.specs.Numbers.{order_number}
 

@@ -6,7 +6,7 @@ ghost use Rattle.uca_weights.specs.declared.Weighting.{Weighting};
 ghost use Rattle.uca_values.specs.Content.{TableContent, Properties};
 ghost use Rattle.uca_order.specs.Levels.{lexicographic};
 ghost use Rattle.uca_order.specs.StoredKeys.{stored_level};
-ghost use Rattle.uca_owned.specs.Keyings.{keying, key_of_bytes, bytes_compared};
+ghost use Rattle.uca_order.specs.Keyings.{keying, key_of_bytes, bytes_compared};
 ghost use Rattle.uca_owned.specs.Opening.{fingerprint_by};
 ghost use Rattle.uca_owned.specs.Owned.{keying_in};
 ghost use Rattle.uca_c.specs.Numbers.{order_number};

@@ -4,7 +4,7 @@ ghost use Rattle.std.specs.Prelude.{◌≡◌, ◌≢◌, ◌⊎◌, pos, Option
 ghost use Rattle.uca_weights.specs.declared.Depth.{Depth};
 ghost use Rattle.uca_weights.specs.declared.Weighting.{Weighting};
 ghost use Rattle.uca_values.specs.Content.{TableContent, Properties};
-ghost use Rattle.uca_owned.specs.Keyings.{keying, key_of_bytes, bytes_compared};
+ghost use Rattle.uca_order.specs.Keyings.{keying, key_of_bytes, bytes_compared};
 ghost use Rattle.uca_owned.specs.Opening.{fingerprint_by};
 ghost use Rattle.uca_owned.specs.Owned.{keying_in};
 ghost use Rattle.uca_c.specs.Statuses.{IsKeyStatus, IsCompareStatus};

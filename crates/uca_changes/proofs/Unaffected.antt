@@ -15,9 +15,8 @@ use Rattle.uca_elements.specs.Reading.{read}
 use Rattle.uca_elements.specs.Collations.{elements_of}
 use Rattle.uca_elements.proofs.RelatedReading.{read_related}
 use Rattle.uca_order.specs.Levels.{lexicographic}
-use Rattle.uca_order.specs.Depths.{read_text, levels_at}
+use Rattle.uca_order.specs.Depths.{read_text, levels_at, text_key, texts_compared}
 use Rattle.uca_order.specs.StoredKeys.{stored_level}
-use Rattle.uca_order.specs.Laws.{text_key, texts_compared}
 use Rattle.uca_order.proofs.DepthOrder.{depth_order, depth_level}
 use Rattle.uca_tailorings.specs.Images.{AreImages}
 use Rattle.uca_tailorings.specs.Moves.{KeyMoves}

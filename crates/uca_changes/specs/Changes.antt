@@ -8,12 +8,12 @@ use Rattle.uca_values.specs.Ranges.{is_within}
 use Rattle.uca_check.specs.WellFormed.{IsWellFormed}
 use Rattle.uca_text.specs.Occurring.{OccursInOrder}
 use Rattle.uca_elements.specs.Rows.{IsKey, rows_of}
-use Rattle.uca_elements.specs.Collations.{Collation}
+use Rattle.uca_elements.specs.Collations.{Collation, collation_under}
 use Rattle.uca_change_lists.specs.Points.{IsSamePair, IsSamePoint, OutsideOf}
 use Rattle.uca_tailorings.specs.Images.{Maps, AreRisingMaps}
 use Rattle.uca_tailorings.specs.KeptRows.{IsKeptRow, IsKnownRow}
-use Rattle.uca_tailorings.specs.Tailorings.{reading_by, IsCovered}
-use Rattle.uca_changes.specs.Weightings.{weighting_by}
+use Rattle.uca_tailorings.specs.Tailorings.{IsCovered}
+use Rattle.uca_order.specs.Keyings.{weighting_by}
 use Rattle.uca_changes.specs.declared.conditions.ChangeCondition.{ChangeCondition}
 use Rattle.uca_changes.specs.declared.conditions.ChangeCondition.TheVariants.{OldIllFormed, NewIllFormed, RangeChanged, Uncovered, RowChanged, RowMissing, RowExtra, PointChanged, SettingChanged}
 
@@ -36,10 +36,10 @@ pub record IsChange (change : Change) : Type 0 where
 
 -- what texts are read by before the change and after it
 abbrev pub old_reading : Change → Collation
-old_reading change = reading_by change.old change.old_properties
+old_reading change = collation_under change.old change.old_properties
 
 abbrev pub new_reading : Change → Collation
-new_reading change = reading_by change.new change.new_properties
+new_reading change = collation_under change.new change.new_properties
 
 -- the weighting of a run over the old table and of one over the new table, where both are asked for this one or for none
 abbrev pub old_weighting : Change → Option Weighting → Weighting

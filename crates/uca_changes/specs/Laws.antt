@@ -8,9 +8,8 @@ use Rattle.uca_weights.specs.declared.Weighting.{Weighting}
 use Rattle.uca_text.specs.Texts.{nfd_text}
 use Rattle.uca_elements.specs.Collations.{Collation}
 use Rattle.uca_order.specs.Levels.{lexicographic}
-use Rattle.uca_order.specs.Depths.{read_text, levels_at}
+use Rattle.uca_order.specs.Depths.{read_text, levels_at, text_key, texts_compared}
 use Rattle.uca_order.specs.StoredKeys.{stored_level}
-use Rattle.uca_order.specs.Laws.{text_key, texts_compared}
 use Rattle.uca_tailorings.specs.Moves.{KeyMoves, IsKeptKey}
 use Rattle.uca_tailorings.specs.Tailorings.{Tailoring, IsTailoring, IsAccepted}
 use Rattle.uca_tailorings.specs.Laws.{ReadsAs}

@@ -1,4 +1,3 @@
-pub mod Weightings
 pub mod Changes
 pub mod Laws
 pub mod Worked

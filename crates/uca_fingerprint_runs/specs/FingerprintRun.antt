@@ -7,7 +7,7 @@ use Rattle.uca_weights.specs.declared.Depth.{Depth}
 use Rattle.uca_weights.specs.declared.Weighting.{Weighting}
 use Rattle.uca_weights.specs.Streams.{SourceState, SinkState}
 use Rattle.uca_fingerprint.specs.Fingerprints.{fingerprint_text}
-use Rattle.uca_changes.specs.Weightings.{weighting_by}
+use Rattle.uca_order.specs.Keyings.{weighting_by}
 use Rattle.uca_run_parts.specs.declared.faults.RunFault.{RunFault}
 use Rattle.uca_run_parts.specs.declared.faults.RunFault.TheVariants.{Write}
 use Rattle.uca_run_parts.specs.Files.{HaveFailed, Over, table_and_data_roles}

@@ -20,8 +20,7 @@ use Rattle.uca_run_parts.specs.EachLine.{WritesEach, ended_before_input}
 use Rattle.uca_run_parts.specs.Input.{clean_lines}
 use Rattle.uca_run_parts.specs.Runs.{FailsToWrite, ended_by_output, is_input_read}
 use Rattle.uca_fingerprint_runs.specs.SummedFiles.{SummedContent}
-use Rattle.uca_changes.specs.Weightings.{weighting_by}
-use Rattle.uca_key_runs.specs.Keys.{KeySettings, key_settings}
+use Rattle.uca_order.specs.Keyings.{weighting_by, Keying, keying}
 use Rattle.uca_key_runs.specs.HeadedParts.{ended_after}
 use Rattle.uca_key_runs.specs.HeadedRun.{RunsHeaded, WritesHeaded, header_under}
 
@@ -102,9 +101,9 @@ module _ (header : List ℕ) (properties : Properties) (bytes_of : List ℕ → 
 -- ---- Whole runs
 
 -- a run that ended by its lines lacked no memory for rows
-pub headed_under : {A : Type 0} (bytes_of : KeySettings → List ℕ → List ℕ) (asked : Option Weighting) (depth : Depth) (input input_new : SourceState) (out out_new : SinkState)
+pub headed_under : {A : Type 0} (bytes_of : Keying → List ℕ → List ℕ) (asked : Option Weighting) (depth : Depth) (input input_new : SourceState) (out out_new : SinkState)
     (result : Result A RunFault) (files : SummedContent) → ended_before_input result ≡ false
-    → IfSome input.remaining (λ bytes. WritesHeaded (header_under asked depth files) files.properties (bytes_of (key_settings asked depth files.table files.properties)) bytes input_new.remaining out.contents out_new.contents result)
+    → IfSome input.remaining (λ bytes. WritesHeaded (header_under asked depth files) files.properties (bytes_of (keying asked depth files.table files.properties)) bytes input_new.remaining out.contents out_new.contents result)
     → RunsHeaded bytes_of asked depth input input_new out out_new result files
 headed_under bytes_of asked depth input input_new out out_new (Ok x) files lines runs = runs
 headed_under bytes_of asked depth input input_new out out_new (Err Memory) files lines runs = let never : ⊥ = cc in absurd never

@@ -1,4 +1,4 @@
-pub mod KeySettings
+pub mod Keyings
 pub mod Rows
 pub mod KeyLines
 pub mod LineLaws

@@ -12,10 +12,9 @@ use Rattle.uca_tailorings.specs.Laws.{AcceptedTailoringsAreFaithful}
 use Rattle.uca_tailorings.specs.Meaning.{IsFaithful}
 use Rattle.uca_tailorings.specs.Tailorings.{Tailoring, base_reading}
 use Rattle.uca_tailorings.specs.declared.conditions.Condition.TheVariants.{Header}
-use Rattle.uca_changes.specs.Weightings.{weighting_by}
-use Rattle.uca_key_runs.specs.Keys.{line_key}
+use Rattle.uca_order.specs.Keyings.{weighting_by, key_of_bytes, bytes_compared}
 use Rattle.uca_run_parts.specs.Print.{print_line_at}
-use Rattle.uca_key_runs.specs.Laws.{base_keying, tailored_keying, lines_compared, LineKeysCompareAsLines, IsUntouchedLine, UntouchedLinesKeepTheirOrder}
+use Rattle.uca_key_runs.specs.Laws.{base_keying, tailored_keying, LineKeysCompareAsLines, IsUntouchedLine, UntouchedLinesKeepTheirOrder}
 use Rattle.uca_key_runs.proofs.NormalLines.{normal_line}
 
 -- the text of an untouched line is normal
@@ -28,7 +27,7 @@ HaveOneHeader tailoring = tailoring.base.header ≡ tailoring.tailored.header
 
 compare_alike : (tailoring : Tailoring) → IsFaithful tailoring → HaveOneHeader tailoring → (asked : Option Weighting) (depth : Depth) (left right : List ℕ) →
     IsUntouchedLine tailoring left → IsUntouchedLine tailoring right →
-    lines_compared (tailored_keying asked depth tailoring) left right ≡ lines_compared (base_keying asked depth tailoring) left right
+    bytes_compared (tailored_keying asked depth tailoring) left right ≡ bytes_compared (base_keying asked depth tailoring) left right
 compare_alike tailoring faithful one asked depth left right first second =
     let l = nfd_text tailoring.properties (chars left) in
     let r = nfd_text tailoring.properties (chars right) in
@@ -41,7 +40,7 @@ compare_alike tailoring faithful one asked depth left right first second =
 -- a line keeps its key, at each depth
 keep_key : (tailoring : Tailoring) → IsFaithful tailoring → HaveOneHeader tailoring → KeepAllWeights tailoring.maps → (asked : Option Weighting) (depth : Depth)
     (line : List ℕ) → IsUntouchedLine tailoring line →
-    line_key (tailored_keying asked depth tailoring) line ≡ line_key (base_keying asked depth tailoring) line
+    key_of_bytes (tailored_keying asked depth tailoring) line ≡ key_of_bytes (base_keying asked depth tailoring) line
 keep_key tailoring faithful one keep asked depth line is =
     let text = nfd_text tailoring.properties (chars line) in
     faithful.keys keep depth (weighting_by asked tailoring.tailored.header.setting) text (normal tailoring line is) is.untouched

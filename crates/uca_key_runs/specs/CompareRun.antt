@@ -16,8 +16,7 @@ use Rattle.uca_run_parts.specs.declared.faults.RunFault.{RunFault}
 use Rattle.uca_run_parts.specs.declared.faults.RunFault.TheVariants.{Write, Memory, Text}
 use Rattle.uca_run_parts.specs.Files.{TableAndData, Over, HaveFailed, table_and_data, table_and_data_roles}
 use Rattle.uca_run_parts.specs.Runs.{PartWentOut, ended_before_output, ended_by_output}
-use Rattle.uca_key_runs.specs.Keys.{KeySettings, key_settings}
-use Rattle.uca_key_runs.specs.Laws.{lines_compared}
+use Rattle.uca_order.specs.Keyings.{Keying, keying, bytes_compared}
 
 -- `<`, `=` or `>`
 abbrev pub sign_of : Ordering → ℕ
@@ -39,18 +38,18 @@ RefusesWord properties right text fault = (cause : TextFault) × (fault ≡ Text
 
 -- What is written of two texts by a writer that had `begun` and has `now`. It is how they compare level by level, or
 -- as much of it as an error of the writer leaves. Or the right text is rejected, or before it the left one.
-abbrev pub WritesComparison : {A : Type 0} → KeySettings → List ℕ → List ℕ → Option (List ℕ) → Option (List ℕ) → Result A RunFault → Type 0
-WritesComparison c left right begun now (Ok x) = IsWithinLimits c.collation.properties left × IsWithinLimits c.collation.properties right × Appends begun now (comparison_line (lines_compared c left right))
+abbrev pub WritesComparison : {A : Type 0} → Keying → List ℕ → List ℕ → Option (List ℕ) → Option (List ℕ) → Result A RunFault → Type 0
+WritesComparison c left right begun now (Ok x) = IsWithinLimits c.collation.properties left × IsWithinLimits c.collation.properties right × Appends begun now (comparison_line (bytes_compared c left right))
 WritesComparison c left right begun now (Err (Text false fault)) = IsCause (nfd_text c.collation.properties (chars left)) fault
 WritesComparison c left right begun now (Err (Text true fault)) = IsWithinLimits c.collation.properties left × IsCause (nfd_text c.collation.properties (chars right)) fault
-WritesComparison c left right begun now (Err (Write written)) = IsWithinLimits c.collation.properties left × IsWithinLimits c.collation.properties right × PartWentOut begun now (comparison_line (lines_compared c left right)) written
+WritesComparison c left right begun now (Err (Write written)) = IsWithinLimits c.collation.properties left × IsWithinLimits c.collation.properties right × PartWentOut begun now (comparison_line (bytes_compared c left right)) written
 WritesComparison c left right begun now (Err _) = ⊥
 
 -- What a run of compare returns under a table and properties. An allocation that failed for looking up rows says
 -- nothing of the texts, and nothing was written.
 abbrev pub RunsCompare : {A : Type 0} → Option Weighting → Depth → List ℕ → List ℕ → SinkState → SinkState → Result A RunFault → TableAndData → Type 0
 RunsCompare asked depth left right out out_new (Err Memory) files = out_new ≡ out
-RunsCompare asked depth left right out out_new result files = WritesComparison (key_settings asked depth files.table files.properties) left right out.contents out_new.contents result
+RunsCompare asked depth left right out out_new result files = WritesComparison (keying asked depth files.table files.properties) left right out.contents out_new.contents result
 
 -- what a run of compare uses: the weighting that is asked for, the depth and the two texts
 pub record Comparing : Type 0 where

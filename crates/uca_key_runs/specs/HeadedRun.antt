@@ -8,7 +8,7 @@ use Rattle.uca_weights.specs.Streams.{SourceState, SinkState}
 use Rattle.uca_values.specs.Content.{Properties}
 use Rattle.uca_fingerprint.specs.KeyHeaders.{key_header}
 use Rattle.uca_lines.specs.Lines.{ended, lines_of}
-use Rattle.uca_changes.specs.Weightings.{weighting_by}
+use Rattle.uca_order.specs.Keyings.{weighting_by, Keying, keying}
 use Rattle.uca_run_parts.specs.declared.faults.RunFault.{RunFault}
 use Rattle.uca_run_parts.specs.declared.faults.RunFault.TheVariants.{Input, Memory, Write}
 use Rattle.uca_run_parts.specs.EachLine.{PrintsEach}
@@ -17,7 +17,7 @@ use Rattle.uca_run_parts.specs.Input.{clean_lines}
 use Rattle.uca_run_parts.specs.Runs.{IsClean, IsInputFault, PartWentOut}
 use Rattle.uca_fingerprint_runs.specs.FingerprintRun.{fingerprint_under}
 use Rattle.uca_fingerprint_runs.specs.SummedFiles.{SummedContent, summed_files}
-use Rattle.uca_key_runs.specs.Keys.{KeySettings, key_settings, keyed_line, printed_key}
+use Rattle.uca_key_runs.specs.Keys.{keyed_line, printed_key}
 
 -- The header of a run, with its LF. It has the weighting that is asked for, or else the table's, or else shifted. It has the
 -- depth, and the fingerprint of both with the two files.
@@ -38,10 +38,10 @@ WritesHeaded header properties bytes_of bytes left begun now (Err _) = ⊥
 
 -- What a run returns under files that were summed, if it writes these bytes for a line. An allocation that failed for looking
 -- up rows says nothing of the lines.
-abbrev pub RunsHeaded : {A : Type 0} → (KeySettings → List ℕ → List ℕ) → Option Weighting → Depth → SourceState → SourceState → SinkState → SinkState → Result A RunFault → SummedContent → Type 0
+abbrev pub RunsHeaded : {A : Type 0} → (Keying → List ℕ → List ℕ) → Option Weighting → Depth → SourceState → SourceState → SinkState → SinkState → Result A RunFault → SummedContent → Type 0
 RunsHeaded bytes_of asked depth input input_new out out_new (Err Memory) files = ⊤
 RunsHeaded bytes_of asked depth input input_new out out_new result files = IfSome input.remaining (λ bytes.
-    WritesHeaded (header_under asked depth files) files.properties (bytes_of (key_settings asked depth files.table files.properties))
+    WritesHeaded (header_under asked depth files) files.properties (bytes_of (keying asked depth files.table files.properties))
     bytes input_new.remaining out.contents out_new.contents result)
 
 -- A run of keys with a header.

@@ -14,7 +14,7 @@ use Rattle.uca_key_runs.specs.declared.keys.KeyForm.{KeyForm}
 use Rattle.uca_key_runs.specs.declared.keys.KeyForm.TheVariants.{Alone, BeforeLine}
 use Rattle.uca_run_parts.specs.EachLine.{PrintsEach}
 use Rattle.uca_run_parts.specs.Files.{table_and_data, table_and_data_roles}
-use Rattle.uca_key_runs.specs.Keys.{KeySettings}
+use Rattle.uca_order.specs.Keyings.{Keying}
 use Rattle.uca_key_runs.specs.KeysRun.{RunsUnder}
 use Rattle.uca_run_parts.specs.Print.{print_line_at, keyed_line_of}
 
@@ -35,11 +35,11 @@ printed_as Alone depth key points line = print_line_at depth key points
 printed_as BeforeLine depth key points line = keyed_line_of key line
 
 -- that of a line with its text
-abbrev pub text_as : KeyForm → KeySettings → NfdText → List ℕ → List ℕ
+abbrev pub text_as : KeyForm → Keying → NfdText → List ℕ → List ℕ
 text_as form c text line = printed_as form c.depth (key_at (depth_as form c.depth) c.weighting (read_text c.collation text)) text.points line
 
 -- that of a line of the input, which is UTF-8
-abbrev pub line_as : KeyForm → KeySettings → List ℕ → List ℕ
+abbrev pub line_as : KeyForm → Keying → List ℕ → List ℕ
 line_as form c line = text_as form c (nfd_text c.collation.properties (chars line)) line
 
 -- a run that writes such a line for each line of its input
@@ -51,7 +51,7 @@ PrintsAs form asked depth olds news input input_new out out_new result =
 -- ---- A writer of the keys of a form
 
 -- keys of the form at that depth go by these settings, and texts by these properties
-pub record MakesKeys (form : KeyForm) (depth : Depth) (properties : Properties) (c : KeySettings) : Type 0 where
+pub record MakesKeys (form : KeyForm) (depth : Depth) (properties : Properties) (c : Keying) : Type 0 where
   pub key_depth : c.depth ≡ depth_as form depth
   pub same : properties ≡ c.collation.properties
   pub short_rows : HasShortRows c.collation.rows

@@ -3,51 +3,43 @@ use Rattle.std.specs.Prelude.{◌≡◌, ◌↔◌, ℕ, List, Option, None, cha
 use Rattle.uca_weights.specs.declared.Depth.{Depth}
 use Rattle.uca_weights.specs.declared.Depth.TheVariants.{Identical}
 use Rattle.uca_weights.specs.declared.Weighting.{Weighting}
-use Rattle.uca_text.specs.Texts.{AreCanonicallyEquivalent, NfdText, nfd_text}
+use Rattle.uca_text.specs.Texts.{AreCanonicallyEquivalent, nfd_text}
 use Rattle.uca_rules.specs.Relations.{IsUntouched}
-use Rattle.uca_order.specs.Levels.{Comparison, lexicographic}
-use Rattle.uca_order.specs.Depths.{read_text, compared_at}
+use Rattle.uca_order.specs.Levels.{lexicographic}
 use Rattle.uca_tailorings.specs.Images.{KeepAllWeights}
 use Rattle.uca_tailorings.specs.Tailorings.{Tailoring, IsTailoring, IsAccepted}
 use Rattle.uca_run_parts.specs.Input.{cause_of}
-use Rattle.uca_key_runs.specs.Keys.{KeySettings, key_settings, line_key, printed_key, IsInKeyOrder}
-
--- how two texts in Normalization Form D compare: level by level, by their weights, and at the depth `Identical` by their code points
-abbrev pub texts_compared : KeySettings → NfdText → NfdText → Comparison
-texts_compared c left right = compared_at c.depth c.weighting (read_text c.collation left) (read_text c.collation right)
-
--- how the texts of two lines do
-abbrev pub lines_compared : KeySettings → List ℕ → List ℕ → Comparison
-lines_compared c left right = texts_compared c (nfd_text c.collation.properties (chars left)) (nfd_text c.collation.properties (chars right))
+use Rattle.uca_order.specs.Keyings.{Keying, keying, key_of_bytes, bytes_compared}
+use Rattle.uca_key_runs.specs.Keys.{printed_key, IsInKeyOrder}
 
 -- The bytes of the keys of two lines compare as the lines do level by level, and are equal exactly where no level differs.
 abbrev pub LineKeysCompareAsLines : Type 0
-LineKeysCompareAsLines = (c : KeySettings) (left right : List ℕ) →
-    (lexicographic (line_key c left) (line_key c right) ≡ (lines_compared c left right).order)
-    × ((line_key c left ≡ line_key c right) ↔ ((lines_compared c left right).level ≡ 0))
+LineKeysCompareAsLines = (c : Keying) (left right : List ℕ) →
+    (lexicographic (key_of_bytes c left) (key_of_bytes c right) ≡ (bytes_compared c left right).order)
+    × ((key_of_bytes c left ≡ key_of_bytes c right) ↔ ((bytes_compared c left right).level ≡ 0))
 
 -- Lines whose texts are canonically equivalent have one key line.
 abbrev pub CanonicallyEquivalentLinesHaveOneKeyLine : Type 0
-CanonicallyEquivalentLinesHaveOneKeyLine = (c : KeySettings) (left right : List ℕ) →
+CanonicallyEquivalentLinesHaveOneKeyLine = (c : Keying) (left right : List ℕ) →
     AreCanonicallyEquivalent (chars left) (chars right) → printed_key c left ≡ printed_key c right
 
 -- With an identical level lines whose texts are not canonically equivalent have different keys.
 abbrev pub IdenticalLineKeysAreOfEquivalentLines : Type 0
-IdenticalLineKeysAreOfEquivalentLines = (c : KeySettings) (left right : List ℕ) → c.depth ≡ Identical →
-    line_key c left ≡ line_key c right → AreCanonicallyEquivalent (chars left) (chars right)
+IdenticalLineKeysAreOfEquivalentLines = (c : Keying) (left right : List ℕ) → c.depth ≡ Identical →
+    key_of_bytes c left ≡ key_of_bytes c right → AreCanonicallyEquivalent (chars left) (chars right)
 
 -- Lines have one key order.
 abbrev pub KeyOrderIsOne : Type 0
-KeyOrderIsOne = (c : KeySettings) (lines left right : List (List ℕ)) → IsInKeyOrder c lines left → IsInKeyOrder c lines right → left ≡ right
+KeyOrderIsOne = (c : Keying) (lines left right : List (List ℕ)) → IsInKeyOrder c lines left → IsInKeyOrder c lines right → left ≡ right
 
 -- ---- Lines under a tailored table
 
 -- what lines are keyed by under the base of a tailoring, and under its tailored table
-abbrev pub base_keying : Option Weighting → Depth → Tailoring → KeySettings
-base_keying asked depth tailoring = key_settings asked depth tailoring.base tailoring.properties
+abbrev pub base_keying : Option Weighting → Depth → Tailoring → Keying
+base_keying asked depth tailoring = keying asked depth tailoring.base tailoring.properties
 
-abbrev pub tailored_keying : Option Weighting → Depth → Tailoring → KeySettings
-tailored_keying asked depth tailoring = key_settings asked depth tailoring.tailored tailoring.properties
+abbrev pub tailored_keying : Option Weighting → Depth → Tailoring → Keying
+tailored_keying asked depth tailoring = keying asked depth tailoring.tailored tailoring.properties
 
 -- after this many lines the line has no error, and no target occurs in its text in order
 pub record IsUntouchedLine (tailoring : Tailoring) (line : List ℕ) : Type 0 where
@@ -57,13 +49,13 @@ pub record IsUntouchedLine (tailoring : Tailoring) (line : List ℕ) : Type 0 wh
 
 -- Two lines compare alike under both settings, by order and by the level at which they differ, and so do the bytes
 -- of their keys.
-pub record StandAlike (one other : KeySettings) (left right : List ℕ) : Type 0 where
-  pub compared : lines_compared one left right ≡ lines_compared other left right
-  pub ordered : lexicographic (line_key one left) (line_key one right) ≡ lexicographic (line_key other left) (line_key other right)
+pub record StandAlike (one other : Keying) (left right : List ℕ) : Type 0 where
+  pub compared : bytes_compared one left right ≡ bytes_compared other left right
+  pub ordered : lexicographic (key_of_bytes one left) (key_of_bytes one right) ≡ lexicographic (key_of_bytes other left) (key_of_bytes other right)
 
 -- a line has the same key under both, and the same key line
-pub record HasOneKey (one other : KeySettings) (line : List ℕ) : Type 0 where
-  pub key : line_key one line ≡ line_key other line
+pub record HasOneKey (one other : Keying) (line : List ℕ) : Type 0 where
+  pub key : key_of_bytes one line ≡ key_of_bytes other line
   pub printed : printed_key one line ≡ printed_key other line
 
 -- A tailoring is accepted, and no target occurs in the texts of some lines. Then these lines have the same order

@@ -3,12 +3,12 @@
 ghost use Rattle.std.specs.Prelude.{◌≡◌, ◌∷◌, [], true, IfOk, IfErr, MatchResult};
 ghost use Rattle.uca_values.specs.Content.{properties_of};
 ghost use Rattle.uca_elements.specs.Rows.{rows_of};
-ghost use Rattle.uca_elements.specs.Collations.{collation_of};
+ghost use Rattle.uca_elements.specs.Collations.{collation_of, collation_over};
 ghost use Rattle.uca_order.specs.Lengths.{HasShortRows};
 ghost use Rattle.uca_run_parts.specs.Files.{HaveFailed, Over, table_and_data, table_and_data_roles, table_with};
 ghost use Rattle.uca_run_parts.specs.EachLine.{ended_before_input};
-ghost use Rattle.uca_changes.specs.Weightings.{weighting_by};
-ghost use Rattle.uca_key_runs.specs.Keys.{IsCollation, collation_in};
+ghost use Rattle.uca_order.specs.Keyings.{weighting_by};
+ghost use Rattle.uca_key_runs.specs.Keys.{IsCollation};
 
 mod packed_files;
 
@@ -39,7 +39,7 @@ impl<A: Allocator> ReadCollation<A> {
     /// What texts are read by.
     pub(crate) fn collator(&self) -> Collator<'_, Trie<A>, A>
         ensures { collation_of ⟦<Trie<A> as Lookup>⟧.content result
-            ≡ collation_in (⟦<Trie<A> as Lookup>⟧.content self.now.rows) self.now.header (properties_of self.now.properties) }
+            ≡ collation_over (⟦<Trie<A> as Lookup>⟧.content self.now.rows) self.now.header (properties_of self.now.properties) }
     {
         Collator::new(&self.rows, &self.header, &self.properties)
     }
@@ -59,7 +59,7 @@ pub(crate) fn read_collation<A: Allocator + Copy, T: Read, D: Read>(
 ) -> Result<ReadCollation<A>, RunFault>
     ensures read { Over table_and_data (table.old ∷ properties.old ∷ []) (table.new ∷ properties.new ∷ [])
         (λ content. MatchResult result
-        (λ read. IsCollation weighting (collation_in (⟦<Trie<A> as Lookup>⟧.content read.rows) read.header
+        (λ read. IsCollation weighting (collation_over (⟦<Trie<A> as Lookup>⟧.content read.rows) read.header
         (properties_of read.properties)) read.weighting content)
         (λ fault. fault ≡ RunFault.Memory)) result }
     ensures short { IfOk result (λ read. HasShortRows (⟦<Trie<A> as Lookup>⟧.content read.rows)) }
@@ -85,7 +85,7 @@ pub(crate) fn collation_of<A: Allocator + Copy>(
     properties: Data<A>,
     asked: Option<Weighting>,
 ) -> Result<ReadCollation<A>, RunFault>
-    ensures made { IfOk result (λ read. IsCollation asked (collation_in (⟦<Trie<A> as Lookup>⟧.content read.rows) read.header
+    ensures made { IfOk result (λ read. IsCollation asked (collation_over (⟦<Trie<A> as Lookup>⟧.content read.rows) read.header
         (properties_of read.properties)) read.weighting (table_with table (properties_of properties))) }
     ensures short { IfOk result (λ read. HasShortRows (⟦<Trie<A> as Lookup>⟧.content read.rows)) }
     ensures refused { IfErr result (λ fault. fault ≡ RunFault.Memory) }

@@ -4,7 +4,7 @@ ghost use Rattle.std.specs.Prelude.{◌≡◌, ◌∷◌, [], ◌≤◌, ◌||�
 ghost use Rattle.uca_values.specs.Content.{properties_of};
 ghost use Rattle.uca_text.specs.Texts.{nfd_text};
 ghost use Rattle.uca_text.specs.Limits.{IsAccepted};
-ghost use Rattle.uca_key_runs.specs.Keys.{key_settings_of};
+ghost use Rattle.uca_order.specs.Keyings.{keying_of};
 ghost use Rattle.uca_run_parts.specs.Files.{ended_by_file};
 ghost use Rattle.uca_run_parts.specs.Runs.{ended_before_output, ended_by_output};
 ghost use Rattle.uca_key_runs.specs.CompareRun.{comparison_line, RefusesWord, Compares, WritesComparison, comparing};
@@ -37,7 +37,7 @@ pub fn compare_words<L: Lookup, A: Allocator, W: Write>(
     right: &str,
     out: &mut Sink<W>,
 ) -> Result<(), RunFault>
-    ensures writes { WritesComparison (key_settings_of L.content collator.now weighting depth) left.now right.now out.old.contents out.new.contents result }
+    ensures writes { WritesComparison (keying_of L.content collator.now weighting depth) left.now right.now out.old.contents out.new.contents result }
     ensures of_texts { ended_by_file result ≡ false }
     ensures nothing_written { ended_before_output result ≡ true → out.new ≡ out.old }
     ensures out_failed { out.new.failed ≡ (out.old.failed || ended_by_output result) }

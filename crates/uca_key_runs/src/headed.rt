@@ -2,13 +2,13 @@
 
 ghost use Rattle.std.specs.Prelude.{◌≡◌, ◌≤◌, ◌∷◌, [], ◌||◌, false, true, length, IfErr, IfOk, IfSome, MatchResult};
 ghost use Rattle.uca_values.specs.Content.{properties_of};
-ghost use Rattle.uca_elements.specs.Collations.{collation_of};
+ghost use Rattle.uca_elements.specs.Collations.{collation_of, collation_over};
 ghost use Rattle.uca_order.specs.Lengths.{HasShortRows};
 ghost use Rattle.uca_run_parts.specs.Files.{HaveFailed, Over, table_and_data_roles};
 ghost use Rattle.uca_run_parts.specs.Runs.{is_input_read, ended_by_output};
 ghost use Rattle.uca_run_parts.specs.EachLine.{ended_before_input};
 ghost use Rattle.uca_fingerprint_runs.specs.SummedFiles.{summed_files, summed_with};
-ghost use Rattle.uca_key_runs.specs.Keys.{collation_in, key_settings_of};
+ghost use Rattle.uca_order.specs.Keyings.{keying_of};
 ghost use Rattle.uca_key_runs.specs.HeadedRun.{PrintsHeadedKeys, PrintsHeadedLines, WritesHeaded};
 ghost use Rattle.uca_key_runs.specs.HeadedParts.{IsHeaded, PrintsHeadedAs, ended_after};
 ghost use Rattle.uca_key_runs.specs.KeyForms.{line_as};
@@ -53,7 +53,7 @@ fn print_headed<L: Lookup, T: Allocator, A: Allocator + Copy, I: Read, W: Write>
     requires rows { HasShortRows (collation_of L.content collator.now).rows }
     requires short { length header.now ≤ 128 }
     ensures writes { IfSome input.old.remaining (λ bytes.
-        let c = key_settings_of L.content collator.now weighting depth in
+        let c = keying_of L.content collator.now weighting depth in
         WritesHeaded header.now c.collation.properties (line_as form c) bytes input.new.remaining out.old.contents out.new.contents result) }
     ensures of_lines { ended_before_input result ≡ false }
     ensures input_failed { ended_by_output result ≡ false →
@@ -76,7 +76,7 @@ fn headed_collation<A: Allocator + Copy>(
     asked: Option<Weighting>,
     depth: Depth,
 ) -> Result<(ReadCollation<A>, KeyHeader), RunFault>
-    ensures made { IfOk result (λ made. IsHeaded asked depth (collation_in (⟦<Trie<A> as Lookup>⟧.content made.0.rows) made.0.header
+    ensures made { IfOk result (λ made. IsHeaded asked depth (collation_over (⟦<Trie<A> as Lookup>⟧.content made.0.rows) made.0.header
         (properties_of made.0.properties)) made.0.weighting made.1
         (summed_with files.table (properties_of files.properties.0, files.properties.1))) }
     ensures short { IfOk result (λ made. HasShortRows (⟦<Trie<A> as Lookup>⟧.content made.0.rows)) }
@@ -105,7 +105,7 @@ fn read_headed<A: Allocator + Copy, T: Read, D: Read>(
 ) -> Result<(ReadCollation<A>, KeyHeader), RunFault>
     ensures read { Over summed_files (table.old ∷ properties.old ∷ []) (table.new ∷ properties.new ∷ [])
         (λ content. MatchResult result
-        (λ made. IsHeaded asked depth (collation_in (⟦<Trie<A> as Lookup>⟧.content made.0.rows) made.0.header
+        (λ made. IsHeaded asked depth (collation_over (⟦<Trie<A> as Lookup>⟧.content made.0.rows) made.0.header
         (properties_of made.0.properties)) made.0.weighting made.1 content)
         (λ fault. fault ≡ RunFault.Memory)) result }
     ensures short { IfOk result (λ made. HasShortRows (⟦<Trie<A> as Lookup>⟧.content made.0.rows)) }

@@ -8,7 +8,8 @@ ghost use Rattle.uca_lines.specs.Buffered.{HasRoom, WritesThrough};
 ghost use Rattle.uca_text.specs.Texts.{nfd_text};
 ghost use Rattle.uca_elements.specs.Collations.{collation_of};
 ghost use Rattle.uca_order.specs.Lengths.{HasShortRows};
-ghost use Rattle.uca_key_runs.specs.Keys.{key_settings_of, settings_at, settings_of};
+ghost use Rattle.uca_order.specs.Keyings.{keying_of};
+ghost use Rattle.uca_key_runs.specs.Keys.{keying_at, keying_of_writer};
 ghost use Rattle.uca_run_parts.specs.Runs.{is_input_read, ended_by_output};
 ghost use Rattle.uca_run_parts.specs.EachLine.{WritesEach, ended_before_input};
 ghost use Rattle.uca_run_parts.specs.EachLineSoFar.{HasWritten, WritesText, WritesRest};
@@ -104,16 +105,16 @@ fn make_key<'a, L: Lookup, T: Allocator, A: Allocator, D: Allocator>(
     lines: &InputLines<A>,
     properties: &Data<D>,
 ) -> Result<(), InputKind>
-    requires { MakesKeys form depth (properties_of properties.now) (settings_of L.content key.old) }
+    requires { MakesKeys form depth (properties_of properties.now) (keying_of_writer L.content key.old) }
     ensures made { OnOk result (printed_as form depth key.new.key text.new.points lines.now.line
-        ≡ line_as form (settings_at L.content key.old depth) lines.now.line) }
+        ≡ line_as form (keying_at L.content key.old depth) lines.now.line) }
     ensures short { OnOk result (length key.new.key < 2 ^ 40) }
     ensures clean { (before : ℕ) → before < LINE_LIMIT →
         OnOk result (cause_of (properties_of properties.now) before lines.now.line ≡ None) }
     ensures fault { (before : ℕ) → before < LINE_LIMIT →
         IfErr result (HasTextCause (properties_of properties.now) before lines.now.line) }
     ensures not_read { is_read result ≡ false }
-    ensures kept { settings_of L.content key.new ≡ settings_of L.content key.old }
+    ensures kept { keying_of_writer L.content key.new ≡ keying_of_writer L.content key.old }
 {
     match write_line_key(key, lines) {
         Ok(()) => match take_shown_text(text, form, depth, lines, properties) {
@@ -145,18 +146,18 @@ impl<'a, L: Lookup, T: Allocator, A: Allocator> KeyRun<'a, L, T, A> {
         properties: &Data<D>,
         input: &mut Source<I>,
     ) -> Result<bool, RunFault>
-        requires { MakesKeys form depth (properties_of properties.now) (settings_of L.content self.old.key) }
+        requires { MakesKeys form depth (properties_of properties.now) (keying_of_writer L.content self.old.key) }
         ensures reads { (start : Option (List ℕ)) (before : List (List ℕ)) →
             HasRead (properties_of properties.now) start before self.old.lines input.old →
             ReadsCleanLine (properties_of properties.now) start before self.new.lines input.new result }
         ensures made { IfOk result (λ more. OnTrue more (
             printed_as form depth self.new.key.key self.new.text.points self.new.lines.line
-            ≡ line_as form (settings_at L.content self.old.key depth) self.new.lines.line)) }
+            ≡ line_as form (keying_at L.content self.old.key depth) self.new.lines.line)) }
         ensures short { IfOk result (λ more. OnTrue more (length self.new.key.key < 2 ^ 40)) }
         ensures count { IfOk result (λ more. OnTrue more ((self.new.lines.reader.number ≡ self.old.lines.reader.number + 1)
             × (self.old.lines.reader.number < LINE_LIMIT))) }
         ensures output { self.new.output ≡ self.old.output }
-        ensures kept { settings_of L.content self.new.key ≡ settings_of L.content self.old.key }
+        ensures kept { keying_of_writer L.content self.new.key ≡ keying_of_writer L.content self.old.key }
         ensures not_write { ended_by_output result ≡ false }
         ensures failed { input.new.failed ≡ (input.old.failed || is_input_read result) }
     {
@@ -224,12 +225,12 @@ impl<'a, L: Lookup, T: Allocator, A: Allocator> KeyRun<'a, L, T, A> {
         input: &mut Source<I>,
         out: &mut Sink<W>,
     ) -> Result<(), RunFault>
-        requires makes { MakesKeys form depth (properties_of properties.now) (settings_of L.content self.old.key) }
+        requires makes { MakesKeys form depth (properties_of properties.now) (keying_of_writer L.content self.old.key) }
         requires small { self.old.output.written + length self.old.output.held
             ≤ self.old.lines.reader.number * 2 ^ 42 }
         ensures prints { (start begun : Option (List ℕ)) (before : List (List ℕ)) →
             let points = properties_of properties.now in
-            let c = settings_at L.content self.old.key depth in
+            let c = keying_at L.content self.old.key depth in
             HasWritten points (line_as form c) start begun before self.old.lines input.old self.old.output out.old →
             WritesRest points (line_as form c) start begun input.new self.new.output out.new result }
         ensures input_failed { input.new.failed ≡ (input.old.failed || is_input_read result) }
@@ -260,7 +261,7 @@ pub(crate) fn print_lines<L: Lookup, T: Allocator, A: Allocator + Copy, I: Read,
 ) -> Result<(), RunFault>
     requires { HasShortRows (collation_of L.content collator.now).rows }
     ensures writes { IfSome input.old.remaining (λ bytes.
-        let c = key_settings_of L.content collator.now weighting depth in
+        let c = keying_of L.content collator.now weighting depth in
         WritesEach c.collation.properties (line_as form c) bytes input.new.remaining out.old.contents out.new.contents result) }
     ensures of_lines { ended_before_input result ≡ false }
     ensures input_failed { ended_by_output result ≡ false →

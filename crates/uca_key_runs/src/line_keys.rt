@@ -4,7 +4,8 @@ ghost use Rattle.std.specs.Prelude.{◌≡◌, ℕ, ◌<◌, ◌^◌, false, IfE
 ghost use Rattle.uca_order.specs.Lengths.{HasShortRows};
 ghost use Rattle.uca_key_writer.specs.Writers.{collation_by};
 ghost use Rattle.uca_run_parts.specs.Input.{cause_of};
-ghost use Rattle.uca_key_runs.specs.Keys.{line_key, settings_at};
+ghost use Rattle.uca_order.specs.Keyings.{key_of_bytes};
+ghost use Rattle.uca_key_runs.specs.Keys.{keying_at};
 ghost use Rattle.uca_run_parts.specs.Texts.{HasTextCause, is_read};
 
 use std::alloc::Allocator;
@@ -23,7 +24,7 @@ pub(crate) fn write_line_key<'a, L: Lookup, T: Allocator, A: Allocator>(
     writer: &mut KeyWriter<'a, L, T, A>,
     lines: &InputLines<A>,
 ) -> Result<(), InputKind>
-    ensures key { OnOk result (writer.new.key ≡ line_key (settings_at L.content writer.old writer.old.depth) lines.now.line) }
+    ensures key { OnOk result (writer.new.key ≡ key_of_bytes (keying_at L.content writer.old writer.old.depth) lines.now.line) }
     ensures clean { (before : ℕ) → before < LINE_LIMIT →
         OnOk result (cause_of (collation_by L.content writer.old).properties before lines.now.line ≡ None) }
     ensures fault { (before : ℕ) → before < LINE_LIMIT →
@@ -54,7 +55,7 @@ pub(crate) fn write_line_beginning<'a, L: Lookup, T: Allocator, A: Allocator>(
     lines: &InputLines<A>,
 ) -> Result<(), InputKind>
     ensures beginning { OnOk result (take 16 writer.new.key ≡
-        take 16 (line_key (settings_at L.content writer.old writer.old.depth) lines.now.line)) }
+        take 16 (key_of_bytes (keying_at L.content writer.old writer.old.depth) lines.now.line)) }
     ensures clean { (before : ℕ) → before < LINE_LIMIT →
         OnOk result (cause_of (collation_by L.content writer.old).properties before lines.now.line ≡ None) }
     ensures fault { (before : ℕ) → before < LINE_LIMIT →

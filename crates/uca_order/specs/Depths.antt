@@ -6,7 +6,7 @@ use Rattle.uca_weights.specs.declared.Depth.{Depth}
 use Rattle.uca_weights.specs.declared.Depth.TheVariants.{Weights, Identical}
 use Rattle.uca_weights.specs.declared.Element.{Element}
 use Rattle.uca_weights.specs.declared.Weighting.{Weighting}
-use Rattle.uca_text.specs.Texts.{NfdText}
+use Rattle.uca_text.specs.Texts.{NfdText, nfd_text}
 use Rattle.uca_elements.specs.Collations.{Collation, elements_of}
 use Rattle.uca_order.specs.Levels.{Comparison, level_lists, level_count, compare_from, key_bytes}
 
@@ -42,3 +42,14 @@ points_bytes points = flat_map point_bytes points
 abbrev pub key_at : Depth → Weighting → ReadText → List ℕ
 key_at Weights weighting t = key_bytes weighting t.elements
 key_at Identical weighting t = key_bytes weighting t.elements ++ (0 ∷ 0 ∷ points_bytes t.points)
+
+-- ---- Texts that are given as their code points before normalization
+
+-- the sort key of such a text
+abbrev pub text_key : Collation → Depth → Weighting → List ℕ → List ℕ
+text_key c depth weighting points = key_at depth weighting (read_text c (nfd_text c.properties points))
+
+-- how two of them compare
+abbrev pub texts_compared : Collation → Depth → Weighting → List ℕ → List ℕ → Comparison
+texts_compared c depth weighting left right =
+    compared_at depth weighting (read_text c (nfd_text c.properties left)) (read_text c (nfd_text c.properties right))

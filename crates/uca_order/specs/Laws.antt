@@ -6,12 +6,12 @@ use Rattle.uca_weights.specs.declared.Depth.{Depth}
 use Rattle.uca_weights.specs.declared.Depth.TheVariants.{Identical}
 use Rattle.uca_weights.specs.Kinds.{IsCompletelyIgnorable}
 use Rattle.uca_values.specs.Content.{Entry, AreRows}
-use Rattle.uca_text.specs.Texts.{NfdText, AreCanonicallyEquivalent, nfd_text}
+use Rattle.uca_text.specs.Texts.{NfdText, AreCanonicallyEquivalent}
 use Rattle.uca_text.specs.Limits.{IsAccepted}
 use Rattle.uca_elements.specs.Rows.{Rows, rows_of}
 use Rattle.uca_elements.specs.Collations.{Collation, elements_of}
-use Rattle.uca_order.specs.Levels.{Comparison, is_completely_ignorable, level_count, lexicographic, compared, key_bytes}
-use Rattle.uca_order.specs.Depths.{ReadText, read_text, levels_at, compared_at, key_at}
+use Rattle.uca_order.specs.Levels.{is_completely_ignorable, level_count, lexicographic, compared, key_bytes}
+use Rattle.uca_order.specs.Depths.{ReadText, read_text, levels_at, compared_at, key_at, text_key, texts_compared}
 use Rattle.uca_order.specs.Fetched.{fetched_left, fetched_right}
 use Rattle.uca_order.specs.StoredKeys.{stored_level}
 use Rattle.uca_order.specs.Lengths.{HasShortRows}
@@ -21,15 +21,6 @@ abbrev pub KeysCompareAsElements : Type 0
 KeysCompareAsElements = (weighting : Weighting) (left right : List Element) →
     (lexicographic (key_bytes weighting left) (key_bytes weighting right) ≡ (compared weighting left right).order)
     × ((key_bytes weighting left ≡ key_bytes weighting right) ↔ ((compared weighting left right).level ≡ 0))
-
--- the key of a text that is given as its code points before normalization
-abbrev pub text_key : Collation → Depth → Weighting → List ℕ → List ℕ
-text_key c depth weighting points = key_at depth weighting (read_text c (nfd_text c.properties points))
-
--- how two such texts compare
-abbrev pub texts_compared : Collation → Depth → Weighting → List ℕ → List ℕ → Comparison
-texts_compared c depth weighting left right =
-    compared_at depth weighting (read_text c (nfd_text c.properties left)) (read_text c (nfd_text c.properties right))
 
 -- Two stored keys give the order of their elements and the level at which they differ, by their bytes alone.
 abbrev pub StoredKeysCompareAsElements : Type 0

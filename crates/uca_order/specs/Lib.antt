@@ -1,5 +1,6 @@
 pub mod Levels
 pub mod Depths
+pub mod Keyings
 pub mod Fetched
 pub mod Laws
 pub mod StreamedWeights

@@ -6,7 +6,7 @@ use Rattle.std.specs.Ordering.{ordering_reverse}
 use Rattle.std.proofs.lemmas.Cmp.{nat_list_cmp_total}
 use Rattle.uca_order.specs.Levels.{lexicographic}
 use Rattle.uca_order.specs.Laws.{StoredKeysCompareAsTexts}
-use Rattle.uca_owned.specs.Keyings.{Keying, key_of_bytes}
+use Rattle.uca_order.specs.Keyings.{Keying, key_of_bytes}
 use Rattle.uca_owned.specs.Causes.{IsAcceptedText}
 use Rattle.uca_owned.specs.Orders.{IsOrder, OrdersAreTotal}
 

@@ -1,5 +1,4 @@
 pub mod Causes
-pub mod Keyings
 pub mod Opening
 pub mod Orders
 pub mod Owned

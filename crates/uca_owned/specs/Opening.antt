@@ -8,7 +8,7 @@ use Rattle.uca_lines.specs.FileStops.{IsStop}
 use Rattle.uca_table.specs.TableLines as tables
 use Rattle.uca_table.specs.DataSoFar as data_files
 use Rattle.uca_fingerprint.specs.Fingerprints.{fingerprint}
-use Rattle.uca_owned.specs.Keyings.{Keying, keying}
+use Rattle.uca_order.specs.Keyings.{Keying, keying}
 use Rattle.uca_owned.specs.declared.faults.OpenFault.{OpenFault}
 use Rattle.uca_owned.specs.declared.faults.OpenFault.TheVariants.{Table, Data, Memory}
 

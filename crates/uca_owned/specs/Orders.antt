@@ -4,7 +4,7 @@ use Rattle.std.specs.declared.cmp.Ordering.{Ordering}
 use Rattle.std.specs.declared.cmp.Ordering.TheVariants.{Less, Equal, Greater}
 use Rattle.std.specs.Ordering.{ordering_reverse}
 use Rattle.uca_order.specs.Levels.{lexicographic}
-use Rattle.uca_owned.specs.Keyings.{Keying, bytes_compared}
+use Rattle.uca_order.specs.Keyings.{Keying, bytes_compared}
 use Rattle.uca_owned.specs.Causes.{IsAcceptedText}
 
 -- accepted texts are in their order, and all other bytes after them, in the order of bytes

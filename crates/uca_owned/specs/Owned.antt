@@ -2,7 +2,7 @@
 use Rattle.std.specs.Prelude.{ℕ, List}
 use Rattle.uca_match.specs.NumberedKeys.{rows_at}
 use Rattle.uca_key_writer.specs.Writers.{collation_by}
-use Rattle.uca_owned.specs.Keyings.{Keying}
+use Rattle.uca_order.specs.Keyings.{Keying}
 use Rattle.uca_owned.specs.declared.owned.OwnedCollator.{OwnedCollator}
 
 -- what it keys texts by

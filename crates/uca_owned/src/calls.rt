@@ -4,7 +4,7 @@ ghost use Rattle.std.specs.Prelude.{◌≡◌, chars, IfOk, IfErr, OnOk};
 ghost use Rattle.uca_values.specs.Content.{properties_of};
 ghost use Rattle.uca_text.specs.Texts.{nfd_text};
 ghost use Rattle.uca_order.specs.Depths.{read_text, compared_at};
-ghost use Rattle.uca_owned.specs.Keyings.{key_of_bytes, bytes_compared};
+ghost use Rattle.uca_order.specs.Keyings.{key_of_bytes, bytes_compared};
 ghost use Rattle.uca_owned.specs.Owned.{keying_in, key_in};
 ghost use Rattle.uca_owned.specs.Causes.{IsAcceptedText, IsKeyCause, IsCompareCause};
 

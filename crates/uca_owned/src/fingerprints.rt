@@ -2,7 +2,7 @@
 
 ghost use Rattle.std.specs.Prelude.{◌≡◌, IfOk, IfErr, MatchResult};
 ghost use Rattle.uca_values.specs.Content.{TableContent, Properties};
-ghost use Rattle.uca_owned.specs.Keyings.{keying};
+ghost use Rattle.uca_order.specs.Keyings.{keying};
 ghost use Rattle.uca_owned.specs.Opening.{HasFingerprint, IsOpenCause, IsOpenStop, MeanFiles, fingerprint_by};
 
 use crate::faults::OpenFault;

@@ -3,7 +3,7 @@
 ghost use Rattle.std.specs.Prelude.{◌≡◌, IfOk, IfErr, MatchResult};
 ghost use Rattle.uca_values.specs.Content.{TableContent, Properties, properties_of};
 ghost use Rattle.uca_match.specs.NumberedKeys.{rows_at};
-ghost use Rattle.uca_owned.specs.Keyings.{keying, keying_over, weighting_by};
+ghost use Rattle.uca_order.specs.Keyings.{keying, keying_over, weighting_by};
 ghost use Rattle.uca_owned.specs.Owned.{keying_in};
 ghost use Rattle.uca_owned.specs.Opening.{MeanFiles, Opens, IsOpenCause, IsOpenStop};
 

@@ -1,6 +1,6 @@
 //! The run that puts the stored keys of lines through the maps of a certificate.
 
-ghost use Rattle.std.specs.Prelude.{◌≡◌, ◌∷◌, [], ℕ, ◌^◌, ◌≤◌, ◌||◌, true, false, List, Option, OnOk, IfErr, IfSome, MatchResult, length};
+ghost use Rattle.std.specs.Prelude.{◌≡◌, ◌∷◌, [], ℕ, ◌^◌, ◌≤◌, ◌||◌, true, false, List, Option, IfErr, IfSome, MatchResult, length};
 ghost use Rattle.uca_weights.specs.Streams.{SinkState};
 ghost use Rattle.uca_run_parts.specs.EachLine.{ended_before_input};
 ghost use Rattle.uca_run_parts.specs.Files.{HaveFailed, Over};
@@ -168,7 +168,7 @@ fn begin_by<A: Allocator + Copy>(
 /// weighting. The certificate is read first.
 ///
 /// A line begins with the upper-case hexadecimal digits of its key. They end before the first tab, or with the line, and there may be spaces
-/// among them. So a line may be one that `run_keys` or `run_keyed_lines` of the crate `uca_runs` printed. It is
+/// among them. So a line may be one that `run_keys` or `run_keyed_lines` of the crate `uca_key_runs` printed. It is
 /// written with the digits of the new key in their place, and with LF; all else of it stays. Memory grows with the longest line
 /// alone.
 ///

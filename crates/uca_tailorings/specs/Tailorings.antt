@@ -12,7 +12,7 @@ use Rattle.uca_text.specs.Texts.{NfdText}
 use Rattle.uca_rules.specs.declared.relations.Relation.{Relation}
 use Rattle.uca_rules.specs.Relations.{IsTarget, AreRules}
 use Rattle.uca_elements.specs.Rows.{IsKey, rows_of}
-use Rattle.uca_elements.specs.Collations.{Collation, elements_of}
+use Rattle.uca_elements.specs.Collations.{Collation, collation_under, elements_of}
 use Rattle.uca_weights.specs.PerLevel.{at_level}
 use Rattle.uca_tailorings.specs.Images.{Maps, AreRisingMaps}
 use Rattle.uca_tailorings.specs.KeptRows.{IsKeptRow, IsKnownRow}
@@ -38,15 +38,13 @@ pub record IsTailoring (tailoring : Tailoring) : Type 0 where
 
 -- ---- Reading
 
--- what texts are read by under a table
-abbrev pub reading_by : TableContent → Properties → Collation
-reading_by table properties = record { rows = rows_of table.rows; ranges = table.header.ranges; properties = properties }
-
+-- what texts are read by under the base
 abbrev pub base_reading : Tailoring → Collation
-base_reading tailoring = reading_by tailoring.base tailoring.properties
+base_reading tailoring = collation_under tailoring.base tailoring.properties
 
+-- and under the tailored table
 abbrev pub tailored_reading : Tailoring → Collation
-tailored_reading tailoring = reading_by tailoring.tailored tailoring.properties
+tailored_reading tailoring = collation_under tailoring.tailored tailoring.properties
 
 -- the elements of a relation's anchor under the tailored table
 abbrev pub anchor_elements : Tailoring → Relation → List Element

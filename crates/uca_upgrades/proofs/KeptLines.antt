@@ -19,7 +19,9 @@ use Rattle.uca_run_parts.specs.Print.{keyed_line_of}
 use Rattle.uca_rekey.specs.Laws.{AreBytes, LinesMove}
 use Rattle.uca_rekey.specs.RekeyedLines.{rekeyed}
 use Rattle.uca_rekey.proofs.MovedLines.{lines_move}
-use Rattle.uca_key_runs.specs.Keys.{KeySettings, collation, key_settings, keyed_line, printed_key}
+use Rattle.uca_elements.specs.Collations.{collation_under}
+use Rattle.uca_order.specs.Keyings.{Keying, keying}
+use Rattle.uca_key_runs.specs.Keys.{keyed_line, printed_key}
 use Rattle.uca_key_runs.proofs.NormalLines.{normal_line}
 use Rattle.uca_upgrades.specs.Upgrades.{Upgrade, AreUnaffectedLines, IsRekeyed, IsStoredLineKey, IsUnaffectedLine, KeepsOrder, new_key, new_settings, new_weighting, old_key, old_settings, stored_weighting}
 use Rattle.uca_upgrades.proofs.KeyBytes.{text_key_is_bytes}
@@ -27,7 +29,7 @@ use Rattle.uca_upgrades.proofs.Outputs.{keyed_body, keyed_body_lacks, keyed_is, 
 
 -- a line as it is read under some files
 abbrev pub read_line : TableAndData → List ℕ → ReadText
-read_line files line = read_text (collation files.table files.properties) (nfd_text files.properties (chars line))
+read_line files line = read_text (collation_under files.table files.properties) (nfd_text files.properties (chars line))
 
 -- the text of an unaffected line has scalar values alone, in Normalization Form D and under any data file
 pub line_scalars : (upgrade : Upgrade) (line : List ℕ) (is : IsUnaffectedLine upgrade line) →
@@ -43,8 +45,8 @@ abbrev pub KeepsWeighting : Upgrade → Type 0
 KeepsWeighting upgrade = (asked : Option Weighting) → new_weighting upgrade asked ≡ stored_weighting upgrade asked
 
 -- what keys go by under some files, by this weighting
-abbrev settings_by : TableAndData → Depth → Weighting → KeySettings
-settings_by files depth weighting = key_settings (Some weighting) depth files.table files.properties
+abbrev settings_by : TableAndData → Depth → Weighting → Keying
+settings_by files depth weighting = keying (Some weighting) depth files.table files.properties
 
 module _ (upgrade : Upgrade) (is : IsTable upgrade.old.table) (moves : Moves upgrade) (keeps : KeepsWeighting upgrade) (asked : Option Weighting)
     (depth : Depth) where

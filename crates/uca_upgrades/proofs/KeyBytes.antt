@@ -16,11 +16,10 @@ use Rattle.uca_values.proofs.ImplicitPairs.{each_pair}
 use Rattle.uca_text.specs.Texts.{NfdText, code_points, with_classes}
 use Rattle.uca_text.proofs.Occurring.{each_occurring}
 use Rattle.uca_elements.specs.Rows.{rows_of, same_key}
-use Rattle.uca_elements.specs.Collations.{elements_of}
+use Rattle.uca_elements.specs.Collations.{elements_of, collation_under}
 use Rattle.uca_order.specs.Levels as levels
 use Rattle.uca_order.specs.Levels.{follows_variable, is_completely_ignorable, is_ignorable, key_bytes, level_bytes, level_count, level_list, level_lists_from, levels_bytes, weight_at, weighted, weighted_following, weights_of}
 use Rattle.uca_order.specs.Depths.{key_at, points_bytes, read_text}
-use Rattle.uca_tailorings.specs.Tailorings.{reading_by}
 use Rattle.uca_tailorings.proofs.ReadingEach.{read_each}
 use Rattle.uca_tailorings.proofs.UntouchedTexts.{letters_occur}
 use Rattle.uca_rekey.specs.Laws.{AreBytes}
@@ -50,7 +49,7 @@ implicit_fits ranges properties are c scalar =
 
 -- so all elements of a text of scalar values do
 elements_fit : (table : TableContent) (properties : Properties) → IsTable table → (text : NfdText) → AllByRecursion IsScalar text.points →
-    AllByRecursion Fits (elements_of (reading_by table properties) text)
+    AllByRecursion Fits (elements_of (collation_under table properties) text)
 elements_fit table properties is text scalars =
     read_each Fits (implicit table.header.ranges properties) (rows_of table.rows) (with_classes text.points text.classes)
     (λ key row occurs found. row_fits table.rows key row is.rows.entries found)
@@ -134,10 +133,10 @@ key_is_bytes weighting es all =
 
 -- the key of a text, at either depth
 pub text_key_is_bytes : (table : TableContent) (properties : Properties) → IsTable table → (depth : Depth) (weighting : Weighting) (text : NfdText) →
-    AllByRecursion IsScalar text.points → AreBytes (key_at depth weighting (read_text (reading_by table properties) text))
+    AllByRecursion IsScalar text.points → AreBytes (key_at depth weighting (read_text (collation_under table properties) text))
 text_key_is_bytes table properties is Weights weighting text scalars =
-    key_is_bytes weighting (elements_of (reading_by table properties) text) (elements_fit table properties is text scalars)
+    key_is_bytes weighting (elements_of (collation_under table properties) text) (elements_fit table properties is text scalars)
 text_key_is_bytes table properties is Identical weighting text scalars =
-    each_append (λ n. n < 256) (key_bytes weighting (elements_of (reading_by table properties) text)) (0 ∷ 0 ∷ points_bytes text.points)
-    (key_is_bytes weighting (elements_of (reading_by table properties) text) (elements_fit table properties is text scalars))
+    each_append (λ n. n < 256) (key_bytes weighting (elements_of (collation_under table properties) text)) (0 ∷ 0 ∷ points_bytes text.points)
+    (key_is_bytes weighting (elements_of (collation_under table properties) text) (elements_fit table properties is text scalars))
     (omega arith, (omega arith, points_are_bytes text.points scalars))

@@ -15,7 +15,8 @@ use Rattle.uca_run_parts.specs.Print.{byte_digits, groups, printed_after, printe
 use Rattle.uca_run_parts.proofs.LineCuts.{lines_of-ended}
 use Rattle.uca_rekey.specs.RekeyRun.{AreRekeyed}
 use Rattle.uca_rekey.specs.RekeyedLines.{rekeyed_by}
-use Rattle.uca_key_runs.specs.Keys.{KeySettings, keyed_line, line_key, printed_key}
+use Rattle.uca_order.specs.Keyings.{Keying, key_of_bytes}
+use Rattle.uca_key_runs.specs.Keys.{keyed_line, printed_key}
 
 -- ---- No line has an LF
 
@@ -101,30 +102,30 @@ output_rekeyed moved old_bytes old new_bytes new old_prints new_prints lines lac
 -- ---- Lines of output
 
 -- the line of output of a line, without its LF: its key alone, or before it
-pub printed_body : KeySettings → List ℕ → List ℕ
+pub printed_body : Keying → List ℕ → List ℕ
 printed_body c line =
     let text = nfd_text c.collation.properties (chars line) in
     printed_groups (key_bytes c.weighting (elements_of c.collation text)) ++ printed_after c.depth text.points
 
-pub keyed_body : KeySettings → List ℕ → List ℕ
-keyed_body c line = flat_map byte_digits (line_key c line) ++ 9 ∷ line
+pub keyed_body : Keying → List ℕ → List ℕ
+keyed_body c line = flat_map byte_digits (key_of_bytes c line) ++ 9 ∷ line
 
-pub printed_is : (c : KeySettings) → Prints (printed_key c) (printed_body c)
+pub printed_is : (c : Keying) → Prints (printed_key c) (printed_body c)
 unfolding printed_body
 printed_is c line =
     let text = nfd_text c.collation.properties (chars line) in
     sym (append_assoc (printed_groups (key_bytes c.weighting (elements_of c.collation text))) (printed_after c.depth text.points) (10 ∷ []))
 
-pub keyed_is : (c : KeySettings) → Prints (keyed_line c) (keyed_body c)
+pub keyed_is : (c : Keying) → Prints (keyed_line c) (keyed_body c)
 unfolding keyed_body
-keyed_is c line = sym (append_assoc (flat_map byte_digits (line_key c line)) (9 ∷ line) (10 ∷ []))
+keyed_is c line = sym (append_assoc (flat_map byte_digits (key_of_bytes c line)) (9 ∷ line) (10 ∷ []))
 
-pub printed_body_lacks : (c : KeySettings) (line : List ℕ) → Lacks is_lf (printed_body c line)
+pub printed_body_lacks : (c : Keying) (line : List ℕ) → Lacks is_lf (printed_body c line)
 unfolding printed_body
 printed_body_lacks c line =
     let text = nfd_text c.collation.properties (chars line) in
     printed_lacks c.depth (key_bytes c.weighting (elements_of c.collation text)) text.points
 
-pub keyed_body_lacks : (c : KeySettings) (line : List ℕ) → Lacks is_lf line → Lacks is_lf (keyed_body c line)
+pub keyed_body_lacks : (c : Keying) (line : List ℕ) → Lacks is_lf line → Lacks is_lf (keyed_body c line)
 unfolding keyed_body
-keyed_body_lacks c line lacks = Lacks-append is_lf (flat_map byte_digits (line_key c line)) (9 ∷ line) (digits_lack (line_key c line)) (refl, lacks)
+keyed_body_lacks c line lacks = Lacks-append is_lf (flat_map byte_digits (key_of_bytes c line)) (9 ∷ line) (digits_lack (key_of_bytes c line)) (refl, lacks)

@@ -7,7 +7,7 @@ use Rattle.uca_weights.specs.declared.Weighting.{Weighting}
 use Rattle.uca_values.specs.Content.{Properties}
 use Rattle.uca_lines.specs.Lines.{ended, lines_of}
 use Rattle.uca_text.specs.Texts.{nfd_text}
-use Rattle.uca_elements.specs.Collations.{elements_of}
+use Rattle.uca_elements.specs.Collations.{elements_of, collation_under}
 use Rattle.uca_order.specs.Levels.{lexicographic}
 use Rattle.uca_order.specs.Depths.{levels_at}
 use Rattle.uca_order.specs.StoredKeys.{stored_level}
@@ -15,7 +15,7 @@ use Rattle.uca_tailorings.specs.Images.{Maps, AreImages}
 use Rattle.uca_tailorings.specs.Moves.{moved_key}
 use Rattle.uca_tailorings.specs.Tailorings.{Tailoring}
 use Rattle.uca_changes.specs.Changes.{Change}
-use Rattle.uca_changes.specs.Weightings.{weighting_by}
+use Rattle.uca_order.specs.Keyings.{weighting_by, Keying, keying, key_of_bytes, bytes_compared}
 use Rattle.uca_run_parts.specs.AffectedRun.{is_affected, line_if}
 use Rattle.uca_run_parts.specs.Files.{TableAndData, table_with}
 use Rattle.uca_run_parts.specs.Input.{cause_of}
@@ -23,8 +23,7 @@ use Rattle.uca_run_parts.specs.Print.{keyed_line_of}
 use Rattle.uca_change_runs.specs.AffectedRun.{is_affected_by, listed_in}
 use Rattle.uca_rekey.specs.RekeyedLines.{rekeyed}
 use Rattle.uca_rekey.specs.RekeyRun.{AreRekeyed}
-use Rattle.uca_key_runs.specs.Keys.{KeySettings, collation, key_settings, keyed_line, line_key, printed_key}
-use Rattle.uca_key_runs.specs.Laws.{lines_compared}
+use Rattle.uca_key_runs.specs.Keys.{keyed_line, printed_key}
 
 -- ---- Upgrades
 
@@ -56,11 +55,11 @@ tailoring_upgrade tailoring = record {
 
 -- What keys go by under the old files, and under the new ones. Both runs are asked for this weighting, or for none: then each goes
 -- by what its table says, or else shifted.
-abbrev pub old_settings : Upgrade → Option Weighting → Depth → KeySettings
-old_settings upgrade asked depth = key_settings asked depth upgrade.old.table upgrade.old.properties
+abbrev pub old_settings : Upgrade → Option Weighting → Depth → Keying
+old_settings upgrade asked depth = keying asked depth upgrade.old.table upgrade.old.properties
 
-abbrev pub new_settings : Upgrade → Option Weighting → Depth → KeySettings
-new_settings upgrade asked depth = key_settings asked depth upgrade.new.table upgrade.new.properties
+abbrev pub new_settings : Upgrade → Option Weighting → Depth → Keying
+new_settings upgrade asked depth = keying asked depth upgrade.new.table upgrade.new.properties
 
 -- the weighting that the keys of a store were made by under the old files, and that of new keys
 abbrev pub stored_weighting : Upgrade → Option Weighting → Weighting
@@ -71,10 +70,10 @@ new_weighting upgrade asked = weighting_by asked upgrade.new.table.header.settin
 
 -- the key of a line under the old files, and under the new ones
 abbrev pub old_key : Upgrade → Option Weighting → Depth → List ℕ → List ℕ
-old_key upgrade asked depth line = line_key (old_settings upgrade asked depth) line
+old_key upgrade asked depth line = key_of_bytes (old_settings upgrade asked depth) line
 
 abbrev pub new_key : Upgrade → Option Weighting → Depth → List ℕ → List ℕ
-new_key upgrade asked depth line = line_key (new_settings upgrade asked depth) line
+new_key upgrade asked depth line = key_of_bytes (new_settings upgrade asked depth) line
 
 -- ---- What a store may have
 
@@ -86,9 +85,9 @@ pub record IsUnaffectedLine (upgrade : Upgrade) (line : List ℕ) : Type 0 where
   pub faultless : cause_of properties before line ≡ None
   pub unwritten : line_if upgrade.affects properties line ≡ []
 
--- the collation elements of a line under the old files
+-- the collation_under elements of a line under the old files
 abbrev pub old_elements : Upgrade → List ℕ → List Element
-old_elements upgrade line = elements_of (collation upgrade.old.table upgrade.old.properties) (nfd_text upgrade.old.properties (chars line))
+old_elements upgrade line = elements_of (collation_under upgrade.old.table upgrade.old.properties) (nfd_text upgrade.old.properties (chars line))
 
 -- A key that was kept for a line: its old key put through the maps, as `uca rekey` does it. Or its old key as it was, where each
 -- weight of the line is its own image.
@@ -127,11 +126,11 @@ pub record KeysAreUpgraded (upgrade : Upgrade) (asked : Option Weighting) (depth
   -- two keys of the store, compared as bytes, have the order of their lines under the new files
   pub ordered : (left right left_key right_key : List ℕ) →
       IsStoredLineKey upgrade asked depth left left_key → IsStoredLineKey upgrade asked depth right right_key →
-      lexicographic left_key right_key ≡ (lines_compared (new_settings upgrade asked depth) left right).order
+      lexicographic left_key right_key ≡ (bytes_compared (new_settings upgrade asked depth) left right).order
   -- and they give the level at which these differ
   pub levels : (left right left_key right_key : List ℕ) →
       IsStoredLineKey upgrade asked depth left left_key → IsStoredLineKey upgrade asked depth right right_key →
-      stored_level (levels_at depth (stored_weighting upgrade asked)) left_key right_key ≡ (lines_compared (new_settings upgrade asked depth) left right).level
+      stored_level (levels_at depth (stored_weighting upgrade asked)) left_key right_key ≡ (bytes_compared (new_settings upgrade asked depth) left right).level
   -- What `uca keys` printed of an unaffected line under the old files becomes, by `uca rekey`, what it prints under the new ones.
   -- Both are given here without their LF.
   pub printed_line : (line before after : List ℕ) → IsUnaffectedLine upgrade line →

@@ -1,6 +1,6 @@
 -- The comparison is by the collator that was taken out.
 use Rattle.std.proofs.Common.{◌∙◌, subst}
-use Rattle.uca_owned.specs.Keyings.{bytes_compared}
+use Rattle.uca_order.specs.Keyings.{bytes_compared}
 use Rattle.uca_owned.specs.Owned.{keying_in}
 use Rattle.uca_c.specs.Results.{IsComparison}
 use Rattle.uca_c.proofs.exports.uca_compare.Goals as goal

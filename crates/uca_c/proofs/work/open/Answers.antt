@@ -3,7 +3,7 @@ use Rattle.std.proofs.Common.{◌∙◌, ap}
 use Rattle.std.specs.Prelude.{Option, unwrap_or}
 use Rattle.uca_weights.specs.declared.Depth.{Depth}
 use Rattle.uca_weights.specs.declared.Weighting.{Weighting}
-use Rattle.uca_owned.specs.Keyings.{keying}
+use Rattle.uca_order.specs.Keyings.{keying}
 use Rattle.uca_owned.specs.Owned.{keying_in}
 use Rattle.uca_c.proofs.Telling.{told_stop}
 use Rattle.uca_c.proofs.work.open.Goals as goal

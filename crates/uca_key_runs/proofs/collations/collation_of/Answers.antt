@@ -2,7 +2,7 @@
 use Rattle.uca_values.specs.Content.{properties_of}
 use Rattle.uca_match.specs.NumberedKeys.{rows_at}
 use Rattle.uca_run_parts.specs.Files.{table_with}
-use Rattle.uca_key_runs.proofs.KeySettings.{made_of_files}
+use Rattle.uca_key_runs.proofs.Keyings.{made_of_files}
 use Rattle.uca_key_runs.proofs.collations.collation_of.Goals as goal
 
 pub returns-in-Ok-clause-made : goal.returns-in-Ok-clause-made

@@ -3,7 +3,7 @@ use Rattle.std.proofs.Common.{◌∙◌, Err, IfSome, ap, length, subst, sym}
 use Rattle.uca_run_parts.specs.EachLine.{ended_before_input}
 use Rattle.uca_run_parts.specs.Runs.{is_input_read}
 use Rattle.uca_run_parts.proofs.Running.{as_before}
-use Rattle.uca_key_runs.specs.Keys.{key_settings_of}
+use Rattle.uca_order.specs.Keyings.{keying_of}
 use Rattle.uca_key_runs.specs.HeadedRun.{WritesHeaded}
 use Rattle.uca_key_runs.specs.KeyForms.{line_as}
 use Rattle.uca_key_runs.proofs.HeadedRuns.{headed, input_after, out_after, part_of_header, same_before_input}
@@ -11,7 +11,7 @@ use Rattle.uca_key_runs.proofs.headed.print_headed.Goals as goal
 
 pub returns-in-Ok-clause-writes : goal.returns-in-Ok-clause-writes
 returns-in-Ok-clause-writes g c =
-    let settings = key_settings_of g.L.Lookup.content c.args.collator.now c.args.weighting c.args.depth in
+    let settings = keying_of g.L.Lookup.content c.args.collator.now c.args.weighting c.args.depth in
     let properties = settings.collation.properties in
     let bytes_of = line_as c.args.form settings in
     let header = c.args.header.now in
@@ -35,7 +35,7 @@ returns-in-Ok-clause-out_failed g c = out_after (length c.args.header.now) c.pri
 
 pub returns-in-Err-clause-writes : goal.returns-in-Err-clause-writes
 returns-in-Err-clause-writes g c =
-    let settings = key_settings_of g.L.Lookup.content c.args.collator.now c.args.weighting c.args.depth in
+    let settings = keying_of g.L.Lookup.content c.args.collator.now c.args.weighting c.args.depth in
     part_of_header c.args.header.now settings.collation.properties (line_as c.args.form settings) c.args.input.now.remaining c.args.input.now.remaining
     c.args.out.now.contents c.write_text.new.out.contents c.in-Err.fault c.requires.short c.in-Err.ensures.failed_in
 

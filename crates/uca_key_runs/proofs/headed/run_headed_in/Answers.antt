@@ -3,14 +3,14 @@ use Rattle.std.specs.Prelude.{⊤}
 use Rattle.std.proofs.Common.{◌≡◌, ◌∙◌, [], ◌∷◌, Err, IfSome, subst, sym}
 use Rattle.uca_values.specs.Content.{properties_of}
 use Rattle.uca_match.specs.NumberedKeys.{rows_at}
-use Rattle.uca_elements.specs.Collations.{Collation, collation_of}
+use Rattle.uca_elements.specs.Collations.{Collation, collation_of, collation_over}
 use Rattle.uca_order.specs.Lengths.{HasShortRows}
 use Rattle.uca_run_parts.specs.declared.faults.RunFault.TheVariants.{Memory}
 use Rattle.uca_run_parts.specs.Files.{table_and_data_roles, table_with}
 use Rattle.uca_run_parts.proofs.WholeRuns.{ended_before, ended_by_lines}
 use Rattle.uca_fingerprint_runs.specs.SummedFiles.{summed_files}
-use Rattle.uca_key_runs.specs.Keys.{KeySettings, collation_in, key_settings}
-use Rattle.uca_key_runs.proofs.KeySettings.{same_keying}
+use Rattle.uca_order.specs.Keyings.{Keying, keying}
+use Rattle.uca_key_runs.proofs.Keyings.{same_keying}
 use Rattle.uca_key_runs.specs.HeadedParts.{IsHeaded}
 use Rattle.uca_key_runs.specs.HeadedRun.{RunsHeaded, WritesHeaded}
 use Rattle.uca_key_runs.specs.KeyForms.{line_as}
@@ -33,7 +33,7 @@ print_headed-end-requires-clause-rows g c = subst (λ (collation : Collation). H
 pub returns-in-Ok : goal.returns-in-Ok
 returns-in-Ok g c =
     let read = c.in-Ok.read in
-    let made = collation_in (rows_at read.rows) read.header (properties_of read.properties) in
+    let made = collation_over (rows_at read.rows) read.header (properties_of read.properties) in
     let input = c.args.input.now in
     let input_new = c.print_headed-end.new.input in
     let out = c.args.out.now in
@@ -44,8 +44,8 @@ returns-in-Ok g c =
     (c.args.table.now ∷ c.args.properties.now ∷ []) (c.read_headed.new.table ∷ c.read_headed.new.properties ∷ []) {B = ⊤}
     input input_new out out_new tt end c.print_headed-end.ensures.of_lines
     (λ content is. headed_under (line_as c.args.form) c.args.weighting c.args.depth input input_new out out_new end content c.print_headed-end.ensures.of_lines
-    (subst (λ header. IfSome input.remaining (λ bytes. WritesHeaded header content.properties (line_as c.args.form (key_settings c.args.weighting c.args.depth content.table content.properties)) bytes input_new.remaining out.contents out_new.contents end)) (c.as_bytes-first.ensures.line ∙ is.1)
-    (subst (λ (d : KeySettings). IfSome input.remaining (λ bytes. WritesHeaded c.as_bytes-first.result.now d.collation.properties (line_as c.args.form d) bytes input_new.remaining out.contents out_new.contents end))
+    (subst (λ header. IfSome input.remaining (λ bytes. WritesHeaded header content.properties (line_as c.args.form (keying c.args.weighting c.args.depth content.table content.properties)) bytes input_new.remaining out.contents out_new.contents end)) (c.as_bytes-first.ensures.line ∙ is.1)
+    (subst (λ (d : Keying). IfSome input.remaining (λ bytes. WritesHeaded c.as_bytes-first.result.now d.collation.properties (line_as c.args.form d) bytes input_new.remaining out.contents out_new.contents end))
     (same_keying c.args.weighting c.args.depth (collation_of rows_at c.collator-collator.result) made read.weighting (table_with content.table content.properties) c.collator-collator.ensures is.0)
     c.print_headed-end.ensures.writes)))
     c.in-Ok.ensures.read c.in-Ok.ensures.failed c.print_headed-end.ensures.input_failed c.print_headed-end.ensures.out_failed

@@ -6,7 +6,7 @@ use Rattle.uca_run_parts.specs.Input.{cause_of}
 use Rattle.uca_key_runs.specs.KeyForms.{shows_points}
 use Rattle.uca_run_parts.specs.Texts.{HasTextCause}
 use Rattle.uca_key_runs.proofs.KeyLines.{line_made}
-use Rattle.uca_key_runs.proofs.KeySettings.{same_settings}
+use Rattle.uca_key_runs.proofs.Keyings.{same_settings}
 use Rattle.uca_key_runs.proofs.keys.make_key.Goals as goal
 
 pub returns-in-Ok-take_shown_text-clause-made : goal.returns-in-Ok-take_shown_text-clause-made

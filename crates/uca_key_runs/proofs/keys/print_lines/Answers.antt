@@ -2,12 +2,13 @@
 use Rattle.std.proofs.Common.{◌≡◌, ◌||◌, [], refl, ap, subst, sym, ◌∙◌}
 use Rattle.uca_elements.specs.Collations.{Collation}
 use Rattle.uca_values.specs.Content.{properties_of}
-use Rattle.uca_key_runs.specs.Keys.{key_settings_of, settings_at}
+use Rattle.uca_order.specs.Keyings.{keying_of}
+use Rattle.uca_key_runs.specs.Keys.{keying_at}
 use Rattle.uca_order.specs.Lengths.{HasShortRows}
 use Rattle.uca_key_runs.specs.KeyForms.{line_as}
 use Rattle.uca_run_parts.specs.EachLineSoFar.{WritesRest}
 use Rattle.uca_run_parts.proofs.Finishing.{started, of_lines}
-use Rattle.uca_key_runs.proofs.KeySettings.{same_settings}
+use Rattle.uca_key_runs.proofs.Keyings.{same_settings}
 use Rattle.uca_key_runs.proofs.keys.print_lines.Goals as goal
 
 pub print_rest-end-requires-clause-makes : goal.print_rest-end-requires-clause-makes
@@ -21,8 +22,8 @@ pub returns-clause-writes : goal.returns-clause-writes
 returns-clause-writes g c =
     let properties = properties_of c.args.collator.now.data.now in
     let form = c.args.form in
-    let settings = settings_at g.L.Lookup.content c.new-2.result c.args.depth in
-    let asked = key_settings_of g.L.Lookup.content c.args.collator.now c.args.weighting c.args.depth in
+    let settings = keying_at g.L.Lookup.content c.new-2.result c.args.depth in
+    let asked = keying_of g.L.Lookup.content c.args.collator.now c.args.weighting c.args.depth in
     let same : settings ≡ asked = same_settings {depth = c.args.depth} c.new-2.ensures.collation c.new-2.ensures.weighting refl in
     let input = c.args.input.now in
     let out = c.args.out.now in
@@ -34,7 +35,7 @@ returns-clause-writes g c =
 pub returns-clause-of_lines : goal.returns-clause-of_lines
 returns-clause-of_lines g c =
     let properties = properties_of c.args.collator.now.data.now in
-    let bytes_of = line_as c.args.form (settings_at g.L.Lookup.content c.new-2.result c.args.depth) in
+    let bytes_of = line_as c.args.form (keying_at g.L.Lookup.content c.new-2.result c.args.depth) in
     let input = c.args.input.now in
     let out = c.args.out.now in
     let begin = started properties bytes_of c.new.result input c.new-4.result out (c.new.ensures.read properties input) c.new-4.ensures.held c.new-4.ensures.written in

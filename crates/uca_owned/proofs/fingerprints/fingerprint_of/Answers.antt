@@ -6,7 +6,7 @@ use Rattle.uca_lines.specs.FileStops.{IsStop}
 use Rattle.uca_table.specs.TableLines as tables
 use Rattle.uca_table.specs.DataSoFar as data_files
 use Rattle.uca_fingerprint.specs.Fingerprints.{fingerprint}
-use Rattle.uca_owned.specs.Keyings.{keying, weighting_by}
+use Rattle.uca_order.specs.Keyings.{keying, weighting_by}
 use Rattle.uca_owned.proofs.fingerprints.fingerprint_of.Goals as goal
 
 pub returns-in-Err-clause-only : goal.returns-in-Err-clause-only

@@ -7,7 +7,8 @@ use Rattle.std.proofs.lemmas.Result.{err_from_is_err_and}
 use Rattle.uca_values.specs.Content.{properties_of}
 use Rattle.uca_lines.specs.OutputBuffer.{IsBuffered}
 use Rattle.uca_run_parts.specs.Texts.{LinesState}
-use Rattle.uca_key_runs.specs.Keys.{KeySettings, settings_at, settings_of, key_settings_by}
+use Rattle.uca_order.specs.Keyings.{Keying, keying_by}
+use Rattle.uca_key_runs.specs.Keys.{keying_at, keying_of_writer}
 use Rattle.uca_key_runs.specs.KeyForms.{MakesKeys, line_as}
 use Rattle.uca_run_parts.proofs.Printing.{line_written, not_written, no_write}
 use Rattle.uca_run_parts.proofs.Running.{as_before}
@@ -28,13 +29,13 @@ loop-self-preserved g c =
     let properties = properties_of c.args.properties.now in
     let form = c.args.form in
     let content = g.L.Lookup.content in
-    let bytes_of = line_as form (settings_at content c.args.self.now.key c.args.depth) in
+    let bytes_of = line_as form (keying_at content c.args.self.now.key c.args.depth) in
     let lines = c.next.new.self.lines in
     let inv = c.loop-self.invariant in
     let next = rw c.if-branch.true at c.in_ok-next.ensures in
     let now = c.in_ok-print_line.ensures in
-    let kept = ap (settings_of content) now.key ∙ next.kept in
-    let same = next.made ∙ ap (λ (s : KeySettings). line_as form (key_settings_by s.collation s.weighting c.args.depth) lines.line) inv.kept in
+    let kept = ap (keying_of_writer content) now.key ∙ next.kept in
+    let same = next.made ∙ ap (λ (s : Keying). line_as form (keying_by s.collation s.weighting c.args.depth) lines.line) inv.kept in
     record {
       kept = kept ∙ inv.kept;
       makes = subst (MakesKeys form c.args.depth properties) (sym kept) inv.makes;
@@ -61,13 +62,13 @@ returns-in_err-print_line-clause-prints g c = λ start begun before p.
     let q = err_from_is_err_and c.from_residual-in_err-print_line.result c.from_residual-in_err-print_line.ensures.1 in
     let properties = properties_of c.args.properties.now in
     let form = c.args.form in
-    let bytes_of = line_as form (settings_at g.L.Lookup.content c.args.self.now.key c.args.depth) in
+    let bytes_of = line_as form (keying_at g.L.Lookup.content c.args.self.now.key c.args.depth) in
     let lines = c.next.new.self.lines in
     let inv = c.loop-self.invariant in
     let i = inv.written start begun before p in
     let next = rw c.if-branch.true at c.in_ok-next.ensures in
     let t = next.reads start i.0 i.1.read in
-    let same = next.made ∙ ap (λ (s : KeySettings). line_as form (key_settings_by s.collation s.weighting c.args.depth) lines.line) inv.kept in
+    let same = next.made ∙ ap (λ (s : Keying). line_as form (keying_by s.collation s.weighting c.args.depth) lines.line) inv.kept in
     let held = subst (λ b. IsBuffered begun c.loop-self.out.contents (flat_map bytes_of i.0) b) (sym next.output) i.1.written in
     rw (q.1, q.2) (
       i.0,
@@ -80,5 +81,5 @@ pub returns-clause-prints : goal.returns-clause-prints
 returns-clause-prints g c = λ start begun before p.
     let i = c.loop-self.invariant.written start begun before p in
     let next = rw c.if-branch.false at c.in_ok-next.ensures in
-    let held = subst (λ b. IsBuffered begun c.loop-self.out.contents (flat_map (line_as c.args.form (settings_at g.L.Lookup.content c.args.self.now.key c.args.depth)) i.0) b) (sym next.output) i.1.written in
+    let held = subst (λ b. IsBuffered begun c.loop-self.out.contents (flat_map (line_as c.args.form (keying_at g.L.Lookup.content c.args.self.now.key c.args.depth)) i.0) b) (sym next.output) i.1.written in
     record { all = i.0; are_all = next.reads start i.0 i.1.read; written = held }

@@ -1,7 +1,7 @@
 -- What the output has of the lines so far was written, and neither reader nor writer has failed since.
 use Rattle.std.proofs.Common.{◌≡◌, ℕ, ◌+◌, ◌-◌, ◌*◌, ◌^◌, ◌≤◌, List, Option, length}
 use Rattle.uca_values.specs.Content.{properties_of}
-use Rattle.uca_key_runs.specs.Keys.{settings_at, settings_of}
+use Rattle.uca_key_runs.specs.Keys.{keying_at, keying_of_writer}
 use Rattle.uca_key_runs.specs.KeyForms.{MakesKeys, line_as}
 use Rattle.uca_run_parts.specs.EachLineSoFar.{HasWritten}
 use Rattle.uca_key_runs.proofs.keys.KeyRun.print_rest.Given as goal
@@ -9,10 +9,10 @@ use Rattle.uca_key_runs.proofs.keys.KeyRun.print_rest.Given as goal
 abbrev pub invariant-loop-self : goal.invariant-loop-self
 invariant-loop-self g l =
     let content = g.L.Lookup.content in
-    let bytes_of = line_as l.form (settings_at content l.fn.self.key l.depth) in
+    let bytes_of = line_as l.form (keying_at content l.fn.self.key l.depth) in
     record {
-      kept : settings_of content l.self.key ≡ settings_of content l.fn.self.key;
-      makes : MakesKeys l.form l.depth (properties_of l.properties) (settings_of content l.self.key);
+      kept : keying_of_writer content l.self.key ≡ keying_of_writer content l.fn.self.key;
+      makes : MakesKeys l.form l.depth (properties_of l.properties) (keying_of_writer content l.self.key);
       small : l.self.output.written + length l.self.output.held ≤ l.self.lines.reader.number * 2 ^ 42;
       written : (start begun : Option (List ℕ)) (before : List (List ℕ)) →
           HasWritten (properties_of l.properties) bytes_of start begun before l.fn.self.lines l.fn.input l.fn.self.output l.fn.out →

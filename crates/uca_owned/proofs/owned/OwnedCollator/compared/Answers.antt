@@ -3,7 +3,7 @@ use Rattle.std.proofs.Common.{◌≡◌, subst, sym}
 use Rattle.uca_values.specs.Content.{properties_of}
 use Rattle.uca_match.specs.NumberedKeys.{rows_at}
 use Rattle.uca_order.specs.Depths.{read_text, compared_at}
-use Rattle.uca_owned.specs.Keyings.{Keying}
+use Rattle.uca_order.specs.Keyings.{Keying}
 use Rattle.uca_owned.proofs.owned.OwnedCollator.compared.Goals as goal
 
 pub returns : goal.returns

@@ -2,7 +2,7 @@
 use Rattle.std.proofs.Common.{◌∙◌, ap}
 use Rattle.std.proofs.Math.Path.{fun_ext}
 use Rattle.uca_values.specs.Content.{TableContent, properties_of}
-use Rattle.uca_owned.specs.Keyings.{keying_over}
+use Rattle.uca_order.specs.Keyings.{keying_over}
 use Rattle.uca_owned.proofs.owned.OwnedCollator.new.Goals as goal
 
 pub returns : goal.returns

@@ -5,7 +5,7 @@ use Rattle.uca_values.specs.Content.{TableContent, Properties, properties_of}
 use Rattle.uca_lines.specs.FileStops.{IsStop}
 use Rattle.uca_table.specs.TableLines as tables
 use Rattle.uca_table.specs.DataSoFar as data_files
-use Rattle.uca_owned.specs.Keyings.{keying}
+use Rattle.uca_order.specs.Keyings.{keying}
 use Rattle.uca_owned.proofs.owned.OwnedCollator.open.Goals as goal
 
 pub returns-in-Err-clause-only : goal.returns-in-Err-clause-only
