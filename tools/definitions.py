@@ -163,13 +163,18 @@ def closed(cited, files):
     return cited
 
 
+def lists_alone(text):
+    """Whether a file only lists the modules of a folder."""
+    return all(re.match(r"pub mod |--|\s*$", it) for it in text.split("\n"))
+
+
 def definitions(crates):
     """The file of each module of definitions."""
     found = {}
     for crate in crates:
         folder = f"{TOP}/crates/{crate}/specs"
         for path in files_below(folder, ".antt"):
-            if os.path.basename(path) != "Lib.antt":
+            if not lists_alone(text_of(path)):
                 found[crate, os.path.relpath(path, folder)[: -len(".antt")].replace("/", ".")] = path
     return found
 
