@@ -10,7 +10,7 @@ use Rattle.uca_weights.specs.Levels.{weight}
 use Rattle.uca_tailorings.specs.Placing.{IsIgnorableTo, IsLow}
 use Rattle.uca_tailorings.proofs.Parts.{of_part}
 use Rattle.uca_tailorings.proofs.Relating.{one_anchor}
-use Rattle.uca_audit.specs.Anchors.{EndsAt, HasNoAnchor}
+use Rattle.uca_audit.specs.inside.Anchors.{EndsAt, HasNoAnchor}
 
 -- the member before the others is the one at the position
 pub member_at : {X : Type 0} (xs : List X) (at : ℕ) (x d : X) → at < length xs → xs ≡ take at xs ++ x ∷ drop (at + 1) xs → x ≡ get_or xs at d

@@ -7,7 +7,7 @@ use Rattle.uca_tailorings.specs.declared.conditions.Condition.TheVariants.{BaseI
 use Rattle.uca_tailorings.specs.Tailorings.{Tailoring, Meets, IsAccepted}
 use Rattle.uca_audit.specs.declared.faults.AuditFault.{AuditFault}
 use Rattle.uca_audit.specs.Refusals.{number_of, IsFirstRefusal, IsMemory}
-use Rattle.uca_audit.specs.Chaining.{MeetsBelow, Fails, Settles, Passes}
+use Rattle.uca_audit.specs.inside.Chaining.{MeetsBelow, Fails, Settles, Passes}
 
 -- the condition of a number
 abbrev condition_of : ℕ → Condition

@@ -8,7 +8,7 @@ use Rattle.uca_audit.specs.declared.faults.AuditFault.{AuditFault}
 use Rattle.uca_audit.specs.declared.faults.Place.{Place}
 use Rattle.uca_audit.specs.declared.faults.Place.TheVariants.{Relation as AtRelation}
 use Rattle.uca_audit.specs.Refusals.{number_of, At, FailsFirstAt, IsFirstRelationWithout}
-use Rattle.uca_audit.specs.Chaining.{Fails}
+use Rattle.uca_audit.specs.inside.Chaining.{Fails}
 
 -- the first is one of the relations
 pub within_first : (P : List Relation → Relation → List Relation → Type 0) (relations : List Relation) (at : ℕ) →

@@ -11,9 +11,9 @@ use Rattle.uca_tailorings.specs.Tailorings.{Tailoring, IsFreshWeight, IsFresh}
 use Rattle.uca_tailorings.proofs.Relating.{one_new}
 use Rattle.uca_audit.specs.declared.conditions.placements.Placement.{Placement}
 use Rattle.uca_audit.specs.Refusals.{IsFirstRelationWithout}
-use Rattle.uca_audit.specs.Views.{IsPlacement}
-use Rattle.uca_audit.specs.WeightSets.{Flags, HasWeight, AddsWeight}
-use Rattle.uca_audit.specs.NewWeights.{times_new, HoldsKnown, HoldsNew, IsFreshAt, IsFreshPlacement}
+use Rattle.uca_audit.specs.inside.Views.{IsPlacement}
+use Rattle.uca_audit.specs.inside.WeightSets.{Flags, HasWeight, AddsWeight}
+use Rattle.uca_audit.specs.inside.NewWeights.{times_new, HoldsKnown, HoldsNew, IsFreshAt, IsFreshPlacement}
 use Rattle.uca_audit.proofs.Passes.{in_step, AllBelow, below_one_more, first_here}
 use Rattle.uca_audit.proofs.PlacedWeights.{placed_there, puts_there, puts_cases, times_push, times_split, new_counted}
 

@@ -17,9 +17,9 @@ use Rattle.uca_check.proofs.RowElements.{none_contained, row_of_element, element
 use Rattle.uca_weights.specs.PerLevel.{at_level}
 use Rattle.uca_tailorings.specs.Images.{Maps}
 use Rattle.uca_tailorings.specs.Tailorings.{Tailoring, IsPairWeight}
-use Rattle.uca_audit.specs.WeightSets.{Flags, HasWeight}
-use Rattle.uca_audit.specs.KnownWeights.{IsImageOf, HoldsImages}
-use Rattle.uca_audit.specs.NewWeights.{HoldsKnown}
+use Rattle.uca_audit.specs.inside.WeightSets.{Flags, HasWeight}
+use Rattle.uca_audit.specs.inside.KnownWeights.{IsImageOf, HoldsImages}
+use Rattle.uca_audit.specs.inside.NewWeights.{HoldsKnown}
 
 -- ---- Elements of rows
 

@@ -11,9 +11,9 @@ use Rattle.uca_tailorings.proofs.Relating.{one_new}
 use Rattle.uca_tailorings.proofs.Nearest.{new_cases}
 use Rattle.uca_audit.specs.declared.conditions.placements.Placement.{Placement}
 use Rattle.uca_audit.specs.Refusals.{IsFirstRelationWithout}
-use Rattle.uca_audit.specs.Views.{IsPlacement}
-use Rattle.uca_audit.specs.WeightSets.{Flags, HasWeight, HasBetween}
-use Rattle.uca_audit.specs.NewWeights.{puts, HoldsKnownAndNew, IsNearestPlacement}
+use Rattle.uca_audit.specs.inside.Views.{IsPlacement}
+use Rattle.uca_audit.specs.inside.WeightSets.{Flags, HasWeight, HasBetween}
+use Rattle.uca_audit.specs.inside.NewWeights.{puts, HoldsKnownAndNew, IsNearestPlacement}
 use Rattle.uca_audit.proofs.Passes.{in_step, AllBelow, below_one_more, first_here}
 use Rattle.uca_tailorings.proofs.Relating.{one_old}
 use Rattle.uca_audit.proofs.PlacedWeights.{placed_there, puts_there, puts_new}

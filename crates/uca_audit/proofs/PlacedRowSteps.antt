@@ -6,8 +6,8 @@ use Rattle.uca_weights.specs.declared.Level.{Level}
 use Rattle.uca_weights.specs.Levels.{weight}
 use Rattle.uca_tailorings.specs.Placing.{reweighted, placed, IsAnchor, IsOnSide}
 use Rattle.uca_tailorings.proofs.Relating.{one_anchor}
-use Rattle.uca_audit.specs.Anchors.{IsAnchorAt}
-use Rattle.uca_audit.specs.PlacedRows.{IsRowAt}
+use Rattle.uca_audit.specs.inside.Anchors.{IsAnchorAt}
+use Rattle.uca_audit.specs.inside.PlacedRows.{IsRowAt}
 use Rattle.uca_audit.proofs.AnchorSteps.{member_at}
 use Rattle.uca_tailorings.proofs.Relating.{weight_of_new}
 

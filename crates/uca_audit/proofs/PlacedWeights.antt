@@ -12,8 +12,8 @@ use Rattle.uca_rules.specs.declared.relations.Relation.{Relation}
 use Rattle.uca_tailorings.specs.Tailorings.{Tailoring, IsPlacedAt, IsNewWeight}
 use Rattle.uca_tailorings.proofs.Relating.{one_new}
 use Rattle.uca_audit.specs.declared.conditions.placements.Placement.{Placement}
-use Rattle.uca_audit.specs.Views.{IsPlacement, IsPlacementBy}
-use Rattle.uca_audit.specs.NewWeights.{is_level, puts, times_new}
+use Rattle.uca_audit.specs.inside.Views.{IsPlacement, IsPlacementBy}
+use Rattle.uca_audit.specs.inside.NewWeights.{is_level, puts, times_new}
 
 -- ---- One placement
 

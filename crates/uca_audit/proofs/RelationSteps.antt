@@ -13,7 +13,7 @@ use Rattle.uca_tailorings.specs.Placing.{IsAnchor}
 use Rattle.uca_tailorings.specs.Tailorings.{Tailoring, anchor_elements, HasAnchorAt, HasAnchor}
 use Rattle.uca_tailorings.specs.Laws.{ReadsAs}
 use Rattle.uca_tailorings.proofs.Parts.{of_part}
-use Rattle.uca_audit.specs.Anchors.{IsAnchorAt, HasNoAnchor}
+use Rattle.uca_audit.specs.inside.Anchors.{IsAnchorAt, HasNoAnchor}
 use Rattle.uca_audit.specs.Refusals.{IsFirstRelationWithout}
 
 -- one more relation has the property

@@ -11,8 +11,8 @@ use Rattle.uca_tailorings.specs.Placing.{placed}
 use Rattle.uca_tailorings.specs.Tailorings.{Tailoring, tailored_reading, anchor_elements, elements_of_expansion, expansion_elements, IsTargetRow, IsPlacedAt, IsPlacedBy, IsPlaced}
 use Rattle.uca_tailorings.specs.Laws.{ReadsAs}
 use Rattle.uca_audit.specs.declared.conditions.placements.Placement.{Placement}
-use Rattle.uca_audit.specs.PlacedRows.{IsRowAt, IsFoundPlacement}
-use Rattle.uca_audit.specs.Views.{IsPlacementBy, IsPlacement}
+use Rattle.uca_audit.specs.inside.PlacedRows.{IsRowAt, IsFoundPlacement}
+use Rattle.uca_audit.specs.inside.Views.{IsPlacementBy, IsPlacement}
 
 -- expansions are read alike by lookups that find the same
 pub expansion_alike : (given reading : Collation) → ReadsAs given reading → (text : Option NfdText) →

@@ -6,7 +6,7 @@ use Rattle.uca_weights.proofs.Lists.{taken_more}
 use Rattle.uca_rules.specs.declared.relations.Relation.{Relation}
 use Rattle.uca_rules.specs.Relations.{IsTarget}
 use Rattle.uca_change_lists.proofs.TextSets.{inserted_iff}
-use Rattle.uca_audit.specs.Chaining.{AreTargetsOf}
+use Rattle.uca_audit.specs.inside.Chaining.{AreTargetsOf}
 
 -- the targets of one more relation
 pub target_more : (relations : List Relation) (r : Relation) (key : List ℕ) → IsTarget (relations ++ r ∷ []) key ↔ ((r.target.points ≡ key) ⊎ IsTarget relations key)

@@ -1,9 +1,3 @@
 pub mod Refusals
 pub mod FaultText
-pub mod Views
-pub mod Chaining
-pub mod Anchors
-pub mod PlacedRows
-pub mod WeightSets
-pub mod NewWeights
-pub mod KnownWeights
+pub mod inside

@@ -7,9 +7,9 @@ ghost use Rattle.uca_tailorings.specs.Images.{AreRisingMaps};
 ghost use Rattle.uca_tailorings.specs.Tailorings.{IsTailoring, IsAccepted};
 ghost use Rattle.uca_tailorings.specs.Meaning.{IsFaithful};
 ghost use Rattle.uca_tailorings.specs.Inputs.{maps_of, tailoring_of};
-ghost use Rattle.uca_audit.specs.Views.{tailoring_in, IsPlacement};
+ghost use Rattle.uca_audit.specs.inside.Views.{tailoring_in, IsPlacement};
 ghost use Rattle.uca_audit.specs.Refusals.{IsFirstRefusal, IsMemory};
-ghost use Rattle.uca_audit.specs.Chaining.{AreTargetsOf, FindsRowsOf, MeetsBelow, Passes};
+ghost use Rattle.uca_audit.specs.inside.Chaining.{AreTargetsOf, FindsRowsOf, MeetsBelow, Passes};
 
 use crate::base_images::known_weights;
 use crate::conditions::anchors::anchors_are_there;

@@ -7,10 +7,10 @@ ghost use Rattle.uca_weights.specs.Runs.{weight_image};
 ghost use Rattle.uca_check.specs.WellFormed.{elements_of};
 ghost use Rattle.uca_tailorings.specs.Tailorings.{IsPairWeight};
 ghost use Rattle.uca_tailorings.specs.Inputs.{maps_of};
-ghost use Rattle.uca_audit.specs.Views.{tailoring_in};
-ghost use Rattle.uca_audit.specs.WeightSets.{HasWeight};
-ghost use Rattle.uca_audit.specs.KnownWeights.{HoldsImages, IsImageOf};
-ghost use Rattle.uca_audit.specs.NewWeights.{HoldsKnown};
+ghost use Rattle.uca_audit.specs.inside.Views.{tailoring_in};
+ghost use Rattle.uca_audit.specs.inside.WeightSets.{HasWeight};
+ghost use Rattle.uca_audit.specs.inside.KnownWeights.{HoldsImages, IsImageOf};
+ghost use Rattle.uca_audit.specs.inside.NewWeights.{HoldsKnown};
 
 use crate::inputs::Inputs;
 use crate::weight_sets::WeightSet;

@@ -7,8 +7,8 @@ ghost use Rattle.uca_elements.specs.Collations.{collation_of};
 ghost use Rattle.uca_tailorings.specs.Laws.{ReadsAs};
 ghost use Rattle.uca_tailorings.specs.Tailorings.{tailored_reading};
 ghost use Rattle.uca_audit.specs.Refusals.{number_of};
-ghost use Rattle.uca_audit.specs.Views.{tailoring_in, IsPlacement};
-ghost use Rattle.uca_audit.specs.Chaining.{FindsRowsOf, Settles};
+ghost use Rattle.uca_audit.specs.inside.Views.{tailoring_in, IsPlacement};
+ghost use Rattle.uca_audit.specs.inside.Chaining.{FindsRowsOf, Settles};
 
 pub(crate) mod anchors;
 pub(crate) mod placements;

@@ -1,7 +1,7 @@
 //! The targets of rules as a set.
 
 ghost use Rattle.std.specs.Prelude.{◌↔◌, IfOk, IsTrue, Contains};
-ghost use Rattle.uca_audit.specs.Chaining.{AreTargetsOf};
+ghost use Rattle.uca_audit.specs.inside.Chaining.{AreTargetsOf};
 
 use std::alloc::{AllocError, Allocator};
 use std::collections::BTreeSet;

@@ -3,7 +3,7 @@
 ghost use Rattle.std.specs.Prelude.{◌≡◌, ◌↔◌, ◌⊎◌, ℕ, length, vec_len, IfOk, IsTrue, false, slice_index_or};
 ghost use Rattle.uca_weights.specs.declared.Level.{Level};
 ghost use Rattle.uca_weights.specs.PerLevel.{at_level};
-ghost use Rattle.uca_audit.specs.WeightSets.{HasWeight, HasBetween, AddsWeight};
+ghost use Rattle.uca_audit.specs.inside.WeightSets.{HasWeight, HasBetween, AddsWeight};
 
 use std::alloc::{AllocError, Allocator};
 use std::marker::Model;
@@ -25,7 +25,7 @@ pub(crate) struct WeightSet<A: Allocator> {
 
 impl<A: Allocator> Model for WeightSet<A> {
     ghost use Rattle.std.specs.Prelude.{◌≡◌, vec_len};
-    ghost use Rattle.uca_audit.specs.WeightSets.{Flags};
+    ghost use Rattle.uca_audit.specs.inside.WeightSets.{Flags};
 
     ghost Value = { Flags };
 

@@ -21,7 +21,7 @@ use Rattle.std_alloc.specs.Box.Ownership.{box_owns}
 use Rattle.std_alloc.proofs.BoxSteps.Form.{R, X, τ, handle as held}
 use Rattle.std_heap.specs.contracts.Global as Heap
 use Rattle.uca_c.specs.contracts.handle.Handle as Handle
-use Rattle.uca_c.specs.Handles.{handle_owns}
+use Rattle.uca_c.specs.inside.Handles.{handle_owns}
 use Rattle.uca_c.proofs.AsBox.{E}
 
 abbrev pub three : Val → Val → Val → Val

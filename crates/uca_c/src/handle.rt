@@ -2,7 +2,7 @@
 
 ghost use Rattle.std.specs.Prelude.{◌≡◌, true, false};
 ghost use Rattle.uca_owned.specs.declared.owned.OwnedCollator.{OwnedCollator};
-ghost use Rattle.uca_c.specs.Handles.{handle_owns, collator_coded};
+ghost use Rattle.uca_c.specs.inside.Handles.{handle_owns, collator_coded};
 
 use crate::parts::Parts;
 use std::alloc::Global;

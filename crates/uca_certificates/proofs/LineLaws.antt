@@ -16,7 +16,7 @@ use Rattle.uca_lines.proofs.DigitLemmas.{weight_takes, weight_of-digits, length-
 use Rattle.uca_lines.proofs.ManyDigits.{four_digits_are, last_digit}
 use Rattle.uca_lines.proofs.LineLemmas.{Lacks-append}
 use Rattle.uca_certificates.specs.Texts.{RunLine, run_text, IsLine}
-use Rattle.uca_certificates.specs.Steps.{level_at, number_at, if_empty, line_of}
+use Rattle.uca_certificates.specs.inside.Steps.{level_at, number_at, if_empty, line_of}
 
 -- ---- What is read was written
 

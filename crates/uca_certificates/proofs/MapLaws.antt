@@ -12,7 +12,7 @@ use Rattle.uca_certificates.specs.declared.faults.CertificateFault.{CertificateF
 use Rattle.uca_weights.specs.PerLevel.{at_level}
 use Rattle.uca_certificates.specs.Certificates.{CertificateContent}
 use Rattle.uca_certificates.specs.Texts.{run_lines, lines_below, map_line}
-use Rattle.uca_certificates.specs.Steps.{fault_line, RefusesRuns, RefusesContent}
+use Rattle.uca_certificates.specs.inside.Steps.{fault_line, RefusesRuns, RefusesContent}
 use Rattle.uca_certificates.proofs.TextsLemmas.{length-run_lines}
 
 -- the first run that is rejected is one of the runs

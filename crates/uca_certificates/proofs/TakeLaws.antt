@@ -8,7 +8,7 @@ use Rattle.uca_certificates.specs.declared.faults.CertificateFaultKind.TheVarian
 use Rattle.uca_weights.specs.PerLevel.{at_level}
 use Rattle.uca_certificates.specs.Certificates.{CertificateContent}
 use Rattle.uca_certificates.specs.Texts.{RunLine, IsPassed, Cause}
-use Rattle.uca_certificates.specs.Steps.{line_of, put_last, Takes}
+use Rattle.uca_certificates.specs.inside.Steps.{line_of, put_last, Takes}
 use Rattle.uca_certificates.proofs.LineLaws.{line_takes, no_line}
 
 -- a line that says nothing

@@ -12,7 +12,7 @@ use Rattle.uca_certificates.specs.declared.faults.CertificateFaultKind.TheVarian
 use Rattle.uca_weights.specs.PerLevel.{at_level}
 use Rattle.uca_certificates.specs.Certificates.{CertificateContent}
 use Rattle.uca_certificates.specs.Texts.{RunLine, run_text, of_level, run_lines, IsRunLine, IsPassed, Says, Cause, is_read_kind}
-use Rattle.uca_certificates.specs.Steps.{put_last, Takes}
+use Rattle.uca_certificates.specs.inside.Steps.{put_last, Takes}
 
 -- a read that failed is not the error of a line
 pub not_read : (said : CertificateContent) (line : List ℕ) (kind : CertificateFaultKind) → Cause said line kind → is_read_kind kind ≡ false

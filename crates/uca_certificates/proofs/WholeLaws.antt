@@ -18,7 +18,7 @@ use Rattle.uca_certificates.specs.declared.faults.CertificateFault.{CertificateF
 use Rattle.uca_weights.specs.PerLevel.{at_level}
 use Rattle.uca_certificates.specs.Certificates.{CertificateContent, IsCertificate}
 use Rattle.uca_certificates.specs.Texts.{RunLine, run_text, of_level, run_lines, Means, IsRunLine, Says, Cause, FaultOfMap, Refuses, IsStop, is_read, is_read_kind}
-use Rattle.uca_certificates.specs.Steps.{RefusesContent}
+use Rattle.uca_certificates.specs.inside.Steps.{RefusesContent}
 use Rattle.uca_certificates.proofs.LineLaws.{length-run_text, run_text_lacks_lf}
 use Rattle.uca_certificates.proofs.Exact.{exact, says_same}
 use Rattle.uca_certificates.proofs.Sizes.{few_proper, proper_fit}

@@ -12,7 +12,7 @@ use Rattle.uca_lines.specs.Buffered.{count_of, HasRoom}
 use Rattle.uca_lines.proofs.BufferedLemmas.{part}
 use Rattle.uca_certificates.specs.Certificates.{CertificateContent, IsCertificate}
 use Rattle.uca_certificates.specs.Texts.{RunLine, run_text, of_level, run_lines, certificate_text}
-use Rattle.uca_certificates.specs.Steps.{level_text}
+use Rattle.uca_certificates.specs.inside.Steps.{level_text}
 use Rattle.uca_certificates.proofs.TextsLemmas.{length-run_lines}
 use Rattle.uca_certificates.proofs.LineLaws.{length-run_text}
 use Rattle.uca_certificates.proofs.Sizes.{few_proper}

@@ -1,5 +1,5 @@
 pub mod Certificates
 pub mod Texts
 pub mod FaultText
-pub mod Steps
 pub mod Laws
+pub mod inside

@@ -3,7 +3,7 @@
 ghost use Rattle.std.specs.Prelude.{◌≡◌, ◌⊎◌, ◌++◌, [], ◌∷◌, ◌+◌, ◌≤◌, ◌<◌, length, OnOk, IfOk, IfErr};
 ghost use Rattle.uca_weights.specs.Runs.{AreProperRuns};
 ghost use Rattle.uca_certificates.specs.declared.faults.CertificateFaultKind.{CertificateFaultKind};
-ghost use Rattle.uca_certificates.specs.Steps.{RefusesRuns, fault_line};
+ghost use Rattle.uca_certificates.specs.inside.Steps.{RefusesRuns, fault_line};
 
 use crate::spelling::read_line;
 use crate::{CERTIFICATE_FORM, Certificate, CertificateFault, CertificateFaultKind};
@@ -45,7 +45,7 @@ impl<A: Allocator + Copy> CertificateLines<A> {
     ghost use Rattle.uca_weights.specs.PerLevel.{at_level};
     ghost use Rattle.uca_certificates.specs.Certificates.{IsCertificate};
     ghost use Rattle.uca_certificates.specs.Texts.{IsPassed};
-    ghost use Rattle.uca_certificates.specs.Steps.{put_last, RefusesContent};
+    ghost use Rattle.uca_certificates.specs.inside.Steps.{put_last, RefusesContent};
 
     /// Nothing is said yet. It takes no memory.
     pub fn new(alloc: A) -> CertificateLines<A>
@@ -117,7 +117,7 @@ impl<A: Allocator + Copy> CertificateLines<A> {
 impl<A: Allocator + Copy> CertificateLines<A> {
     ghost use Rattle.std.specs.Prelude.{◌≡◌, ◌⊎◌, OnOk, IfErr};
     ghost use Rattle.uca_certificates.specs.Texts.{Cause};
-    ghost use Rattle.uca_certificates.specs.Steps.{Takes};
+    ghost use Rattle.uca_certificates.specs.inside.Steps.{Takes};
 
     // Takes the next line, without its LF.
     fn take_line(&mut self, line: &[u8]) -> Result<(), CertificateFaultKind>

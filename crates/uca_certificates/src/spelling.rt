@@ -5,13 +5,13 @@ ghost use Rattle.std.specs.Option.{option_map};
 ghost use Rattle.uca_lines.specs.Lines.{ended};
 ghost use Rattle.uca_weights.specs.Levels.{level_number};
 ghost use Rattle.uca_certificates.specs.Texts.{RunLine, run_text};
-ghost use Rattle.uca_certificates.specs.Steps;
+ghost use Rattle.uca_certificates.specs.inside.Steps;
 
 use uca_lines::fields::{four_digits, weight};
 use uca_weights::{Level, Run};
 
 /// The level and the run that a line says; `None` if the line has another format.
-#[tactic(auto, unfolding(crate::specs::Steps::line_of))]
+#[tactic(auto, unfolding(crate::specs::inside::Steps::line_of))]
 pub fn read_line(line: &[u8]) -> Option<(Level, Run)>
     ensures { option_map (λ said. record { level = said.0; run = said.1 }) result ≡ Steps.line_of line.now }
 {
@@ -26,7 +26,7 @@ pub fn read_line(line: &[u8]) -> Option<(Level, Run)>
 }
 
 // The level whose digit begins the text, and what follows it.
-#[tactic(auto, unfolding(crate::specs::Steps::level_at))]
+#[tactic(auto, unfolding(crate::specs::inside::Steps::level_at))]
 fn leading_level(text: &[u8]) -> Option<(Level, &[u8])>
     ensures { option_map (λ found. (found.0, found.1.now)) result ≡ Steps.level_at text.now }
 {
@@ -39,7 +39,7 @@ fn leading_level(text: &[u8]) -> Option<(Level, &[u8])>
 }
 
 // The number of four digits after a space at the front of the text, and what follows it.
-#[tactic(auto, unfolding(crate::specs::Steps::number_at))]
+#[tactic(auto, unfolding(crate::specs::inside::Steps::number_at))]
 fn next_number(text: &[u8]) -> Option<(u16, &[u8])>
     ensures { option_map (λ found. (found.0, found.1.now)) result ≡ Steps.number_at text.now }
 {

@@ -4,7 +4,7 @@ ghost use Rattle.std.specs.Prelude.{◌≡◌, ◌||◌, ◌<◌, IfErr, length,
 ghost use Rattle.uca_weights.specs.Writes.{Writes};
 ghost use Rattle.uca_lines.specs.Buffered.{HasRoom, WritesThrough};
 ghost use Rattle.uca_certificates.specs.Texts.{certificate_text};
-ghost use Rattle.uca_certificates.specs.Steps.{level_text};
+ghost use Rattle.uca_certificates.specs.inside.Steps.{level_text};
 
 use crate::Certificate;
 use crate::spelling::run_line;

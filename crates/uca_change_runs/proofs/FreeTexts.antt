@@ -5,13 +5,13 @@ use Rattle.std.proofs.lemmas.List.{length-drop, take_all}
 use Rattle.std.proofs.lemmas.List.Elements.{Contains-get_or, Contains-push_cases, recursion_from_All}
 use Rattle.uca_weights.proofs.Lists.{each_contained, taken_more}
 use Rattle.uca_values.specs.Ranges.{is_within}
-use Rattle.uca_table.specs.Keeping.{has_bit}
+use Rattle.uca_table.specs.inside.Keeping.{has_bit}
 use Rattle.uca_text.specs.Occurring.{OccursInOrder}
 use Rattle.uca_text.proofs.Occurring.{occurs_more}
 use Rattle.uca_change_files.specs.Changes.{ChangeContent, IsChangeList, IsText}
 use Rattle.uca_change_lists.proofs.TextSets.{contained_first}
 use Rattle.uca_change_runs.specs.AffectedRun.{is_affected_by}
-use Rattle.uca_change_runs.specs.Index.{AreMarked, IsFree, IsMarked, first_of}
+use Rattle.uca_change_runs.specs.inside.Index.{AreMarked, IsFree, IsMarked, first_of}
 use Rattle.uca_change_runs.proofs.MarkLaws.{outside_unmarked}
 use Rattle.uca_change_runs.proofs.AffectedTexts.{affected_by_text, unaffected}
 

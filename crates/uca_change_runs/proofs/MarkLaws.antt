@@ -5,9 +5,9 @@ use Rattle.uca_weights.proofs.Lists.{each_push, each_weaker, taken_more}
 use Rattle.uca_weights.proofs.Tests.{by_cases}
 use Rattle.uca_values.specs.declared.CodePointRange.{CodePointRange}
 use Rattle.uca_values.specs.Ranges.{is_between, is_within}
-use Rattle.uca_table.specs.Keeping.{has_bit}
+use Rattle.uca_table.specs.inside.Keeping.{has_bit}
 use Rattle.uca_table.proofs.KeyBits.{has_bit-set, with_point}
-use Rattle.uca_change_runs.specs.Index.{IsMarked, HasMarks}
+use Rattle.uca_change_runs.specs.inside.Index.{IsMarked, HasMarks}
 
 -- a code point is marked, and so is what was marked
 pub marked_here : (words : List ℕ) (code : ℕ) → code / 64 < length words → IsMarked (with_point words code) code

@@ -13,7 +13,7 @@ use Rattle.uca_values.specs.Ranges.{AreRising}
 use Rattle.uca_values.proofs.Rising.{IsPlace}
 use Rattle.uca_text.specs.Occurring.{OccursInOrder}
 use Rattle.uca_change_files.specs.Changes.{AreInOrder, IsBefore, IsBelow, IsRange}
-use Rattle.uca_change_runs.specs.Index.{first_of}
+use Rattle.uca_change_runs.specs.inside.Index.{first_of}
 
 -- ---- Ranges
 

@@ -1,6 +1,5 @@
 pub mod ChangeFiles
-pub mod ReadChanges
 pub mod ChangesRun
 pub mod AuditRun
 pub mod AffectedRun
-pub mod Index
+pub mod inside

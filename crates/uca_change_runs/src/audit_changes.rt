@@ -6,7 +6,7 @@ ghost use Rattle.uca_editions.specs.ChangeInputs.{MeansUnaffectedTextsStay};
 ghost use Rattle.uca_editions.specs.ChangeRefusals.{IsFirstRefusal};
 ghost use Rattle.uca_run_parts.specs.Runs.{ended_by_output};
 ghost use Rattle.uca_run_parts.specs.Verdicts.{WritesVerdict};
-ghost use Rattle.uca_change_runs.specs.ReadChanges.{change_of};
+ghost use Rattle.uca_change_runs.specs.inside.ReadChanges.{change_of};
 ghost use Rattle.uca_change_runs.specs.AuditRun.{AuditsChanges, IsVerdict, RunsAudit};
 
 use crate::files::{ChangeFiles, read_editions, read_listed};

@@ -1,7 +1,7 @@
 //! The run that finds what changes from one edition to another.
 
 ghost use Rattle.std.specs.Prelude.{◌∷◌, []};
-ghost use Rattle.uca_change_runs.specs.ReadChanges.{editions_of};
+ghost use Rattle.uca_change_runs.specs.inside.ReadChanges.{editions_of};
 ghost use Rattle.uca_change_runs.specs.ChangesRun.{FindsChanges, RunsChanges};
 
 use crate::files::{EditionFiles, read_editions};

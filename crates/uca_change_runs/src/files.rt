@@ -4,7 +4,7 @@ ghost use Rattle.std.specs.Prelude.{◌≡◌, ◌∷◌, [], false};
 ghost use Rattle.uca_run_parts.specs.Files.{is_role};
 ghost use Rattle.uca_run_parts.specs.ReadFiles.{ReadsFiles};
 ghost use Rattle.uca_change_runs.specs.ChangeFiles.{editions_files, editions_roles};
-ghost use Rattle.uca_change_runs.specs.ReadChanges.{changes_file, edition_files, edition_of, editions_of, listed_files, listed_of, listed_roles};
+ghost use Rattle.uca_change_runs.specs.inside.ReadChanges.{changes_file, edition_files, edition_of, editions_of, listed_files, listed_of, listed_roles};
 
 use std::alloc::{Allocator, Global};
 use std::io::Read;

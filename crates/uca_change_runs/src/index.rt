@@ -2,7 +2,7 @@
 
 ghost use Rattle.std.specs.Prelude.{◌≡◌, ℕ, ◌+◌, ◌<◌, true, false, length, take, IfOk};
 ghost use Rattle.uca_change_runs.specs.AffectedRun.{is_affected_by};
-ghost use Rattle.uca_change_runs.specs.Index.{IsFree};
+ghost use Rattle.uca_change_runs.specs.inside.Index.{IsFree};
 
 use crate::marks::{MARK_WORDS, is_marked, mark_changes};
 use crate::searches::{is_among, is_held, one_occurs};
@@ -22,7 +22,7 @@ pub struct ChangeIndex<A: Allocator = Global> {
 
 impl<A: Allocator> Model for ChangeIndex<A> {
     ghost use Rattle.uca_change_files.specs.Changes.{ChangeContent};
-    ghost use Rattle.uca_change_runs.specs.Index.{AreMarked};
+    ghost use Rattle.uca_change_runs.specs.inside.Index.{AreMarked};
 
     ghost Value = { ChangeContent };
 

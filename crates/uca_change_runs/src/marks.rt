@@ -2,8 +2,8 @@
 
 ghost use Rattle.std.specs.Prelude.{◌≡◌, ℕ, ◌*◌, ◌<◌, ◌≤◌, true, length};
 ghost use Rattle.std.specs.List.{AllByRecursion};
-ghost use Rattle.uca_table.specs.Keeping.{has_bit};
-ghost use Rattle.uca_change_runs.specs.Index.{AreMarked, HasAllWords, HasMarks, IsMarked, KeepsMarks, first_of};
+ghost use Rattle.uca_table.specs.inside.Keeping.{has_bit};
+ghost use Rattle.uca_change_runs.specs.inside.Index.{AreMarked, HasAllWords, HasMarks, IsMarked, KeepsMarks, first_of};
 
 use crate::searches::first_point;
 use std::alloc::Allocator;

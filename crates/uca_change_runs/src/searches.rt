@@ -5,7 +5,7 @@ ghost use Rattle.std.specs.List.Sorted.{IsPartitionPoint};
 ghost use Rattle.uca_values.specs.Ranges.{is_within, AreRising};
 ghost use Rattle.uca_text.specs.Occurring.{OccursInOrder};
 ghost use Rattle.uca_change_files.specs.Changes.{AreInOrder, IsBelow};
-ghost use Rattle.uca_change_runs.specs.Index.{first_of};
+ghost use Rattle.uca_change_runs.specs.inside.Index.{first_of};
 
 use std::alloc::Allocator;
 use uca_change_files::{ChangedText, CodePointRange};

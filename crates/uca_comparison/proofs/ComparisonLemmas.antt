@@ -12,7 +12,7 @@ use Rattle.uca_elements.specs.Collations.{Collation, elements_of}
 use Rattle.uca_comparison.specs.declared.walk.Walked.{Walked}
 use Rattle.uca_order.specs.Levels.{Comparison, level_lists, level_count, weighted, decided, compare_from, compared}
 use Rattle.uca_order.specs.Depths.{ReadText, compared_at}
-use Rattle.uca_comparison.specs.Comparisons.{ComparesLevels, NothingElseDecides, compared_points}
+use Rattle.uca_comparison.specs.inside.Comparisons.{ComparesLevels, NothingElseDecides, compared_points}
 use Rattle.uca_order.specs.Fetched.{fetched_left, fetched_right}
 use Rattle.uca_comparison.proofs.Counts.{counted_from_none}
 use Rattle.uca_order.proofs.KeyOrder.{level_zero, lexicographic_itself}

@@ -12,7 +12,7 @@ use Rattle.uca_comparison.specs.declared.walk.Walked.{Walked}
 use Rattle.uca_order.specs.Levels.{Comparison, Weights as WeightsType, level_list, level_lists_from, level_count, weighted, lexicographic, decided, compare_from, compared}
 use Rattle.uca_comparison.specs.Fronts.{FrontState, fetched, weights_left, is_ended}
 use Rattle.uca_comparison.specs.Walks.{Stands, Walks, decided_level, compared_levels, order_at, fetched_left_at, fetched_right_at}
-use Rattle.uca_comparison.specs.Comparisons.{ComparesLevels}
+use Rattle.uca_comparison.specs.inside.Comparisons.{ComparesLevels}
 use Rattle.uca_comparison.proofs.FrontLemmas.{nothing_on, front_ended, fetched_all}
 
 -- ---- Lists of levels, in turn

@@ -1,3 +1,3 @@
-pub mod Comparisons
 pub mod Fronts
 pub mod Walks
+pub mod inside

@@ -4,7 +4,7 @@ ghost use Rattle.std.specs.Prelude.{◌≡◌, ◌-◌, ◌^◌, min};
 ghost use Rattle.uca_elements.specs.Collations.{collation_of, elements_of};
 ghost use Rattle.uca_order.specs.Depths.{read_text, compared_at};
 ghost use Rattle.uca_order.specs.Fetched.{fetched_left, fetched_right};
-ghost use Rattle.uca_comparison.specs.Comparisons.{ComparesLevels, compared_points};
+ghost use Rattle.uca_comparison.specs.inside.Comparisons.{ComparesLevels, compared_points};
 
 use crate::stored::level_count;
 use crate::walk::{Walked, walk};

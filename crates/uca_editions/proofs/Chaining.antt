@@ -8,7 +8,7 @@ use Rattle.uca_changes.specs.declared.faults.ChangeFault.{ChangeFault}
 use Rattle.uca_changes.specs.declared.faults.ChangeFault.TheVariants.{NotMet, Memory}
 use Rattle.uca_changes.specs.declared.faults.ChangePlace.{ChangePlace}
 use Rattle.uca_editions.specs.ChangeRefusals.{FailsFirstAt, IsFirstRefusal}
-use Rattle.uca_editions.specs.Chaining.{MeetsBelow}
+use Rattle.uca_editions.specs.inside.Chaining.{MeetsBelow}
 
 -- the condition of a number
 abbrev condition_of : ℕ → ChangeCondition

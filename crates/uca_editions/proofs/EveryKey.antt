@@ -10,7 +10,7 @@ use Rattle.uca_values.specs.Content.{Entry, IsEntry, IsTable, TableContent, keys
 use Rattle.uca_values.specs.Ranges.{is_within}
 use Rattle.uca_change_files.specs.Changes.{ChangeContent, IsBefore, IsText, MayCome, OfRange, put_last}
 use Rattle.uca_change_files.specs.Steps.{MayAdd}
-use Rattle.uca_editions.specs.Everything.{ListsAll, MayListAll, every_point}
+use Rattle.uca_editions.specs.inside.Everything.{ListsAll, MayListAll, every_point}
 use borrow.Table.Char.{scalar_below}
 
 -- the key of a row is such a text

@@ -4,7 +4,7 @@ use Rattle.uca_weights.specs.declared.Level.{Level}
 use Rattle.uca_weights.specs.declared.Level.TheVariants.{One, Two, Three}
 use Rattle.uca_weights.specs.declared.maps.Run.{Run}
 use Rattle.uca_weights.specs.Runs.{AreProperRuns}
-use Rattle.uca_editions.specs.LeastMaps.{least_runs}
+use Rattle.uca_editions.specs.inside.LeastMaps.{least_runs}
 
 least_proper : (level : Level) → AreProperRuns level (least_runs level)
 least_proper One = record { rise = tt; fixed = tt }

@@ -16,7 +16,7 @@ use Rattle.uca_values.specs.declared.faults.FaultKind.TheVariants as kinds
 use Rattle.uca_change_files.specs.Changes.{ChangeContent, Item, OfText, IsText, IsBelow, MayCome, MayFollow}
 use Rattle.uca_change_files.specs.Steps.{MayAdd, Refuses}
 use Rattle.uca_changes.proofs.SameLists.{each_of_these}
-use Rattle.uca_editions.specs.Everything.{ListsAll, ListsIfItMay, MayListAll}
+use Rattle.uca_editions.specs.inside.Everything.{ListsAll, ListsIfItMay, MayListAll}
 use Rattle.uca_editions.proofs.ListedTexts.{contained_last}
 
 -- ---- Items that may be added

@@ -15,7 +15,7 @@ use Rattle.uca_changes.specs.declared.faults.ChangeFault.{ChangeFault}
 use Rattle.uca_changes.specs.declared.faults.ChangeFault.TheVariants.{Memory}
 use Rattle.uca_changes.specs.declared.faults.ChangePlace.{ChangePlace}
 use Rattle.uca_editions.specs.ChangeRefusals.{FailsFirstAt, IsFirstRefusal}
-use Rattle.uca_editions.specs.Everything.{ListsEverything}
+use Rattle.uca_editions.specs.inside.Everything.{ListsEverything}
 use Rattle.uca_editions.specs.Found.{change_with, HaveNoChange, IsOfTables, MayChange, RefusesChanges}
 use Rattle.uca_editions.specs.declared.editions.Editions.{Editions}
 use Rattle.uca_editions.proofs.NotAccepted.{fails_nowhere}

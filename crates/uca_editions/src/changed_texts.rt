@@ -1,7 +1,7 @@
 //! The texts that change: keys of rows that do not become their images, and keys of one table alone.
 
 ghost use Rattle.std.specs.Prelude.{◌≡◌, map, OnOk};
-ghost use Rattle.uca_editions.specs.Everything.{ListsAll, ListsIfItMay, MayListAll};
+ghost use Rattle.uca_editions.specs.inside.Everything.{ListsAll, ListsIfItMay, MayListAll};
 
 use crate::Editions;
 use std::alloc::{AllocError, Allocator};

@@ -8,7 +8,7 @@ ghost use Rattle.uca_tailorings.specs.KeptRows.{IsKnownRow};
 ghost use Rattle.uca_order.specs.Keyings.{weighting_by};
 ghost use Rattle.uca_changes.specs.Changes.{IsChangedText};
 ghost use Rattle.uca_editions.specs.ChangeInputs.{change_in};
-ghost use Rattle.uca_editions.specs.Chaining.{FindsRowsOf, MeetsBelow, Passes};
+ghost use Rattle.uca_editions.specs.inside.Chaining.{FindsRowsOf, MeetsBelow, Passes};
 
 use crate::{ChangeCondition, ChangeFault, ChangeInputs, ChangePlace};
 use std::alloc::{AllocError, Allocator};

@@ -4,7 +4,7 @@
 ghost use Rattle.std.specs.Prelude.{◌≡◌, ◌++◌, [], ◌∷◌, map, IfOk, OnOk, Contains};
 ghost use Rattle.std.specs.List.{AllByRecursion};
 ghost use Rattle.uca_values.specs.Content.{keys_of};
-ghost use Rattle.uca_editions.specs.Everything.{ListsAll, ListsEverything, every_point};
+ghost use Rattle.uca_editions.specs.inside.Everything.{ListsAll, ListsEverything, every_point};
 ghost use Rattle.uca_editions.specs.Found.{change_by};
 
 use crate::auditing::know_table;

@@ -1,7 +1,7 @@
 //! The map of a level.
 
 ghost use Rattle.std.specs.Prelude.{◌≡◌, IfOk};
-ghost use Rattle.uca_editions.specs.LeastMaps as least_maps;
+ghost use Rattle.uca_editions.specs.inside.LeastMaps as least_maps;
 
 use crate::chains::{Step, heaviest_chain};
 use crate::moves::{Move, fixed_weight, push_rows};

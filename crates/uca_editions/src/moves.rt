@@ -1,7 +1,7 @@
 //! Which weight of a new row stands where an old row has which weight.
 
 ghost use Rattle.std.specs.Prelude.{◌≡◌};
-ghost use Rattle.uca_editions.specs.LeastMaps as least_maps;
+ghost use Rattle.uca_editions.specs.inside.LeastMaps as least_maps;
 
 use std::alloc::{AllocError, Allocator};
 use uca_elements::{Lookup, row_of};

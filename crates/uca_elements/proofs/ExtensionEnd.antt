@@ -10,7 +10,7 @@ use Rattle.uca_elements.specs.Reading.{non_starters_at_front, after_non_starters
 use Rattle.uca_elements.specs.Places.{is_gone, left_at, IsPlace}
 use Rattle.uca_elements.specs.Matches.{IsExtended}
 use Rattle.uca_elements.specs.Parts.{Row}
-use Rattle.uca_elements.specs.Extensions.{IsAfter, IsGoing}
+use Rattle.uca_elements.specs.inside.Extensions.{IsAfter, IsGoing}
 use Rattle.uca_elements.specs.declared.places.Place.{Place}
 use Rattle.uca_elements.specs.declared.matches.Match.TheVariants.{Key}
 use Rattle.uca_elements.proofs.MatchLemmas.{marks_none, after_none}

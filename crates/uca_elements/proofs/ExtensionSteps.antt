@@ -8,7 +8,7 @@ use Rattle.uca_text.specs.Texts.{ClassedCodePoint, Text, NfdText, is_starter, cl
 use Rattle.uca_elements.specs.Rows.{Keys}
 use Rattle.uca_elements.specs.Reading.{is_taken, removed, members, others, non_starters_at_front, after_non_starters}
 use Rattle.uca_elements.specs.Places.{is_gone, left_from, left_at}
-use Rattle.uca_elements.specs.Extensions.{extended_key, extended_rest, left_between, IsAfter, IsGoing}
+use Rattle.uca_elements.specs.inside.Extensions.{extended_key, extended_rest, left_between, IsAfter, IsGoing}
 use Rattle.uca_elements.specs.declared.places.Place.{Place}
 use Rattle.uca_elements.proofs.RemovedLemmas.{members_taken, others_taken, members_skipped, others_skipped, code_points-push}
 use Rattle.uca_elements.proofs.MatchLemmas.{marks_more, after_more}

@@ -7,8 +7,7 @@ pub mod Lookups
 pub mod Positions
 pub mod Places
 pub mod Matches
-pub mod Extensions
-pub mod Rest
 pub mod Laws
 pub mod WorkedTable
 pub mod WorkedReadings
+pub mod inside

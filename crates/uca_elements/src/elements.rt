@@ -30,7 +30,7 @@ impl<'a, L: Lookup, A: Allocator> Model for Elements<'a, L, A> {
     ghost use Rattle.uca_weights.specs.declared.Element.{Element};
     ghost use Rattle.uca_elements.specs.Collations.{collation_of};
     ghost use Rattle.uca_elements.specs.Places.{left_of, IsPlace};
-    ghost use Rattle.uca_elements.specs.Rest.{rest_of};
+    ghost use Rattle.uca_elements.specs.inside.Rest.{rest_of};
 
     ghost Value = { List Element };
 

@@ -3,7 +3,7 @@ ghost use Rattle.std.specs.Prelude.{◌≡◌, ◌≢◌, ℕ, ◌-◌, ◌<◌,
 ghost use Rattle.uca_text.specs.Texts.{Text, code_points};
 ghost use Rattle.uca_elements.specs.Places.{left_at, left_of, IsPlace};
 ghost use Rattle.uca_elements.specs.Matches.{IsFound, IsLongest, IsExtended, IsPortion, len_left};
-ghost use Rattle.uca_elements.specs.Extensions.{IsAfter, IsGoing};
+ghost use Rattle.uca_elements.specs.inside.Extensions.{IsAfter, IsGoing};
 ghost use Rattle.uca_elements.specs.declared.places.Place.{Place};
 
 use crate::key_sets::KeySet;

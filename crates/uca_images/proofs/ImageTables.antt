@@ -6,7 +6,7 @@ use Rattle.std.proofs.lemmas.Bool.Decides.{nat_tests}
 use Rattle.std.proofs.lemmas.List.{get_or_append_left, get_or_default, get_or_push}
 use Rattle.uca_weights.specs.declared.Level.{Level}
 use Rattle.uca_weights.specs.Maps.{WeightImages, IsRisingMap}
-use Rattle.uca_images.specs.ImageTables.{IsImageEntry, AreImagesBelow, IsImageTable}
+use Rattle.uca_images.specs.inside.ImageTables.{IsImageEntry, AreImagesBelow, IsImageTable}
 
 -- of a rising map no weight but 0 has the image 0
 pub image_entry : (level : Level) (images : WeightImages) → IsRisingMap level images → (w : ℕ) → IsImageEntry images w (unwrap_or (images w) 0)

@@ -8,7 +8,7 @@ use Rattle.uca_weights.specs.declared.Weighting.{Weighting}
 use Rattle.uca_order.specs.Levels.{weight_bytes, level_count}
 use Rattle.uca_tailorings.specs.Images.{Maps}
 use Rattle.uca_tailorings.specs.Moves.{level_images, weight_before, ended, after_weights, moved_from, moved_key}
-use Rattle.uca_images.specs.ImageTables.{IsImageTable}
+use Rattle.uca_images.specs.inside.ImageTables.{IsImageTable}
 use Rattle.uca_images.specs.Moving.{HasMoved}
 
 -- ---- Lists

@@ -1,3 +1,3 @@
-pub mod ImageTables
 pub mod Moving
 pub mod UnlistedRows
+pub mod inside

@@ -3,7 +3,7 @@
 ghost use Rattle.std.specs.Prelude.{◌≡◌, IfOk};
 ghost use Rattle.uca_weights.specs.Runs.{AreProperRuns, weight_image};
 ghost use Rattle.uca_tailorings.specs.Inputs.{maps_of};
-ghost use Rattle.uca_images.specs.ImageTables.{AreLevelTables, IsImageEntry, IsImageTable};
+ghost use Rattle.uca_images.specs.inside.ImageTables.{AreLevelTables, IsImageEntry, IsImageTable};
 
 use std::alloc::{AllocError, Allocator};
 use std::marker::Model;
@@ -24,7 +24,7 @@ pub struct LevelImages<'a, A: Allocator, T: Allocator> {
 
 impl<'a, A: Allocator, T: Allocator> Model for LevelImages<'a, A, T> {
     ghost use Rattle.uca_weights.specs.Runs.{MapContent, weight_image};
-    ghost use Rattle.uca_images.specs.ImageTables.{IsImageTable};
+    ghost use Rattle.uca_images.specs.inside.ImageTables.{IsImageTable};
 
     ghost Value = { MapContent };
 

@@ -4,7 +4,7 @@ ghost use Rattle.std.specs.Prelude.{◌≡◌, ℕ, suc, ◌≤◌, List, Option
 ghost use Rattle.uca_weights.specs.declared.Depth.{Depth};
 ghost use Rattle.uca_tailorings.specs.Images.{Maps};
 ghost use Rattle.uca_tailorings.specs.Moves.{level_images};
-ghost use Rattle.uca_images.specs.ImageTables.{IsImageTable};
+ghost use Rattle.uca_images.specs.inside.ImageTables.{IsImageTable};
 ghost use Rattle.uca_images.specs.Moving.{HasMoved, EndsLevel, IsWithin};
 
 /// How the weights of a level end.

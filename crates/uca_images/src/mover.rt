@@ -4,7 +4,7 @@ ghost use Rattle.std.specs.Prelude.{◌≡◌, ℕ, suc, ◌<◌, ◌≤◌, ◌
 ghost use Rattle.uca_order.specs.Levels as key_levels;
 ghost use Rattle.uca_tailorings.specs.Inputs.{maps_of};
 ghost use Rattle.uca_tailorings.specs.Moves.{after_weights, are_points, ended, level_images, moved_key};
-ghost use Rattle.uca_images.specs.ImageTables.{IsImageTable};
+ghost use Rattle.uca_images.specs.inside.ImageTables.{IsImageTable};
 
 use crate::images::{LevelTables, tables_of};
 use crate::levels::{LevelEnd, move_level};
@@ -26,7 +26,7 @@ pub struct KeyMover<A: Allocator = Global> {
 
 impl<A: Allocator> Model for KeyMover<A> {
     ghost use Rattle.uca_tailorings.specs.Inputs.{maps_of};
-    ghost use Rattle.uca_images.specs.ImageTables.{AreLevelTables};
+    ghost use Rattle.uca_images.specs.inside.ImageTables.{AreLevelTables};
     ghost use Rattle.uca_images.specs.Moving.{MoverState};
 
     ghost Value = { MoverState };

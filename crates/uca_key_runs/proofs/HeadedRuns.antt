@@ -21,7 +21,7 @@ use Rattle.uca_run_parts.specs.Input.{clean_lines}
 use Rattle.uca_run_parts.specs.Runs.{FailsToWrite, ended_by_output, is_input_read}
 use Rattle.uca_fingerprint_runs.specs.SummedFiles.{SummedContent}
 use Rattle.uca_order.specs.Keyings.{weighting_by, Keying, keying}
-use Rattle.uca_key_runs.specs.HeadedParts.{ended_after}
+use Rattle.uca_key_runs.specs.inside.HeadedParts.{ended_after}
 use Rattle.uca_key_runs.specs.HeadedRun.{RunsHeaded, WritesHeaded, header_under}
 
 -- ---- Counts

@@ -8,7 +8,7 @@ use Rattle.uca_text.specs.Texts.{nfd_text}
 use Rattle.uca_order.specs.Depths.{read_text, key_at}
 use Rattle.uca_key_runs.specs.declared.keys.KeyForm.{KeyForm}
 use Rattle.uca_key_runs.specs.declared.keys.KeyForm.TheVariants.{Alone, BeforeLine}
-use Rattle.uca_key_runs.specs.KeyForms.{depth_as, shows_points, printed_as, line_as}
+use Rattle.uca_key_runs.specs.inside.KeyForms.{depth_as, shows_points, printed_as, line_as}
 use Rattle.uca_run_parts.specs.Print.{print_line_at}
 use Rattle.uca_run_parts.proofs.PrintLemmas.{line_is_short, keyed_is_short}
 

@@ -1,10 +1,7 @@
 pub mod Keys
 pub mod KeysRun
-pub mod KeyForms
 pub mod HeadedRun
-pub mod HeadedParts
 pub mod CompareRun
 pub mod SortRun
-pub mod KeptLines
-pub mod SortSoFar
 pub mod Laws
+pub mod inside

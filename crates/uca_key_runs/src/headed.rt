@@ -10,8 +10,8 @@ ghost use Rattle.uca_run_parts.specs.EachLine.{ended_before_input};
 ghost use Rattle.uca_fingerprint_runs.specs.SummedFiles.{summed_files, summed_with};
 ghost use Rattle.uca_order.specs.Keyings.{keying_of};
 ghost use Rattle.uca_key_runs.specs.HeadedRun.{PrintsHeadedKeys, PrintsHeadedLines, WritesHeaded};
-ghost use Rattle.uca_key_runs.specs.HeadedParts.{IsHeaded, PrintsHeadedAs, ended_after};
-ghost use Rattle.uca_key_runs.specs.KeyForms.{line_as};
+ghost use Rattle.uca_key_runs.specs.inside.HeadedParts.{IsHeaded, PrintsHeadedAs, ended_after};
+ghost use Rattle.uca_key_runs.specs.inside.KeyForms.{line_as};
 
 use crate::collations::{ReadCollation, collation_of};
 use crate::keys::{KeyForm, print_lines};

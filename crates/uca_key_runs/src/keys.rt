@@ -16,8 +16,8 @@ ghost use Rattle.uca_run_parts.specs.EachLineSoFar.{HasWritten, WritesText, Writ
 ghost use Rattle.uca_key_runs.specs.KeysRun.{PrintsKeys};
 ghost use Rattle.uca_run_parts.specs.Input.{cause_of};
 ghost use Rattle.uca_run_parts.specs.Texts.{HasRead, HasTextCause, ReadsCleanLine, is_read};
-ghost use Rattle.uca_key_runs.specs.KeyForms;
-ghost use Rattle.uca_key_runs.specs.KeyForms.{MakesKeys, PrintsAs, depth_as, line_as, printed_as};
+ghost use Rattle.uca_key_runs.specs.inside.KeyForms;
+ghost use Rattle.uca_key_runs.specs.inside.KeyForms.{MakesKeys, PrintsAs, depth_as, line_as, printed_as};
 
 use crate::collations::read_collation;
 use crate::line_keys::write_line_key;

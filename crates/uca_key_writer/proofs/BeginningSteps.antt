@@ -30,10 +30,10 @@ use Rattle.uca_key_writer.specs.declared.pieces.Piece.{Piece}
 use Rattle.uca_order.specs.Levels.{weight_at, level_list, level_lists_from, level_bytes, levels_bytes, weight_bytes, weights_of, weighted, weighted_following, follows_variable, key_bytes}
 use Rattle.uca_order.specs.Depths.{ReadText, read_text, key_at, points_bytes}
 use Rattle.uca_key_writer.specs.Buffers.{KeyState}
-use Rattle.uca_key_writer.specs.LevelBuffers.{LevelState, HoldsLevels, bytes_of_level}
-use Rattle.uca_key_writer.specs.Pieces.{piece_points, ReadsTo, HasRead}
+use Rattle.uca_key_writer.specs.inside.LevelBuffers.{LevelState, HoldsLevels, bytes_of_level}
+use Rattle.uca_key_writer.specs.inside.Pieces.{piece_points, ReadsTo, HasRead}
 use Rattle.uca_plain.specs.PointCache.{BeginsWithStarter, HasTrueDecomposition, counted_on}
-use Rattle.uca_key_writer.specs.Beginnings.{HasBegun, IsJudged, IsJudgedTo, HasPassed}
+use Rattle.uca_key_writer.specs.inside.Beginnings.{HasBegun, IsJudged, IsJudgedTo, HasPassed}
 use Rattle.uca_key_writer.proofs.PieceSteps.{Begins, elements_joined, key_if_read, on_any}
 
 -- ---- Level 1 comes first

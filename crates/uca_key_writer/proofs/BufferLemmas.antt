@@ -17,7 +17,7 @@ use Rattle.uca_order.specs.Levels.{weight_at, level_list, weighted, weight_bytes
 use Rattle.uca_order.specs.Levels.{weights_of, follows_variable, key_bytes}
 use Rattle.uca_order.specs.StreamedWeights.{at_four_levels, is_after_variable}
 use Rattle.uca_key_writer.specs.declared.slots.Counts.{Counts}
-use Rattle.uca_key_writer.specs.LevelBuffers.{LevelState, HoldsLevels, HasRoom, IsNextFlag, bytes_of_level, held, levels_of}
+use Rattle.uca_key_writer.specs.inside.LevelBuffers.{LevelState, HoldsLevels, HasRoom, IsNextFlag, bytes_of_level, held, levels_of}
 
 -- the bytes of a weight, none of the weight 0
 abbrev pub added : ℕ → List ℕ

@@ -10,7 +10,7 @@ use Rattle.uca_weights.specs.declared.Weighting.{Weighting}
 use Rattle.uca_elements.specs.Collations.{Collation}
 use Rattle.uca_plain.specs.Leaves.{IsLeaf, AreLeaves, points_elements, leaf_elements}
 use Rattle.uca_plain.proofs.LeafReading.{read_leaves}
-use Rattle.uca_key_writer.specs.LevelBuffers.{LevelState, HoldsLevels}
+use Rattle.uca_key_writer.specs.inside.LevelBuffers.{LevelState, HoldsLevels}
 
 leaf_taken : (xs : List ℕ) (i x : ℕ) → i < length xs → x ≡ get_or xs i x → take (i + 1) xs ≡ take i xs ++ x ∷ []
 leaf_taken xs i x within is = take_more xs i x within ∙ ap (λ y. take i xs ++ y ∷ []) (sym is)

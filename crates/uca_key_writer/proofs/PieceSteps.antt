@@ -23,10 +23,10 @@ use Rattle.uca_order.specs.Levels.{key_bytes}
 use Rattle.uca_order.specs.Depths.{read_text, key_at}
 use Rattle.uca_order.specs.Lengths.{HasShortRows}
 use Rattle.uca_key_writer.specs.Buffers.{KeyState}
-use Rattle.uca_key_writer.specs.LevelBuffers.{LevelState, HoldsLevels}
+use Rattle.uca_key_writer.specs.inside.LevelBuffers.{LevelState, HoldsLevels}
 use Rattle.uca_plain.specs.Plain.{IsPlain}
 use Rattle.uca_plain.specs.PointCache.{IsTrueEntry}
-use Rattle.uca_key_writer.specs.Pieces.{points_by, piece_points, IsTrueAlone, ReadsTo, HasRead}
+use Rattle.uca_key_writer.specs.inside.Pieces.{points_by, piece_points, IsTrueAlone, ReadsTo, HasRead}
 use Rattle.uca_order.proofs.KeyLength.{keys_short}
 use Rattle.uca_plain.proofs.PlainTexts.{read_before, plain_texts, plain_no_long_run}
 

@@ -12,11 +12,11 @@ use Rattle.uca_elements.specs.Collations.{Collation, elements_of}
 use Rattle.uca_plain.specs.declared.plain.KnownPoint.{KnownPoint}
 use Rattle.uca_key_writer.specs.declared.pieces.Piece.{Piece}
 use Rattle.uca_key_writer.specs.declared.pieces.Reading.{Reading}
-use Rattle.uca_key_writer.specs.LevelBuffers.{LevelState, HoldsLevels}
+use Rattle.uca_key_writer.specs.inside.LevelBuffers.{LevelState, HoldsLevels}
 use Rattle.uca_plain.specs.PointCache.{IsTrueEntry}
-use Rattle.uca_key_writer.specs.Pieces.{points_by, piece_points, IsTrueAlone, ReadsTo, HasRead}
-use Rattle.uca_key_writer.specs.Readings.{ReadsOn}
-use Rattle.uca_key_writer.specs.Stretches.{ReadsUpTo, ReadsSome, ReadsMore}
+use Rattle.uca_key_writer.specs.inside.Pieces.{points_by, piece_points, IsTrueAlone, ReadsTo, HasRead}
+use Rattle.uca_key_writer.specs.inside.Readings.{ReadsOn}
+use Rattle.uca_key_writer.specs.inside.Stretches.{ReadsUpTo, ReadsSome, ReadsMore}
 use Rattle.uca_plain.proofs.PlainTexts.{alone_no_long_run}
 use Rattle.uca_key_writer.proofs.PieceSteps.{elements_joined, runs_joined}
 

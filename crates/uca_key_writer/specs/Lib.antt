@@ -1,7 +1,3 @@
 pub mod Buffers
 pub mod Writers
-pub mod Pieces
-pub mod Readings
-pub mod Stretches
-pub mod LevelBuffers
-pub mod Beginnings
+pub mod inside

@@ -6,9 +6,9 @@ ghost use Rattle.std.specs.Bool.{OnTrue};
 ghost use Rattle.unicode_normalization.specs.Forms.{nfd};
 ghost use Rattle.uca_text.specs.Limits.{HasNoLongRun};
 ghost use Rattle.uca_elements.specs.Collations.{collation_of};
-ghost use Rattle.uca_key_writer.specs.LevelBuffers.{HoldsLevels};
+ghost use Rattle.uca_key_writer.specs.inside.LevelBuffers.{HoldsLevels};
 ghost use Rattle.uca_plain.specs.PointCache.{AreTrueEntries};
-ghost use Rattle.uca_key_writer.specs.Beginnings.{HasBegun, HasPassed};
+ghost use Rattle.uca_key_writer.specs.inside.Beginnings.{HasBegun, HasPassed};
 
 use crate::level_buffers::LevelBuffers;
 use crate::pieces::Piece;

@@ -8,10 +8,10 @@ ghost use Rattle.uca_text.specs.Faults.{IsCause};
 ghost use Rattle.uca_elements.specs.Collations.{collation_of};
 ghost use Rattle.uca_order.specs.Depths.{read_text, key_at};
 ghost use Rattle.uca_order.specs.Lengths.{HasShortRows};
-ghost use Rattle.uca_key_writer.specs.LevelBuffers.{HoldsLevels};
-ghost use Rattle.uca_key_writer.specs.Pieces.{ReadsTo, HasRead};
+ghost use Rattle.uca_key_writer.specs.inside.LevelBuffers.{HoldsLevels};
+ghost use Rattle.uca_key_writer.specs.inside.Pieces.{ReadsTo, HasRead};
 ghost use Rattle.uca_plain.specs.PointCache.{IsTrueEntry, AreTrueEntries};
-ghost use Rattle.uca_key_writer.specs.Readings.{ReadsOn};
+ghost use Rattle.uca_key_writer.specs.inside.Readings.{ReadsOn};
 
 use crate::beginnings::{has_short_runs, push_beginning};
 use crate::level_buffers::LevelBuffers;

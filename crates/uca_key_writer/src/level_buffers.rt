@@ -10,9 +10,9 @@ ghost use Rattle.uca_order.specs.Levels.{key_bytes};
 ghost use Rattle.uca_order.specs.Depths;
 ghost use Rattle.uca_order.specs.Depths.{points_bytes};
 ghost use Rattle.uca_plain.specs.Leaves.{points_elements};
-ghost use Rattle.uca_key_writer.specs.LevelBuffers.{HoldsLevels, flattened};
+ghost use Rattle.uca_key_writer.specs.inside.LevelBuffers.{HoldsLevels, flattened};
 ghost use Rattle.uca_plain.specs.PointCache.{AreTrueEntries};
-ghost use Rattle.uca_key_writer.specs.Stretches.{ReadsUpTo, StretchReads};
+ghost use Rattle.uca_key_writer.specs.inside.Stretches.{ReadsUpTo, StretchReads};
 
 use crate::slots::{Counts, NO_WEIGHTS, make_rooms, put_elements};
 use crate::stretches::{LEAVES, STRETCH_SLOTS, Stretch, put_leaves, put_stretch};
@@ -41,7 +41,7 @@ pub(crate) struct LevelBuffers<A: Allocator> {
 }
 
 impl<A: Allocator> Model for LevelBuffers<A> {
-    ghost use Rattle.uca_key_writer.specs.LevelBuffers.{LevelState, levels_of, HasRoom};
+    ghost use Rattle.uca_key_writer.specs.inside.LevelBuffers.{LevelState, levels_of, HasRoom};
 
     ghost Value = { LevelState };
 

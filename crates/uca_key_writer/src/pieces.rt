@@ -8,12 +8,12 @@ ghost use Rattle.uca_weights.specs.declared.Weighting.{Weighting};
 ghost use Rattle.uca_text.specs.Texts.{nfd_text};
 ghost use Rattle.uca_text.specs.Limits.{HasNoLongRun};
 ghost use Rattle.uca_elements.specs.Collations.{Collation, collation_of, elements_of};
-ghost use Rattle.uca_key_writer.specs.LevelBuffers.{LevelState, HoldsLevels};
-ghost use Rattle.uca_key_writer.specs.Pieces.{piece_points, ReadsTo, HasRead};
+ghost use Rattle.uca_key_writer.specs.inside.LevelBuffers.{LevelState, HoldsLevels};
+ghost use Rattle.uca_key_writer.specs.inside.Pieces.{piece_points, ReadsTo, HasRead};
 ghost use Rattle.uca_plain.specs.Plain.{elements_alone};
 ghost use Rattle.uca_plain.specs.PointCache.{IsTrueEntry, AreTrueEntries};
-ghost use Rattle.uca_key_writer.specs.Readings.{ReadsOn};
-ghost use Rattle.uca_key_writer.specs.Stretches.{ReadsMore, ReadsUpTo};
+ghost use Rattle.uca_key_writer.specs.inside.Readings.{ReadsOn};
+ghost use Rattle.uca_key_writer.specs.inside.Stretches.{ReadsMore, ReadsUpTo};
 
 use crate::level_buffers::LevelBuffers;
 use crate::stretches::{LEAVES, Stretch, split_bound};

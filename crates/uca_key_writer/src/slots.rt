@@ -3,7 +3,7 @@
 ghost use Rattle.std.specs.Prelude.{◌≡◌, ℕ, ◌++◌, ◌∷◌, [], ◌+◌, ◌<◌, ◌≤◌, ◌==◌, Bool, List, length, OnOk, vec_len, if◌then◌else◌};
 ghost use Rattle.uca_weights.specs.declared.Element.{Element};
 ghost use Rattle.uca_order.specs.Levels.{weight_bytes};
-ghost use Rattle.uca_key_writer.specs.LevelBuffers.{held, levels_of, HasRoom, IsNextFlag, HoldsLevels};
+ghost use Rattle.uca_key_writer.specs.inside.LevelBuffers.{held, levels_of, HasRoom, IsNextFlag, HoldsLevels};
 
 use std::alloc::{AllocError, Allocator};
 use uca_order::weighting::{is_after_variable, weights_of};

@@ -5,9 +5,9 @@ ghost use Rattle.std.specs.Bool.{OnTrue};
 ghost use Rattle.uca_elements.specs.Collations.{Collation};
 ghost use Rattle.uca_weights.specs.declared.Element.{Element};
 ghost use Rattle.uca_plain.specs.Leaves.{points_elements};
-ghost use Rattle.uca_key_writer.specs.LevelBuffers.{levels_of, HasRoom, HoldsLevels};
+ghost use Rattle.uca_key_writer.specs.inside.LevelBuffers.{levels_of, HasRoom, HoldsLevels};
 ghost use Rattle.uca_plain.specs.PointCache.{IsTrueEntry, AreTrueEntries};
-ghost use Rattle.uca_key_writer.specs.Stretches.{ReadsUpTo, StretchReads};
+ghost use Rattle.uca_key_writer.specs.inside.Stretches.{ReadsUpTo, StretchReads};
 
 use crate::slots::{Counts, put_elements};
 use std::alloc::Allocator;

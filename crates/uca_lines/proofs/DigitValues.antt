@@ -7,7 +7,7 @@ use Rattle.std.specs.Str.Parse.{digits_value, digits_value_after}
 use Rattle.std.proofs.lemmas.Bool.{and_parts}
 use Rattle.std.proofs.lemmas.List.FromFn.{get_or-map-range_with_len}
 use Rattle.uca_lines.specs.Numbers.{is_hex_digit, number_of, hex_of}
-use Rattle.uca_lines.specs.DigitValues.{value_or_more, number_or_more}
+use Rattle.uca_lines.specs.inside.DigitValues.{value_or_more, number_or_more}
 use Rattle.uca_lines.specs.declared.fields.numbers.TheConstants.{VALUES}
 use Rattle.uca_lines.proofs.DigitLemmas.{hex_takes, hex_digit_small}
 

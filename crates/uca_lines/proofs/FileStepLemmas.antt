@@ -13,7 +13,7 @@ use Rattle.uca_lines.specs.declared.lines.LineFault.{LineFault}
 use Rattle.uca_lines.specs.declared.lines.LineFault.TheVariants.{TooLong, Limit, Read, Memory}
 use Rattle.uca_lines.specs.FaultKinds.{kind_of_fault}
 use Rattle.uca_lines.specs.Files.{EndsLine, IsFileLine, AreLines, ReadsLines, Reaches, BeginsFault, LosesPart, RefusesLine}
-use Rattle.uca_lines.specs.FileSteps.{TakesNext, RefusesNext}
+use Rattle.uca_lines.specs.inside.FileSteps.{TakesNext, RefusesNext}
 
 -- of known bytes the lines before line `number` are acceptable in order and say s, and this is left
 abbrev pub ReachesKnown : {K S : Type 0} → FileForm K → (List (List ℕ) → S → Type 0) → Option (List ℕ) → Option (List ℕ) → ℕ → S → Type 0

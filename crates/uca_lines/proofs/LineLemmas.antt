@@ -9,7 +9,7 @@ use Rattle.std.specs.Io.KnownBytes.{Consumes, IsAtEnd, prepend_known}
 use Rattle.memchr.specs.Find.{IsFirstByte, is_byte}
 use Rattle.uca_lines.specs.Lines.{is_lf, Lacks, ended}
 use Rattle.uca_lines.specs.NextLine.{BeginsLonger, HasBytes, SaysOfBytes, is_read}
-use Rattle.uca_lines.specs.Taking.{IsTakeFault}
+use Rattle.uca_lines.specs.inside.Taking.{IsTakeFault}
 use Rattle.uca_lines.specs.declared.lines.NextLine.{NextLine}
 use Rattle.uca_lines.specs.declared.lines.LineFault.{LineFault}
 use Rattle.uca_lines.specs.declared.lines.LineFault.TheVariants.{TooLong, Limit, Read, Memory}

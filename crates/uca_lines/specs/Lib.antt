@@ -1,16 +1,14 @@
 pub mod Lines
 pub mod LineReader
 pub mod NextLine
-pub mod Taking
 pub mod OutputBuffer
 pub mod Buffered
 pub mod Fields
 pub mod Numbers
-pub mod DigitValues
 pub mod CodePointRanges
 pub mod Leads
 pub mod FileStops
 pub mod Files
 pub mod FaultKinds
 pub mod FileMeanings
-pub mod FileSteps
+pub mod inside

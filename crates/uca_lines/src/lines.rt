@@ -6,7 +6,7 @@ ghost use Rattle.std.specs.Io.KnownBytes.{Keeps, IsAtEnd, Consumes};
 ghost use Rattle.uca_lines.specs.Lines.{is_lf, Lacks};
 ghost use Rattle.uca_lines.specs.LineReader.{left_of};
 ghost use Rattle.uca_lines.specs.NextLine.{SaysOfBytes, IsWithinLimit, is_line, is_read, line_fault_text};
-ghost use Rattle.uca_lines.specs.Taking.{IsTakeFault};
+ghost use Rattle.uca_lines.specs.inside.Taking.{IsTakeFault};
 
 use memchr::memchr;
 use std::alloc::Allocator;

@@ -8,7 +8,7 @@ use Rattle.uca_plans.specs.declared.drafts.DraftWeight.{DraftWeight}
 use Rattle.uca_plans.specs.declared.drafts.DraftWeight.TheVariants.{Base, New}
 use Rattle.uca_plans.specs.declared.drafts.Segment.{Segment}
 use Rattle.uca_plans.specs.Numbering.{pushed_up, reached, number, numbers_of, IsBaseAt, HasRoomAt, HasPlaces, NumbersAreProper}
-use Rattle.uca_plans.specs.OnePass.{one_further, numbers_from}
+use Rattle.uca_plans.specs.inside.OnePass.{one_further, numbers_from}
 
 -- ---- One member more
 

@@ -1,5 +1,4 @@
 pub mod Numbering
-pub mod OnePass
 pub mod Lists
 pub mod ListLaws
 pub mod Drafts
@@ -13,3 +12,4 @@ pub mod Tailors
 pub mod FaultText
 pub mod PlanLaws
 pub mod Room
+pub mod inside

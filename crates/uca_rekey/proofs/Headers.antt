@@ -21,9 +21,9 @@ use Rattle.uca_run_parts.specs.LinesSoFar.{OnKnown}
 use Rattle.uca_run_parts.specs.Runs.{PartWentOut}
 use Rattle.uca_run_parts.proofs.Finishing.{count_is, piece_fails}
 use Rattle.uca_rekey.specs.HeadedRun.{HasHeaderCause, LacksHeader, RunsHeaded, WritesHeaded}
-use Rattle.uca_rekey.specs.LinesInPlace.{LinesState, HasRead, IsAfter, left_of}
+use Rattle.uca_rekey.specs.inside.LinesInPlace.{LinesState, HasRead, IsAfter, left_of}
 use Rattle.uca_rekey.specs.RekeyRun.{IsLineFault}
-use Rattle.uca_rekey.specs.RekeySoFar.{AreReplaced, HasReadHeader, HasRekeyed, IsUnread, RekeysRest, WritesLine, WritesReplaced, WrittenState, mover_of, moved_by}
+use Rattle.uca_rekey.specs.inside.RekeySoFar.{AreReplaced, HasReadHeader, HasRekeyed, IsUnread, RekeysRest, WritesLine, WritesReplaced, WrittenState, mover_of, moved_by}
 use Rattle.uca_rekey.proofs.Rekeying.{begins_with}
 
 -- headers of one weighting and one depth are of one length

@@ -5,7 +5,7 @@ use Rattle.std.specs.Option.{option_and_then, option_map}
 use Rattle.std.proofs.lemmas.List.{drop_all}
 use Rattle.std.proofs.lemmas.List.FromFn.{get_or-map-range_with_len}
 use Rattle.uca_lines.specs.Numbers.{hex_of, upper_digit}
-use Rattle.uca_lines.specs.DigitValues.{value_or_more, number_or_more}
+use Rattle.uca_lines.specs.inside.DigitValues.{value_or_more, number_or_more}
 use Rattle.uca_lines.proofs.DigitValues.{hex_read, hex_not_read, hex-lt}
 use Rattle.uca_run_parts.specs.Print.{byte_digits}
 use Rattle.uca_rekey.specs.declared.line.TheConstants.{DIGITS, VALUES}

@@ -11,7 +11,7 @@ use Rattle.uca_run_parts.specs.declared.faults.StoredKeyKind.TheVariants as kind
 use Rattle.uca_run_parts.specs.LinesSoFar.{OnKnown}
 use Rattle.uca_run_parts.proofs.LineCuts.{first_line, lines_of-ended, lines_of-last}
 use Rattle.uca_rekey.specs.RekeyRun.{Begins, HasCause, IsLineCause, IsLineFault}
-use Rattle.uca_rekey.specs.LinesInPlace.{FindsLine, IsAfter}
+use Rattle.uca_rekey.specs.inside.LinesInPlace.{FindsLine, IsAfter}
 
 -- ---- A line that is read
 

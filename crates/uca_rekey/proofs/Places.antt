@@ -18,7 +18,7 @@ use Rattle.uca_lines.specs.declared.lines.NextLine.{NextLine}
 use Rattle.uca_lines.specs.declared.lines.NextLine.TheVariants.{Terminated, Unterminated, EndOfInput}
 use Rattle.uca_run_parts.specs.declared.faults.StoredKeyKind.{StoredKeyKind}
 use Rattle.uca_run_parts.specs.declared.faults.StoredKeyKind.TheVariants as kinds
-use Rattle.uca_rekey.specs.LinesInPlace.{BeginsLine, FindsLine, IsFillFault, IsLast}
+use Rattle.uca_rekey.specs.inside.LinesInPlace.{BeginsLine, FindsLine, IsFillFault, IsLast}
 
 -- ---- Parts of lists
 

@@ -28,8 +28,8 @@ use Rattle.uca_run_parts.proofs.Finishing.{count_is, piece_fails}
 use Rattle.uca_run_parts.specs.LinesSoFar.{OnKnown}
 use Rattle.uca_rekey.specs.RekeyedLines.{key_in, rekeyed_by, with_digits, with_key}
 use Rattle.uca_rekey.specs.RekeyRun.{AreRekeyed, HasCause, IsLineCause, IsLineFault, RunsRekey, WritesRekeyed}
-use Rattle.uca_rekey.specs.LinesInPlace.{LinesState, HasRead, IsAfter, left_of}
-use Rattle.uca_rekey.specs.RekeySoFar.{mover_of, moved_by, AreReplaced, IsBegun, HasNextLine, HasRekeyed, RekeysLine, RekeysRest, WritesLine, WritesReplaced, WrittenState}
+use Rattle.uca_rekey.specs.inside.LinesInPlace.{LinesState, HasRead, IsAfter, left_of}
+use Rattle.uca_rekey.specs.inside.RekeySoFar.{mover_of, moved_by, AreReplaced, IsBegun, HasNextLine, HasRekeyed, RekeysLine, RekeysRest, WritesLine, WritesReplaced, WrittenState}
 
 -- ---- The beginning
 

@@ -3,11 +3,11 @@
 ghost use Rattle.std.specs.Prelude.{◌≡◌, ℕ, List, Option, [], ◌∷◌, ◌++◌, Some, OnOk, IfErr, MatchOption, ◌≤◌, ◌<◌, length, take, drop};
 ghost use Rattle.std.specs.List.{flat_map};
 ghost use Rattle.uca_lines.specs.Numbers.{hex_of, upper_digit};
-ghost use Rattle.uca_lines.specs.DigitValues.{value_or_more};
+ghost use Rattle.uca_lines.specs.inside.DigitValues.{value_or_more};
 ghost use Rattle.uca_run_parts.specs.Print.{byte_digits};
 ghost use Rattle.uca_rekey.specs.RekeyedLines.{digits_of, key_in, rekeyed_by, with_digits, with_key};
 ghost use Rattle.uca_rekey.specs.RekeyRun.{IsLineCause};
-ghost use Rattle.uca_rekey.specs.RekeySoFar.{moved_by};
+ghost use Rattle.uca_rekey.specs.inside.RekeySoFar.{moved_by};
 
 use std::alloc::Allocator;
 use uca_images::KeyMover;

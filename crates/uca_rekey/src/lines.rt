@@ -5,10 +5,10 @@ ghost use Rattle.std.specs.Bool.{OnTrue, OnFalse};
 ghost use Rattle.std.specs.List.{slice_range};
 ghost use Rattle.std.specs.Io.KnownBytes.{Keeps, IsAtEnd};
 ghost use Rattle.uca_lines.specs.Lines.{is_lf, Lacks};
-ghost use Rattle.uca_rekey.specs.LinesInPlace.{EndsAs, FindsLine, HasRead, IsFillFault, IsFirstLine, IsLast, ReadsLine, is_read, left_of};
+ghost use Rattle.uca_rekey.specs.inside.LinesInPlace.{EndsAs, FindsLine, HasRead, IsFillFault, IsFirstLine, IsLast, ReadsLine, is_read, left_of};
 ghost use Rattle.uca_rekey.specs.RekeyedLines.{rekeyed_by};
 ghost use Rattle.uca_rekey.specs.RekeyRun.{IsLineCause};
-ghost use Rattle.uca_rekey.specs.RekeySoFar.{IsUnread, ReadsHeader, moved_by};
+ghost use Rattle.uca_rekey.specs.inside.RekeySoFar.{IsUnread, ReadsHeader, moved_by};
 
 use crate::line::rekey_line;
 use memchr::memchr;
@@ -43,7 +43,7 @@ pub(crate) struct KeyLines<A: Allocator> {
 impl<A: Allocator> Model for KeyLines<A> {
     ghost use Rattle.std.specs.Prelude.{◌-◌, ◌≤◌, vec_len};
     ghost use Rattle.std.specs.List.{slice_range};
-    ghost use Rattle.uca_rekey.specs.LinesInPlace.{LinesState};
+    ghost use Rattle.uca_rekey.specs.inside.LinesInPlace.{LinesState};
 
     ghost Value = { LinesState };
 

@@ -8,7 +8,7 @@ ghost use Rattle.uca_run_parts.specs.ReadFiles.{certificate_file};
 ghost use Rattle.uca_run_parts.specs.Runs.{ended_by_output, is_input_read};
 ghost use Rattle.uca_rekey.specs.HeadedRun.{RekeysHeaded, WritesHeaded};
 ghost use Rattle.uca_rekey.specs.RekeyRun.{RekeysLines};
-ghost use Rattle.uca_rekey.specs.RekeySoFar.{HasReadHeader, HasRekeyed, RekeysLine, RekeysRest, IsBegun, mover_of, moved_by};
+ghost use Rattle.uca_rekey.specs.inside.RekeySoFar.{HasReadHeader, HasRekeyed, RekeysLine, RekeysRest, IsBegun, mover_of, moved_by};
 
 use crate::lines::KeyLines;
 use crate::written::WrittenLines;

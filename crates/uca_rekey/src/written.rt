@@ -4,7 +4,7 @@ ghost use Rattle.std.specs.Prelude.{◌≡◌, ◌^◌, ◌≤◌, ◌||◌, [],
 ghost use Rattle.uca_weights.specs.Streams.{SourceState};
 ghost use Rattle.uca_run_parts.specs.EachLine.{ended_before_input};
 ghost use Rattle.uca_run_parts.specs.Runs.{ended_by_output, is_input_read};
-ghost use Rattle.uca_rekey.specs.RekeySoFar.{RekeysRest, WritesLine, WritesReplaced};
+ghost use Rattle.uca_rekey.specs.inside.RekeySoFar.{RekeysRest, WritesLine, WritesReplaced};
 
 use std::io::Write;
 use std::marker::Model;
@@ -28,7 +28,7 @@ pub(crate) struct WrittenLines {
 impl Model for WrittenLines {
     ghost use Rattle.std.specs.Prelude.{◌≡◌, ◌^◌, ◌≤◌};
     ghost use Rattle.uca_lines.specs.Buffered.{count_of};
-    ghost use Rattle.uca_rekey.specs.RekeySoFar.{WrittenState};
+    ghost use Rattle.uca_rekey.specs.inside.RekeySoFar.{WrittenState};
 
     ghost Value = { WrittenState };
 

@@ -8,7 +8,7 @@ use Rattle.uca_rules.specs.declared.faults.RuleFaultKind.TheVariants as kinds
 use Rattle.uca_rules.specs.Characters.{apostrophe, backslash, hyphen, place_of}
 use Rattle.uca_rules.specs.Pieces.{Symbol, Literal, is_plain, begins_piece, piece_at, EndsText}
 use Rattle.uca_rules.specs.Faults.{opened, is_part, TextCause}
-use Rattle.uca_rules.specs.Views.{BeginsAt, ShowsWrongHyphen}
+use Rattle.uca_rules.specs.inside.Views.{BeginsAt, ShowsWrongHyphen}
 
 -- of a backslash and an apostrophe, either may begin what is no piece
 apostrophe_there : (starred : Bool) (c : Character) (cs : List Character) → ¬ (IsFalse (begins_piece starred c.code)) → piece_at starred (c ∷ cs) ≡ None → c.code ≢ backslash → c.code ≡ apostrophe

@@ -14,7 +14,7 @@ use Rattle.uca_rules.specs.Meaning.{Means, relations_of, taken}
 use Rattle.uca_rules.specs.Characters.{characters}
 use Rattle.uca_rules.specs.Faults.{TextCause, StatementCause, RelationCause, HasCause, IsInside, IsCause}
 use Rattle.uca_rules.specs.Relations.{AreRules}
-use Rattle.uca_rules.specs.Reading.{IsReadingFault, ReadsAll}
+use Rattle.uca_rules.specs.inside.Reading.{IsReadingFault, ReadsAll}
 use Rattle.uca_rules.proofs.Suffixes.{place_within}
 
 no_text_memory : (end : ℕ) (starred : Bool) (text : List Character) (place : ℕ) → ¬ (TextCause end starred text place kinds.Memory)

@@ -8,7 +8,7 @@ use Rattle.uca_text.specs.Occurring.{OccursInOrder}
 use Rattle.uca_rules.specs.declared.relations.Relation.{Relation}
 use Rattle.uca_rules.specs.declared.growing.RulesBuilder.{RulesBuilder}
 use Rattle.uca_rules.specs.Relations.{IsTarget, IsUsedBy, IsUntouched, HasRuleTexts, AreRules, IsHeld}
-use Rattle.uca_rules.specs.Growing.{held_texts, AreGrowing}
+use Rattle.uca_rules.specs.inside.Growing.{held_texts, AreGrowing}
 
 -- ---- The last of relations, or an earlier one
 

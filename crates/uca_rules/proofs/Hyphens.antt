@@ -5,7 +5,7 @@ use Rattle.uca_rules.specs.declared.characters.Character.{Character}
 use Rattle.uca_rules.specs.Pieces.{Symbol, Literal, Hyphen}
 use Rattle.uca_rules.specs.Statements.{IsNoRange, No_start, Hyphen_before, Range_before, Hyphen_after, Wrong_ends, HasRangesSoFar}
 use Rattle.uca_rules.proofs.Placing.{no_character}
-use Rattle.uca_rules.specs.Views.{EndsInHyphen, BeginsRange, ShowsWrongHyphen}
+use Rattle.uca_rules.specs.inside.Views.{EndsInHyphen, BeginsRange, ShowsWrongHyphen}
 
 -- ---- Lists by their last member
 

@@ -17,7 +17,7 @@ use Rattle.uca_rules.specs.Characters.{after_gaps}
 use Rattle.uca_rules.specs.Statements.{Statement, Starred, AreStatements, BeginsStatement, MayFollow, MayEnd, AreInOrder, opening, last_is, last_of}
 use Rattle.uca_rules.specs.Meaning.{Anchor, Taken, HasShortTexts, no_anchor, anchor_after, relations_in, relations_of, taken}
 use Rattle.uca_rules.specs.Faults.{RelationCause, StatementCause, InText}
-use Rattle.uca_rules.specs.Reading.{State, start, BeginsNext, ReadsAll, IsMemoryIn, IsNextFault, In_memory, In_text, At_statement, In_relation, In_target, IsReadingFault, Keeps, properties_in}
+use Rattle.uca_rules.specs.inside.Reading.{State, start, BeginsNext, ReadsAll, IsMemoryIn, IsNextFault, In_memory, In_text, At_statement, In_relation, In_target, IsReadingFault, Keeps, properties_in}
 use Rattle.uca_rules.proofs.MeaningLaws.{anchor_after_all, anchor_after_more, taken_more, relations_more}
 use Rattle.uca_rules.proofs.Suffixes.{statements_end, statement_after, after_length, ends_length, gaps_end, ends_trans}
 

@@ -21,8 +21,8 @@ use Rattle.uca_rules.specs.declared.faults.RuleFaultKind.{RuleFaultKind}
 use Rattle.uca_rules.specs.declared.faults.RuleFaultKind.TheVariants as kinds
 use Rattle.uca_rules.specs.Characters.{place_of}
 use Rattle.uca_rules.specs.Pieces.{Symbol, Literal, Hyphen, points_of, BeginsText}
-use Rattle.uca_rules.specs.Reading.{IsNoRuleText}
-use Rattle.uca_rules.specs.Views.{IsTextFault}
+use Rattle.uca_rules.specs.inside.Reading.{IsNoRuleText}
+use Rattle.uca_rules.specs.inside.Views.{IsTextFault}
 
 points-append : (xs ys : List Symbol) → points_of (xs ++ ys) ≡ points_of xs ++ points_of ys
 points-append [] ys = refl

@@ -19,9 +19,9 @@ use Rattle.uca_rules.specs.Statements.{Statement, Starred, between, placed_at, t
 use Rattle.uca_rules.specs.Meaning.{Anchor, Taken, IsShort, after_target, after_targets, one_letter, relations_of, starred_relations}
 use Rattle.uca_rules.specs.Faults.{RelationCause}
 use Rattle.uca_rules.specs.Relations.{IsRuleText}
-use Rattle.uca_rules.specs.Views.{IsMemoryAt}
+use Rattle.uca_rules.specs.inside.Views.{IsMemoryAt}
 use Rattle.uca_rules.proofs.Suffixes.{pieces_end}
-use Rattle.uca_rules.specs.Reading.{Adds, AddsOne, HasRelationCause, HasTargetFault, IsOverLimit, IsReady, IsStarredFault, IsTextOf, Keeps, State, anchor_of, properties_in, relation_of, state_of}
+use Rattle.uca_rules.specs.inside.Reading.{Adds, AddsOne, HasRelationCause, HasTargetFault, IsOverLimit, IsReady, IsStarredFault, IsTextOf, Keeps, State, anchor_of, properties_in, relation_of, state_of}
 
 -- ---- The relations of targets in turn
 

@@ -12,16 +12,16 @@ use Rattle.uca_rules.specs.declared.signs.Preceding.{Preceding}
 use Rattle.uca_rules.specs.declared.signs.Preceding.TheVariants as lasts
 use Rattle.uca_rules.specs.declared.reader.Reader.{Reader}
 use Rattle.uca_rules.specs.declared.text_reader.TextReader.{TextReader}
-use Rattle.uca_rules.specs.Growing.{AreGrowing}
+use Rattle.uca_rules.specs.inside.Growing.{AreGrowing}
 use Rattle.uca_rules.specs.Characters.{ampersand, after_gaps, bracket, place_of}
 use Rattle.uca_rules.specs.Pieces.{Symbol, Written, ArePieces, BeginsWritten}
 use Rattle.uca_rules.specs.Statements.{IsNotAt, Statement, Reset, Plain, Starred, Resets, Signs, IsAnchorDue, IsTargetDue, BeginsExpansion, BeginsStatement, IsExpansionDue, bracket_at, sign_at, MayFollow, last_is, opening, targets_of}
 use Rattle.uca_rules.specs.Meaning.{Anchor, IsShort, Taken, relations_in, relations_of, anchor_after}
-use Rattle.uca_rules.specs.Views.{IsMemoryAt, IsTextFault}
+use Rattle.uca_rules.specs.inside.Views.{IsMemoryAt, IsTextFault}
 use Rattle.uca_rules.specs.Relations.{IsRuleText}
 use Rattle.uca_rules.specs.Faults.{IsWrongBracket, RelationCause}
-use Rattle.uca_rules.specs.Reading
-use Rattle.uca_rules.specs.Reading.{State, IsTextOf, BeginsNext, HasRelationCause, IsMemoryIn, IsPlainFault, IsStarredFault, IsNextFault, AreTextsOf, Keeps, Adds, AddsOne, AddsPlain, AddsStarred, GoesOn, first_code, relation_of, properties_in, anchor_of, state_of}
+use Rattle.uca_rules.specs.inside.Reading
+use Rattle.uca_rules.specs.inside.Reading.{State, IsTextOf, BeginsNext, HasRelationCause, IsMemoryIn, IsPlainFault, IsStarredFault, IsNextFault, AreTextsOf, Keeps, Adds, AddsOne, AddsPlain, AddsStarred, GoesOn, first_code, relation_of, properties_in, anchor_of, state_of}
 use Rattle.uca_rules.proofs.Suffixes.{anchor_due_after, target_due_after, expansion_due_after, written_after, expands_end, after_ends, ends_trans}
 use Rattle.uca_rules.proofs.Progress.{memory_after, keeps_both}
 

@@ -10,7 +10,7 @@ use Rattle.uca_rules.specs.Characters.{apostrophe, backslash, hyphen}
 use Rattle.uca_rules.specs.Pieces.{Symbol, Literal, Hyphen, Piece, with_literal, inside_quotes, after_apostrophe, after_backslash, numbered, number_at, is_plain, piece_at, ArePieces, symbols_of, EndsText, BeginsText, points_of}
 use Rattle.uca_rules.specs.Statements.{HasRangesSoFar, HasRanges}
 use Rattle.uca_rules.specs.Faults.{opened, IsBroken, IsWrongHyphen, TextCause}
-use Rattle.uca_rules.specs.Views.{Takes, BeginsAt, BreaksOff, EndsInHyphen, ShowsWrongHyphen}
+use Rattle.uca_rules.specs.inside.Views.{Takes, BeginsAt, BreaksOff, EndsInHyphen, ShowsWrongHyphen}
 use Rattle.uca_rules.proofs.Hyphens.{shown_longer}
 use Rattle.uca_rules.proofs.Quotes.{letter}
 

@@ -5,8 +5,6 @@ pub mod Relations
 pub mod Meaning
 pub mod Faults
 pub mod FaultText
-pub mod Views
-pub mod Growing
-pub mod Reading
 pub mod Laws
 pub mod Worked
+pub mod inside

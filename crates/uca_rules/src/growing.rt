@@ -5,7 +5,7 @@ ghost use Rattle.uca_text.specs.Occurring.{OccursInOrder};
 ghost use Rattle.uca_rules.specs.declared.faults.RuleFaultKind.{RuleFaultKind};
 ghost use Rattle.uca_rules.specs.Relations.{AreRules, HasRuleTexts};
 ghost use Rattle.uca_rules.specs.Faults.{RelationCause};
-ghost use Rattle.uca_rules.specs.Growing.{Admits, AreGrowing, Holds, HoldsOwn};
+ghost use Rattle.uca_rules.specs.inside.Growing.{Admits, AreGrowing, Holds, HoldsOwn};
 
 use crate::faults::RuleFaultKind;
 use crate::relations::{Relation, Rules, is_target, occurs_in_order};

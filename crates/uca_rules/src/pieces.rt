@@ -3,7 +3,7 @@
 ghost use Rattle.std.specs.Prelude.{◌≡◌, ◌≤◌, IfOk, IsSome, Some, length};
 ghost use Rattle.uca_rules.specs.declared.characters.Character.{Character};
 ghost use Rattle.uca_rules.specs.Pieces;
-ghost use Rattle.uca_rules.specs.Views.{Takes, escaped_piece, one_symbol, slice_view};
+ghost use Rattle.uca_rules.specs.inside.Views.{Takes, escaped_piece, one_symbol, slice_view};
 
 use crate::characters::{Character, Symbol, is_white};
 use std::alloc::{AllocError, Allocator};

@@ -9,12 +9,12 @@ ghost use Rattle.uca_rules.specs.declared.faults.RuleFaultKind.{RuleFaultKind};
 ghost use Rattle.uca_rules.specs.Characters;
 ghost use Rattle.uca_rules.specs.Relations.{AreRules, IsRuleText};
 ghost use Rattle.uca_rules.specs.Meaning.{Means};
-ghost use Rattle.uca_rules.specs.Growing.{AreGrowing};
+ghost use Rattle.uca_rules.specs.inside.Growing.{AreGrowing};
 ghost use Rattle.uca_rules.specs.Faults.{IsCause, IsWrongBracket, RelationCause, StatementCause};
 ghost use Rattle.uca_rules.specs.Statements;
 ghost use Rattle.uca_rules.specs.Statements.{IsAnchorDue, MayFollow, Resets, Signs};
-ghost use Rattle.uca_rules.specs.Views.{IsMemoryAt, sign_view};
-ghost use Rattle.uca_rules.specs.Reading.{AddsOne, AddsPlain, GoesOn, IsNextFault, IsPlainFault, IsReadingFault, IsReady, PassesOn, ReadsAll, first_code, properties_in, relation_of, start, state_of};
+ghost use Rattle.uca_rules.specs.inside.Views.{IsMemoryAt, sign_view};
+ghost use Rattle.uca_rules.specs.inside.Reading.{AddsOne, AddsPlain, GoesOn, IsNextFault, IsPlainFault, IsReadingFault, IsReady, PassesOn, ReadsAll, first_code, properties_in, relation_of, start, state_of};
 
 use crate::characters::{Character, after_gaps, characters};
 use crate::faults::{RuleFault, RuleFaultKind};

@@ -4,7 +4,7 @@ ghost use Rattle.std.specs.Prelude.{◌≡◌, ◌<◌, ◌≤◌, bytes_eq, dro
 ghost use Rattle.std.specs.List.{AllByRecursion};
 ghost use Rattle.uca_rules.specs.Characters.{codes_of};
 ghost use Rattle.uca_rules.specs.Statements;
-ghost use Rattle.uca_rules.specs.Views.{sign_view};
+ghost use Rattle.uca_rules.specs.inside.Views.{sign_view};
 
 use crate::characters::Character;
 use uca_weights::Strength;

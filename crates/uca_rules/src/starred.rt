@@ -5,7 +5,7 @@ ghost use Rattle.uca_rules.specs.declared.characters.Character.{Character};
 ghost use Rattle.uca_rules.specs.declared.characters.Symbol.{Symbol};
 ghost use Rattle.uca_rules.specs.Relations.{IsRuleText};
 ghost use Rattle.uca_rules.specs.Statements.{HasRanges, IsRange, Starred, between, targets_of};
-ghost use Rattle.uca_rules.specs.Reading.{Adds, AddsStarred, HasTargetFault, IsReady, IsStarredFault, properties_in, state_of};
+ghost use Rattle.uca_rules.specs.inside.Reading.{Adds, AddsStarred, HasTargetFault, IsReady, IsStarredFault, properties_in, state_of};
 
 use crate::characters::{Character, Symbol};
 use crate::faults::{RuleFault, RuleFaultKind};

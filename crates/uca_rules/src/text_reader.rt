@@ -6,8 +6,8 @@ ghost use Rattle.uca_rules.specs.declared.characters.Character.{Character};
 ghost use Rattle.uca_rules.specs.Characters;
 ghost use Rattle.uca_rules.specs.Pieces.{BeginsWritten, Written};
 ghost use Rattle.uca_rules.specs.Statements.{BeginsExpansion, IsExpansionDue, IsNotAt};
-ghost use Rattle.uca_rules.specs.Views.{IsTextFault};
-ghost use Rattle.uca_rules.specs.Reading.{AreTextsOf, IsNoRuleText, IsTextOf, Keeps, properties_in};
+ghost use Rattle.uca_rules.specs.inside.Views.{IsTextFault};
+ghost use Rattle.uca_rules.specs.inside.Reading.{AreTextsOf, IsNoRuleText, IsTextOf, Keeps, properties_in};
 
 use crate::characters::{Character, Symbol, after_gaps};
 use crate::faults::{RuleFault, RuleFaultKind};

@@ -9,8 +9,8 @@ ghost use Rattle.uca_rules.specs.Statements.{HasRanges, HasRangesSoFar, IsRange}
 ghost use Rattle.uca_rules.specs.Relations.{IsRuleText};
 ghost use Rattle.uca_rules.specs.Faults;
 ghost use Rattle.uca_rules.specs.Faults.{TextCause};
-ghost use Rattle.uca_rules.specs.Reading.{IsNoRuleText};
-ghost use Rattle.uca_rules.specs.Views.{BeginsRange, BreaksOff, EndsInHyphen, IsTextFault, ShowsWrongHyphen};
+ghost use Rattle.uca_rules.specs.inside.Reading.{IsNoRuleText};
+ghost use Rattle.uca_rules.specs.inside.Views.{BeginsRange, BreaksOff, EndsInHyphen, IsTextFault, ShowsWrongHyphen};
 
 use crate::characters::{Character, Symbol};
 use crate::faults::{RuleFault, RuleFaultKind};

@@ -17,7 +17,7 @@ use Rattle.uca_table.specs.Canonical.{point_width, point_text, key_point_text, k
 use Rattle.uca_weights.specs.Streams.{SinkState}
 use Rattle.uca_lines.specs.OutputBuffer.{BufferState}
 use Rattle.uca_lines.specs.Buffered.{count_of, HasRoom, HasWrittenThrough}
-use Rattle.uca_table.specs.CanonicalLineTexts.{setting_text, range_lines, header_text, row_lines}
+use Rattle.uca_table.specs.inside.CanonicalLineTexts.{setting_text, range_lines, header_text, row_lines}
 use Rattle.uca_table.proofs.CanonicalTexts.{header_text_is}
 
 -- as many texts of n bytes at most

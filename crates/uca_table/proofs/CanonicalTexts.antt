@@ -13,7 +13,7 @@ use Rattle.uca_values.specs.Content.{Entry, HeaderContent, TableContent}
 use Rattle.uca_table.specs.CanonicalWords.{at_version, at_ranges}
 use Rattle.uca_table.specs.CanonicalElements.{element_text}
 use Rattle.uca_table.specs.Canonical.{point_text, key_point_text, key_text, version_line, setting_line, range_line, row_line, header_lines, canonical}
-use Rattle.uca_table.specs.CanonicalLineTexts.{setting_text, range_lines, header_text, row_lines}
+use Rattle.uca_table.specs.inside.CanonicalLineTexts.{setting_text, range_lines, header_text, row_lines}
 use Rattle.uca_lines.proofs.BufferedLemmas.{part}
 
 abbrev pub point_parts : ℕ → List (List ℕ)

@@ -18,7 +18,7 @@ use Rattle.uca_table.specs.declared.data_file.lines.RangeLine.{RangeLine}
 use Rattle.uca_table.specs.declared.data_file.lines.RangeLine.TheVariants.{Class, Core, Other}
 use Rattle.uca_table.specs.DataLines.{Item, Nothing, Start, OfRange, AreWords, read_words, header, IsText, IsLine}
 use Rattle.uca_table.specs.DataSoFar.{Said, Says, Cause, RangeCause, OrderCause, IsRangeDue, IsBarred, Gives, IsUnfinished, count_before, AreInOrder, AreRanges, AreApart, MayStand, ranges_of, summary}
-use Rattle.uca_table.specs.DataSteps.{Takes, IsAdded, Adds, with_range}
+use Rattle.uca_table.specs.inside.DataSteps.{Takes, IsAdded, Adds, with_range}
 use Rattle.uca_table.proofs.DataSoFarLemmas.{Apart, AllApart, IsRising, apart_swap, put_last, ranges_more, ranges_nothing, ranges_start, summary_more, within_append}
 use Rattle.uca_table.proofs.DataWords.{words_same}
 

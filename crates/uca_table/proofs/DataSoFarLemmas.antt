@@ -25,7 +25,7 @@ use Rattle.uca_table.specs.declared.data_file.lines.RangeLine.{RangeLine}
 use Rattle.uca_table.specs.declared.data_file.lines.RangeLine.TheVariants.{Class, Core, Other}
 use Rattle.uca_table.specs.DataLines.{Item, Nothing, Start, OfRange, range_read, han_read, class_read, read_words, IsLine}
 use Rattle.uca_table.specs.DataSoFar.{Said, Says, Cause, RangeCause, IsBarred, count_before, AreInOrder, AreRanges, AreApart, MayStand, ranges_of, put, summary}
-use Rattle.uca_table.specs.DataSteps.{Takes, IsNumbered, IsAdded, Adds, with_range}
+use Rattle.uca_table.specs.inside.DataSteps.{Takes, IsNumbered, IsAdded, Adds, with_range}
 
 -- ---- What the words of a line may say
 

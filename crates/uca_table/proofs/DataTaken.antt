@@ -10,7 +10,7 @@ use Rattle.uca_values.specs.Content.{DataContent}
 use Rattle.uca_table.specs.declared.data_file.lines.RangeLine.{RangeLine}
 use Rattle.uca_table.specs.DataLines.{OfRange, AreWords, read_words, header}
 use Rattle.uca_table.specs.DataSoFar.{Said, Cause, RangeCause, IsRangeDue, summary}
-use Rattle.uca_table.specs.DataSteps.{Takes, IsAdded}
+use Rattle.uca_table.specs.inside.DataSteps.{Takes, IsAdded}
 use Rattle.uca_table.proofs.DataWords.{words_exist}
 
 pub not_header : (text : List ℕ) (b : Bool) → b ≡ bytes_eq text header → b ≡ false → text ≢ header

@@ -13,7 +13,7 @@ use Rattle.uca_lines.specs.Leads.{Leads}
 use Rattle.uca_lines.proofs.LeadLemmas.{IsExact, leads_push}
 use Rattle.uca_table.specs.Elements.{BeginsElement, AreElements, opens, ElementsCause}
 use Rattle.uca_table.specs.CanonicalElements.{mark_byte, element_text}
-use Rattle.uca_table.specs.ElementSteps.{after_byte, mark_at, weight_at, dotted_weight_at, element_at}
+use Rattle.uca_table.specs.inside.ElementSteps.{after_byte, mark_at, weight_at, dotted_weight_at, element_at}
 
 -- ---- What is read is spelled so
 

@@ -14,7 +14,7 @@ use Rattle.uca_weights.proofs.Lists.{each_push}
 use Rattle.uca_values.specs.declared.ImplicitRange.{ImplicitRange}
 use Rattle.uca_values.specs.Content.{Entry, IsEntry, AreRows, AreDistinct, keys_of}
 use Rattle.uca_table.specs.TableSoFar.{TableSoFar}
-use Rattle.uca_table.specs.Keeping.{HoldsKeysOf, Keeps}
+use Rattle.uca_table.specs.inside.Keeping.{HoldsKeysOf, Keeps}
 
 keys_of-push : (rows : List Entry) (row : Entry) → keys_of (rows ++ row ∷ []) ≡ keys_of rows ++ row.key ∷ []
 keys_of-push rows row = map-append (λ (r : Entry). r.key) rows (row ∷ [])

@@ -9,7 +9,7 @@ use Rattle.std.proofs.lemmas.Bool.{cases_eq, false_from_ne_true, eqb-true}
 use Rattle.std.proofs.lemmas.List.{get_or-set_same, get_or-set_other}
 use Rattle.std.proofs.lemmas.Nat.Bits.{bit_at_set_same, bit_at_set_other}
 use mir.Syntax.{w64}
-use Rattle.uca_table.specs.Keeping.{has_bit, is_kept}
+use Rattle.uca_table.specs.inside.Keeping.{has_bit, is_kept}
 
 -- ---- Room for more words
 

@@ -5,7 +5,7 @@ use Rattle.std.proofs.Common.{sym, ap, ◌∙◌, inl, inr}
 use Rattle.uca_values.specs.declared.faults.FaultKind.TheVariants as kinds
 use Rattle.uca_table.specs.TableSoFar.{TableSoFar}
 use Rattle.uca_table.specs.TableLines.{Item, Nothing, OfVersion, OfSetting, OfRange, OfRow, IsLine, said, Purpose, ForVersion, ForSetting, ForRange, ForRow, PurposeCause, Says, Cause}
-use Rattle.uca_table.specs.Taking.{Takes}
+use Rattle.uca_table.specs.inside.Taking.{Takes}
 
 no_read_in_purpose : (b : TableSoFar) (text : List ℕ) (purpose : Purpose) → PurposeCause b text purpose kinds.Read → ⊥
 no_read_in_purpose b text ForVersion h = let e = h.0 in cc

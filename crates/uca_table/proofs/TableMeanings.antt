@@ -18,7 +18,7 @@ use Rattle.uca_table.specs.TableSoFar.{TableSoFar, IsTableSoFar}
 use Rattle.uca_table.specs.Rows.{AddCause}
 use Rattle.uca_table.specs.Headers.{FollowCause}
 use Rattle.uca_table.specs.TableLines.{Item, Nothing, OfVersion, OfSetting, OfRange, OfRow, IsItem, IsLine, said, in_order, Says, Gives, IsUnfinished, all_of, Purpose, ForVersion, ForSetting, ForRange, ForRow, begins_at, Has, IsDue, PurposeCause, TextCause, Cause}
-use Rattle.uca_table.specs.Taking.{TakesText, Takes}
+use Rattle.uca_table.specs.inside.Taking.{TakesText, Takes}
 use Rattle.uca_table.proofs.TableLinesLemmas.{said-append}
 use Rattle.uca_table.proofs.OrderLaws.{distinct_last, ranges_last, versions_in-in_order, settings_in-in_order, ranges_in-in_order, rows_in-in_order, versions_in, settings_in, ranges_in, rows_in, versions_in-append, settings_in-append, ranges_in-append, rows_in-append, option_same, option_last, in_order_same, in_order-row, in_order-range, ends_empty, EndsIn, drop_last, with_parts}
 use Rattle.uca_table.proofs.FormLaws.{is_version, is_setting, is_range, is_row, item_same, row_same, range_same, row_text_barred, range_text_barred, row_begins}

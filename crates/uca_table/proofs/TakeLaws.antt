@@ -24,9 +24,9 @@ use Rattle.uca_table.specs.Elements.{BeginsElement}
 use Rattle.uca_table.specs.Headers.{argument_of, IsRangeText, MayFollow, RangeTextCause}
 use Rattle.uca_table.specs.CanonicalWords.{at_version, at_variable, at_ranges, setting_word}
 use Rattle.uca_table.specs.Rows.{IsRow, RowTextCause, AddCause}
-use Rattle.uca_table.specs.Keeping.{Keeps}
+use Rattle.uca_table.specs.inside.Keeping.{Keeps}
 use Rattle.uca_table.specs.TableLines.{Nothing, OfVersion, OfSetting, OfRange, OfRow, in_order, Purpose, ForSetting, ForRange, ForRow, begins_at, Has, IsDue, PurposeCause, TextCause}
-use Rattle.uca_table.specs.Taking.{TakesText}
+use Rattle.uca_table.specs.inside.Taking.{TakesText}
 use Rattle.uca_table.proofs.KeepingLaws.{some_not_none, rows_push}
 use Rattle.uca_table.proofs.OrderLaws.{in_order-row, in_order-range, ranges_push}
 

@@ -3,15 +3,11 @@ pub mod Elements
 pub mod Rows
 pub mod Headers
 pub mod TableLines
-pub mod Taking
-pub mod ElementSteps
-pub mod Keeping
 pub mod Worked
 pub mod Laws
 pub mod DataLines
 pub mod DataSoFar
-pub mod DataSteps
 pub mod CanonicalWords
 pub mod CanonicalElements
 pub mod Canonical
-pub mod CanonicalLineTexts
+pub mod inside

@@ -4,7 +4,7 @@ ghost use Rattle.std.specs.Prelude.{◌≡◌, ◌⊎◌, IfOk, IfErr};
 ghost use Rattle.std.specs.Option.{option_map};
 ghost use Rattle.uca_table.specs.Elements.{AreElements, ElementsCause};
 ghost use Rattle.uca_table.specs.Elements as Spelling;
-ghost use Rattle.uca_table.specs.ElementSteps;
+ghost use Rattle.uca_table.specs.inside.ElementSteps;
 
 use std::alloc::Allocator;
 use uca_lines::fields::{skip_blanks, weight};
@@ -58,7 +58,7 @@ fn opens(text: &[u8]) -> bool
 }
 
 // The element at the front of the text, and what follows it.
-#[tactic(auto, unfolding(crate::specs::ElementSteps::element_at))]
+#[tactic(auto, unfolding(crate::specs::inside::ElementSteps::element_at))]
 fn element(text: &[u8]) -> Option<(Element, &[u8])>
     ensures { option_map (λ found. (found.0, found.1.now)) result ≡ ElementSteps.element_at text.now }
 {
@@ -77,7 +77,7 @@ fn element(text: &[u8]) -> Option<(Element, &[u8])>
     Some((element, text))
 }
 
-#[tactic(auto, unfolding(crate::specs::ElementSteps::after_byte))]
+#[tactic(auto, unfolding(crate::specs::inside::ElementSteps::after_byte))]
 fn after_byte(text: &[u8], byte: u8) -> Option<&[u8]>
     ensures { option_map (λ rest. rest.now) result ≡ ElementSteps.after_byte byte text.now }
 {
@@ -87,7 +87,7 @@ fn after_byte(text: &[u8], byte: u8) -> Option<&[u8]>
     }
 }
 
-#[tactic(auto, unfolding(crate::specs::ElementSteps::mark_at))]
+#[tactic(auto, unfolding(crate::specs::inside::ElementSteps::mark_at))]
 fn mark(text: &[u8]) -> Option<(bool, &[u8])>
     ensures { option_map (λ found. (found.0, found.1.now)) result ≡ ElementSteps.mark_at text.now }
 {
@@ -99,14 +99,14 @@ fn mark(text: &[u8]) -> Option<(bool, &[u8])>
 }
 
 // The weight after a dot, and what follows it.
-#[tactic(auto, unfolding(crate::specs::ElementSteps::dotted_weight_at))]
+#[tactic(auto, unfolding(crate::specs::inside::ElementSteps::dotted_weight_at))]
 fn dotted_weight(text: &[u8]) -> Option<(u16, &[u8])>
     ensures { option_map (λ found. (found.0, found.1.now)) result ≡ ElementSteps.dotted_weight_at text.now }
 {
     leading_weight(after_byte(text, b'.')?)
 }
 
-#[tactic(auto, unfolding(crate::specs::ElementSteps::weight_at))]
+#[tactic(auto, unfolding(crate::specs::inside::ElementSteps::weight_at))]
 fn leading_weight(text: &[u8]) -> Option<(u16, &[u8])>
     ensures { option_map (λ found. (found.0, found.1.now)) result ≡ ElementSteps.weight_at text.now }
 {

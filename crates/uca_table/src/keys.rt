@@ -5,7 +5,7 @@ ghost use Rattle.std.specs.Str.{bytes_eq};
 ghost use Rattle.std.specs.Ordering.{nat_cmp};
 ghost use Rattle.std.specs.Cmp.Lexicographic.{slice_cmp};
 ghost use Rattle.std.specs.BTreeSet.{contains};
-ghost use Rattle.uca_table.specs.Keeping.{has_bit, kept};
+ghost use Rattle.uca_table.specs.inside.Keeping.{has_bit, kept};
 
 use std::alloc::{AllocError, Allocator};
 use std::collections::BTreeSet;

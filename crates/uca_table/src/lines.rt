@@ -38,7 +38,7 @@ impl<A: Allocator + Copy> Model for TableLines<A> {
     ghost use Rattle.std.specs.Cmp.Lexicographic.{slice_cmp};
     ghost use Rattle.std.specs.BTreeSet.{contains};
     ghost use Rattle.uca_table.specs.TableSoFar.{TableSoFar};
-    ghost use Rattle.uca_table.specs.Keeping.{Keeps, kept};
+    ghost use Rattle.uca_table.specs.inside.Keeping.{Keeps, kept};
 
     ghost Value = { TableSoFar };
 
@@ -114,7 +114,7 @@ impl<A: Allocator + Copy> TableLines<A> {
     ghost use Rattle.uca_table.specs.CanonicalWords.{at_version, at_variable, at_ranges};
     ghost use Rattle.uca_table.specs.Rows.{AddCause};
     ghost use Rattle.uca_table.specs.TableLines.{begins_at, IsDue, ForSetting, ForRange, TextCause};
-    ghost use Rattle.uca_table.specs.Taking.{TakesText};
+    ghost use Rattle.uca_table.specs.inside.Taking.{TakesText};
 
     // Takes the text of a line that begins with `@`.
     fn take_header_line(&mut self, text: &[u8]) -> Result<(), FaultKind>
@@ -254,7 +254,7 @@ impl<A: Allocator + Copy> TableLines<A> {
 impl<A: Allocator + Copy> TableLines<A> {
     ghost use Rattle.std.specs.Prelude.{◌≡◌, ◌⊎◌, OnOk, IfErr};
     ghost use Rattle.uca_table.specs.TableLines.{Cause};
-    ghost use Rattle.uca_table.specs.Taking.{Takes};
+    ghost use Rattle.uca_table.specs.inside.Taking.{Takes};
 
     // Takes the next line, without its LF.
     fn take_line(&mut self, line: &[u8]) -> Result<(), FaultKind>

@@ -6,7 +6,7 @@ use Rattle.uca_certificates.specs.Certificates.{IsCertificate}
 use Rattle.uca_plans.specs.Drafts.{DraftRow}
 use Rattle.uca_plans.specs.Plans.{Basis, Drafting, with_relations, begun, LevelPlans, plan_of, plan_drafted, planned}
 use Rattle.uca_plans.proofs.PlanLists.{certificate_in}
-use Rattle.uca_tailor.specs.PlanParts.{certificate_by}
+use Rattle.uca_tailor.specs.inside.PlanParts.{certificate_by}
 
 -- drafts with numbers are a plan
 pub planned_by : (basis : Basis) (relations : List Relation) (drafting : Drafting) (numbers : LevelPlans)

@@ -12,7 +12,7 @@ use Rattle.uca_tailorings.specs.Inputs.{tailoring_of}
 use Rattle.uca_plans.specs.declared.faults.TailorFault.{TailorFault}
 use Rattle.uca_plans.specs.Tailors.{plan_in, table_of, IsPlanOf, TailorRefuses}
 use Rattle.uca_acceptance.specs.Accepted.{PlansAreAccepted, PlansAreFaithful, IsPlanFor}
-use Rattle.uca_tailor.specs.PlanParts.{IsMade, IsNotMade}
+use Rattle.uca_tailor.specs.inside.PlanParts.{IsMade, IsNotMade}
 use Rattle.uca_tailor.proofs.RefusalLaws.{refused_plan}
 
 module _ (base : TableContent) (points : Properties) (relations : List Relation) where

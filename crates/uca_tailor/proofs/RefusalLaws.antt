@@ -16,7 +16,7 @@ use Rattle.uca_plans.specs.declared.faults.TailorFault.{TailorFault}
 use Rattle.uca_plans.specs.Lists.{level_has_room}
 use Rattle.uca_plans.specs.Plans.{Basis, Drafting, with_relations, begun, Plan, plan_of, no_room, plan_drafted, planned}
 use Rattle.uca_plans.specs.Tailors.{basis_of, IsRefusedBy, CauseOf, TailorRefuses}
-use Rattle.uca_tailor.specs.PlanParts.{IsNotMade}
+use Rattle.uca_tailor.specs.inside.PlanParts.{IsNotMade}
 
 -- ---- Kinds
 

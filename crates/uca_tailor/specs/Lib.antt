@@ -1,3 +1,1 @@
-pub mod PlanParts
-pub mod drafts
-pub mod numbers
+pub mod inside

@@ -11,9 +11,9 @@ ghost use Rattle.uca_plans.specs.Lists.{InsertsBelow};
 ghost use Rattle.uca_plans.specs.Plans as plans;
 ghost use Rattle.uca_plans.specs.Plans.{plan_drafted, plan_of};
 ghost use Rattle.uca_plans.specs.Tailors.{out_of_memory, plan_in, table_of};
-ghost use Rattle.uca_tailor.specs.drafts.RowDrafts.{row_elements};
-ghost use Rattle.uca_tailor.specs.PlanParts as parts;
-ghost use Rattle.uca_tailor.specs.PlanParts.{AreSound, IsMade, IsNotMade};
+ghost use Rattle.uca_tailor.specs.inside.RowDrafts.{row_elements};
+ghost use Rattle.uca_tailor.specs.inside.PlanParts as parts;
+ghost use Rattle.uca_tailor.specs.inside.PlanParts.{AreSound, IsMade, IsNotMade};
 
 use crate::drafts::{Drafting, RowDraft, RowElements, as_draft, draft};
 use crate::numbers::{LevelNumbers, level_numbers};

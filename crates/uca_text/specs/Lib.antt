@@ -4,4 +4,4 @@ pub mod Faults
 pub mod FaultText
 pub mod Laws
 pub mod Occurring
-pub mod Ordered
+pub mod inside

@@ -18,9 +18,9 @@ use Rattle.uca_comparison.specs.declared.walk.Walked.{Walked}
 use Rattle.uca_order.specs.Levels.{level_count}
 use Rattle.uca_comparison.specs.Fronts.{FrontState, begun, counted}
 use Rattle.uca_comparison.specs.Walks.{Stands, none_decided, decided_level}
-use Rattle.uca_comparison.specs.Comparisons.{ComparesLevels}
+use Rattle.uca_comparison.specs.inside.Comparisons.{ComparesLevels}
 use Rattle.uca_plain.specs.Plain.{ArePlain, elements_alone}
-use Rattle.uca_text_comparer.specs.Shared.{IsRest, BeginsPlain, HasCount, ComparesTexts, ComparesAccepted, flag_after, text_elements}
+use Rattle.uca_text_comparer.specs.inside.Shared.{IsRest, BeginsPlain, HasCount, ComparesTexts, ComparesAccepted, flag_after, text_elements}
 use Rattle.uca_comparison.proofs.LevelSteps.{walk_answers, all_levels}
 use Rattle.uca_text_comparer.proofs.SharedSteps.{stands_after, stands_shared, runs_after, plain_begins}
 use Rattle.uca_comparison.proofs.WalkSteps.{stands_begun}

@@ -23,10 +23,10 @@ use Rattle.uca_order.specs.Levels.{level_count, weight_at, weights_of, shifted_w
 use Rattle.uca_order.specs.StreamedWeights.{is_after_variable}
 use Rattle.uca_comparison.specs.Fronts.{FrontState, begun, counted, weight_here, is_empty, is_ended, fetched}
 use Rattle.uca_comparison.specs.Walks.{Allows, Stands, Differs, none_decided}
-use Rattle.uca_comparison.specs.Comparisons.{ComparesLevels}
+use Rattle.uca_comparison.specs.inside.Comparisons.{ComparesLevels}
 use Rattle.uca_plain.specs.Plain.{IsPlain, elements_alone}
-use Rattle.uca_text_comparer.specs.Shared.{flag_after, IsRest, IsFirst, BeginsPlain, HasFirst, ComparesTexts, text_elements}
-use Rattle.uca_text_comparer.specs.Primaries.{primary_of, HaveNone, IsHeaded, GoTogether}
+use Rattle.uca_text_comparer.specs.inside.Shared.{flag_after, IsRest, IsFirst, BeginsPlain, HasFirst, ComparesTexts, text_elements}
+use Rattle.uca_text_comparer.specs.inside.Primaries.{primary_of, HaveNone, IsHeaded, GoTogether}
 use Rattle.uca_comparison.proofs.WalkSteps.{stands_begun, stands_both, stands_left, stands_right, stands_decided}
 use Rattle.uca_comparison.proofs.LevelSteps.{walk_answers, all_levels}
 use Rattle.uca_comparison.proofs.Counts.{counted_more, counted_small, counted_is}

@@ -14,7 +14,7 @@ use Rattle.uca_order.specs.StreamedWeights.{is_after_variable}
 use Rattle.uca_comparison.specs.Fronts.{begun, counted}
 use Rattle.uca_comparison.specs.Walks.{Stands, none_decided}
 use Rattle.uca_plain.specs.Plain.{IsPlain, ArePlain, elements_alone}
-use Rattle.uca_text_comparer.specs.Shared.{flag_after, IsRest, IsFirst, BeginsPlain, HasCount, text_elements}
+use Rattle.uca_text_comparer.specs.inside.Shared.{flag_after, IsRest, IsFirst, BeginsPlain, HasCount, text_elements}
 use Rattle.uca_comparison.proofs.Counts.{counted_more, counted_small, counted_is}
 use Rattle.uca_comparison.proofs.WalkSteps.{stands_begun, stands_agreed}
 use Rattle.uca_plain.proofs.PlainTexts.{read_before, plain_texts, plain_no_long_run}

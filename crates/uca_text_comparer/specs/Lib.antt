@@ -1,3 +1,2 @@
-pub mod Shared
 pub mod Comparers
-pub mod Primaries
+pub mod inside

@@ -1,7 +1,7 @@
 //! How a text compares with itself.
 
 ghost use Rattle.uca_elements.specs.Collations.{collation_of, elements_of};
-ghost use Rattle.uca_comparison.specs.Comparisons.{ComparesLevels};
+ghost use Rattle.uca_comparison.specs.inside.Comparisons.{ComparesLevels};
 
 use std::alloc::Allocator;
 use std::cmp::Ordering;

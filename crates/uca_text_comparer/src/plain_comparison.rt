@@ -5,11 +5,11 @@ ghost use Rattle.std.specs.Bool.{OnTrue};
 ghost use Rattle.uca_weights.specs.declared.Element.{Element};
 ghost use Rattle.uca_elements.specs.Collations.{Collation, collation_of};
 ghost use Rattle.uca_order.specs.Levels;
-ghost use Rattle.uca_comparison.specs.Comparisons.{ComparesLevels};
+ghost use Rattle.uca_comparison.specs.inside.Comparisons.{ComparesLevels};
 ghost use Rattle.uca_comparison.specs.Walks.{Stands, none_decided};
 ghost use Rattle.uca_plain.specs.Plain.{IsPlain, elements_alone};
 ghost use Rattle.uca_plain.specs.PointCache.{IsTrueEntry, AreTrueEntries};
-ghost use Rattle.uca_text_comparer.specs.Shared.{IsRest, HasCount, HasElements, ComparesTexts, ComparesAccepted};
+ghost use Rattle.uca_text_comparer.specs.inside.Shared.{IsRest, HasCount, HasElements, ComparesTexts, ComparesAccepted};
 
 use crate::primaries::compare_primaries;
 use crate::shared::{Rest, skip_shared};

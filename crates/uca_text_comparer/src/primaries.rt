@@ -6,12 +6,12 @@ ghost use Rattle.uca_weights.specs.declared.Element.{Element};
 ghost use Rattle.uca_elements.specs.Collations.{Collation};
 ghost use Rattle.uca_comparison.specs.Fronts;
 ghost use Rattle.uca_comparison.specs.Fronts.{weight_here};
-ghost use Rattle.uca_comparison.specs.Comparisons.{ComparesLevels};
+ghost use Rattle.uca_comparison.specs.inside.Comparisons.{ComparesLevels};
 ghost use Rattle.uca_comparison.specs.Walks.{Stands, none_decided};
 ghost use Rattle.uca_plain.specs.PointCache.{AreTrueEntries};
-ghost use Rattle.uca_text_comparer.specs.Shared.{IsRest, IsFirst, BeginsPlain, HasFirst, ComparesTexts};
-ghost use Rattle.uca_text_comparer.specs.Primaries;
-ghost use Rattle.uca_text_comparer.specs.Primaries.{HaveNone, IsHeaded, GoTogether};
+ghost use Rattle.uca_text_comparer.specs.inside.Shared.{IsRest, IsFirst, BeginsPlain, HasFirst, ComparesTexts};
+ghost use Rattle.uca_text_comparer.specs.inside.Primaries;
+ghost use Rattle.uca_text_comparer.specs.inside.Primaries.{HaveNone, IsHeaded, GoTogether};
 
 use crate::shared::Rest;
 use std::alloc::Allocator;

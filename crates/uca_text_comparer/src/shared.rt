@@ -3,7 +3,7 @@
 ghost use Rattle.std.specs.Prelude.{◌≡◌, ◌≤◌, ◌∷◌, chars, IfOk, IfSome};
 ghost use Rattle.uca_elements.specs.Collations.{Collation, collation_of};
 ghost use Rattle.uca_plain.specs.PointCache.{IsTrueEntry, AreTrueEntries};
-ghost use Rattle.uca_text_comparer.specs.Shared.{IsRest, flag_after};
+ghost use Rattle.uca_text_comparer.specs.inside.Shared.{IsRest, flag_after};
 
 use std::alloc::{AllocError, Allocator};
 use uca_elements::{Collator, Lookup};

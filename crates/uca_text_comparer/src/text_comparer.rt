@@ -8,7 +8,7 @@ ghost use Rattle.uca_text.specs.Faults.{IsCause};
 ghost use Rattle.uca_elements.specs.Collations.{collation_of, elements_of};
 ghost use Rattle.uca_order.specs.Depths.{read_text, compared_at};
 ghost use Rattle.uca_order.specs.Fetched.{fetched_left, fetched_right};
-ghost use Rattle.uca_comparison.specs.Comparisons.{NothingElseDecides};
+ghost use Rattle.uca_comparison.specs.inside.Comparisons.{NothingElseDecides};
 ghost use Rattle.uca_text_comparer.specs.Comparers.{collation_by};
 
 use crate::itself::compare_itself;

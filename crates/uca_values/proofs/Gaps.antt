@@ -15,7 +15,7 @@ use Rattle.uca_values.specs.declared.CodePointRange.{CodePointRange}
 use Rattle.uca_values.specs.declared.characters.RangeFault.{RangeFault}
 use Rattle.uca_values.specs.declared.characters.RangeFault.TheVariants as faults
 use Rattle.uca_values.specs.Ranges.{is_between, is_within, class_in, RiseBy, AreRising, AreRisingClasses}
-use Rattle.uca_values.specs.Gaps.{HasRangeIn, IsGap, IsPut}
+use Rattle.uca_values.specs.inside.Gaps.{HasRangeIn, IsGap, IsPut}
 use Rattle.uca_values.specs.Content.{IsClass, IsData, DataContent, Properties, HasClassBetween, properties_of}
 use Rattle.uca_values.specs.Adding.{AddsClass, AddsCore, AddsOther, RefusesCore, RefusesOther, RefusesRange}
 use Rattle.uca_values.proofs.Rising.{all_at, sound_at, apart_at, IsPlace, between_true, between_false, between_from}

@@ -5,7 +5,7 @@ use Rattle.std.proofs.lemmas.Bool.{cases_lt}
 use Rattle.std.proofs.lemmas.List.{get_or-replicate, length-replicate, nil_from_length}
 use Rattle.uca_values.specs.declared.ClassRange.{ClassRange}
 use Rattle.uca_values.specs.Ranges.{is_between, class_in}
-use Rattle.uca_values.specs.LowClasses.{AreLowClasses}
+use Rattle.uca_values.specs.inside.LowClasses.{AreLowClasses}
 use Rattle.uca_values.proofs.Gaps.{Fits, class_insert}
 use Rattle.uca_values.proofs.Rising.{between_false, between_from}
 

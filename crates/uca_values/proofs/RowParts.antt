@@ -6,7 +6,7 @@ use Rattle.uca_weights.specs.declared.Element.{Element}
 use Rattle.uca_values.specs.declared.packed.Span.{Span}
 use Rattle.uca_values.specs.declared.packed.RowSpans.{RowSpans}
 use Rattle.uca_values.specs.Content.{Entry}
-use Rattle.uca_values.specs.RowParts.{AreSpans, IsSpan, last_span, row_in, rows_in}
+use Rattle.uca_values.specs.inside.RowParts.{AreSpans, IsSpan, last_span, row_in, rows_in}
 
 -- what comes after a list changes no span of it
 part_stays : {X : Type 0} (list more : List X) (span : Span) → IsSpan list span →

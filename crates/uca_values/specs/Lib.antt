@@ -1,9 +1,7 @@
 pub mod Ranges
-pub mod Gaps
-pub mod LowClasses
 pub mod Content
-pub mod RowParts
 pub mod Implicit
 pub mod Worked
 pub mod Adding
 pub mod FaultText
+pub mod inside

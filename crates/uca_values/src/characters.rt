@@ -3,10 +3,10 @@
 ghost use Rattle.std.specs.Prelude.{◌≡◌, ℕ, ◌<◌, ◌≤◌, List, length, nat_lt, true, false, [], ◌≢◌, ◌+◌, OnOk, IfErr, MatchOption, slice_index, if◌then◌else◌};
 ghost use Rattle.std.specs.List.Sorted.{IsPartitionPoint};
 ghost use Rattle.uca_values.specs.Ranges.{is_between, is_within, class_in, AreRising, AreRisingClasses};
-ghost use Rattle.uca_values.specs.LowClasses.{AreLowClasses};
+ghost use Rattle.uca_values.specs.inside.LowClasses.{AreLowClasses};
 ghost use Rattle.uca_values.specs.declared.ClassRange.{ClassRange};
 ghost use Rattle.std.specs.List.{AllByRecursion};
-ghost use Rattle.uca_values.specs.Gaps.{HasRangeIn, IsGap, IsPut};
+ghost use Rattle.uca_values.specs.inside.Gaps.{HasRangeIn, IsGap, IsPut};
 ghost use Rattle.uca_values.specs.Content.{IsClass};
 ghost use Rattle.uca_values.specs.Adding.{AddsClass, AddsCore, AddsOther, RefusesClass, RefusesCore, RefusesOther, RefusesRange};
 
@@ -29,7 +29,7 @@ pub struct Data<A: Allocator = Global> {
 
 impl<A: Allocator> Model for Data<A> {
     ghost use Rattle.uca_values.specs.Content.{DataContent, IsData};
-    ghost use Rattle.uca_values.specs.LowClasses.{AreLowClasses};
+    ghost use Rattle.uca_values.specs.inside.LowClasses.{AreLowClasses};
 
     ghost Value = { DataContent };
 

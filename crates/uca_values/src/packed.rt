@@ -3,7 +3,7 @@
 ghost use Rattle.std.specs.Prelude.{◌≡◌, ◌<◌, ℕ, List, [], ◌∷◌, ◌++◌, length, take, slice_index_or, IfOk, IfErr, OnOk, OnErr};
 ghost use Rattle.uca_weights.specs.declared.Element.{Element};
 ghost use Rattle.uca_values.specs.Content.{Entry};
-ghost use Rattle.uca_values.specs.RowParts.{last_span};
+ghost use Rattle.uca_values.specs.inside.RowParts.{last_span};
 
 use crate::{Header, Row, Table};
 use std::alloc::{AllocError, Allocator, Global};
@@ -35,7 +35,7 @@ pub struct PackedRows<A: Allocator = Global> {
 impl<A: Allocator> Model for PackedRows<A> {
     ghost use Rattle.std.specs.Prelude.{List};
     ghost use Rattle.uca_values.specs.Content.{Entry};
-    ghost use Rattle.uca_values.specs.RowParts.{rows_in, AreSpans};
+    ghost use Rattle.uca_values.specs.inside.RowParts.{rows_in, AreSpans};
 
     ghost Value = { List Entry };
 

@@ -15,7 +15,7 @@ use Rattle.clap.proofs.OnLiterals.{clap_on_literals}
 use Rattle.uca_words.specs.declared.WordFault.{WordFault}
 use Rattle.uca_words.specs.declared.Words.{Words}
 use Rattle.uca_words.specs.Command.{StandsFor, uca_app}
-use Rattle.uca_words.specs.Met.{IsValueFault, has_words, is_met}
+use Rattle.uca_words.specs.inside.Met.{IsValueFault, has_words, is_met}
 use Rattle.uca_words.specs.Words.{AreRead, AskForOtherFingerprints, AskForOtherWeighting, IsFaultOf, SayWords, Says, refused, refused_by_kind}
 use Rattle.uca_words.proofs.Taken.{taken}
 

@@ -1,4 +1,3 @@
 pub mod Command
-pub mod Subcommands
-pub mod Met
 pub mod Words
+pub mod inside

@@ -3,7 +3,7 @@
 ghost use Rattle.std.specs.Prelude.{◌≡◌, false, IfOk};
 ghost use Rattle.clap.specs.Words.{App, new_app, rule_of};
 ghost use Rattle.uca_words.specs.Command.{StandsFor, bare_app, line_app, rules_app, uca_app};
-ghost use Rattle.uca_words.specs.Subcommands.{argument_rule, subcommand_app, with_one, with_subcommands};
+ghost use Rattle.uca_words.specs.inside.Subcommands.{argument_rule, subcommand_app, with_one, with_subcommands};
 
 use crate::subcommands::{Argument, CHANGES_COMMANDS, LINE_COMMANDS, RULES_COMMANDS, Subcommand};
 use clap::{Arg, ArgAction, Command};

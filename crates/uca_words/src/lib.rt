@@ -18,7 +18,7 @@ ghost use Rattle.clap.specs.Words.{found_of, rows_of, first_of};
 ghost use Rattle.clap.specs.Takes.{is_given};
 ghost use Rattle.clap.specs.Walk.{texts};
 ghost use Rattle.uca_words.specs.Command.{check_app, keys_app, sort_app, compare_app, tailor_app, audit_app, affected_app, changes_app, audit_changes_app, rekey_app, fingerprint_app};
-ghost use Rattle.uca_words.specs.Met.{has_words, is_met, IsFingerprintFault, IsValueFault, IsWeightingFault};
+ghost use Rattle.uca_words.specs.inside.Met.{has_words, is_met, IsFingerprintFault, IsValueFault, IsWeightingFault};
 ghost use Rattle.uca_words.specs.Words.{HasEditions, HasFiles, HasFingerprints, HasWord, HasWeighting, HasDepth, IsNoFingerprint, Says, AreRead, IsFaultOf};
 
 mod builders;

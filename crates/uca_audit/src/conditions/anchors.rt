@@ -8,9 +8,9 @@ ghost use Rattle.uca_elements.specs.Collations.{collation_of};
 ghost use Rattle.uca_tailorings.specs.Laws.{ReadsAs};
 ghost use Rattle.uca_tailorings.specs.Placing.{IsIgnorableTo, IsLow};
 ghost use Rattle.uca_tailorings.specs.Tailorings.{tailored_reading};
-ghost use Rattle.uca_audit.specs.Anchors.{EndsAt, IsAnchorAt, HasNoAnchor};
-ghost use Rattle.uca_audit.specs.Chaining.{Settles};
-ghost use Rattle.uca_audit.specs.Views.{tailoring_in};
+ghost use Rattle.uca_audit.specs.inside.Anchors.{EndsAt, IsAnchorAt, HasNoAnchor};
+ghost use Rattle.uca_audit.specs.inside.Chaining.{Settles};
+ghost use Rattle.uca_audit.specs.inside.Views.{tailoring_in};
 
 use crate::conditions::at_relation;
 use crate::inputs::Inputs;

@@ -7,8 +7,8 @@ ghost use Rattle.uca_tailorings.specs.Laws.{ReadsAs};
 ghost use Rattle.uca_tailorings.specs.Placing as placing;
 ghost use Rattle.uca_tailorings.specs.Placing.{placed, IsOnSide};
 ghost use Rattle.uca_tailorings.specs.Tailorings.{Tailoring, IsPlaced, Meets, tailored_reading};
-ghost use Rattle.uca_audit.specs.PlacedRows.{IsRowAt, IsFoundPlacement};
-ghost use Rattle.uca_audit.specs.Views.{FindsFirstRelation, IsPlacement, tailoring_in};
+ghost use Rattle.uca_audit.specs.inside.PlacedRows.{IsRowAt, IsFoundPlacement};
+ghost use Rattle.uca_audit.specs.inside.Views.{FindsFirstRelation, IsPlacement, tailoring_in};
 
 use crate::Condition;
 use crate::conditions::anchors::{anchor_place, level_of, weight};

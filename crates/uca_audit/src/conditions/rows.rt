@@ -6,8 +6,8 @@ ghost use Rattle.uca_check.specs.Searches.{FindsFirstWithout};
 ghost use Rattle.uca_elements.specs.Rows.{IsKey};
 ghost use Rattle.uca_tailorings.specs.Tailorings.{IsCovered, IsCoveredRow, IsUnchangedRow, IsPresentRow, IsPresentTarget, IsExpectedRow};
 ghost use Rattle.uca_tailorings.specs.Inputs.{maps_of};
-ghost use Rattle.uca_audit.specs.Views.{FindsFirstRelation, tailoring_in};
-ghost use Rattle.uca_audit.specs.Chaining.{AreTargetsOf, FindsRowsOf, Settles};
+ghost use Rattle.uca_audit.specs.inside.Views.{FindsFirstRelation, tailoring_in};
+ghost use Rattle.uca_audit.specs.inside.Chaining.{AreTargetsOf, FindsRowsOf, Settles};
 
 use crate::conditions::{at_base_row, at_tailored_row};
 use crate::inputs::Inputs;

@@ -6,10 +6,10 @@ ghost use Rattle.uca_weights.specs.declared.Level.{Level};
 ghost use Rattle.uca_tailorings.specs.Placing.{IsLow};
 ghost use Rattle.uca_tailorings.specs.Tailorings.{IsFresh, IsNearest};
 ghost use Rattle.uca_audit.specs.declared.conditions.placements.Placement.{Placement};
-ghost use Rattle.uca_audit.specs.WeightSets.{HasWeight};
-ghost use Rattle.uca_audit.specs.Views.{tailoring_in, IsPlacement};
-ghost use Rattle.uca_audit.specs.Chaining.{Settles};
-ghost use Rattle.uca_audit.specs.NewWeights.{HoldsKnown, HoldsNew, IsFreshPlacement, IsNearestPlacement, puts};
+ghost use Rattle.uca_audit.specs.inside.WeightSets.{HasWeight};
+ghost use Rattle.uca_audit.specs.inside.Views.{tailoring_in, IsPlacement};
+ghost use Rattle.uca_audit.specs.inside.Chaining.{Settles};
+ghost use Rattle.uca_audit.specs.inside.NewWeights.{HoldsKnown, HoldsNew, IsFreshPlacement, IsNearestPlacement, puts};
 
 use crate::AuditFault;
 use crate::conditions::at_relation;

@@ -1,7 +1,7 @@
 //! Numbers in a text.
 
 ghost use Rattle.std.specs.Prelude.{◌≡◌, ◌*◌, ◌≤◌, ◌<◌, ◌^◌, ◌%◌, length, IfSome, [], ◌∷◌};
-ghost use Rattle.uca_lines.specs.DigitValues.{value_or_more, number_or_more};
+ghost use Rattle.uca_lines.specs.inside.DigitValues.{value_or_more, number_or_more};
 ghost use Rattle.uca_lines.specs.Numbers.{hex_of, code_point_of, weight_of, decimal_of, class_of, upper_digit, digits};
 
 /// The code point that a word of four to six digits stands for; `None` if the word is another text, a

@@ -5,7 +5,7 @@ ghost use Rattle.std.specs.Bool.{OnTrue, OnFalse};
 ghost use Rattle.std.specs.Io.KnownBytes.{IsAtEnd};
 ghost use Rattle.uca_lines.specs.Files.{ReadsLines, RefusesLine};
 ghost use Rattle.uca_lines.specs.FaultKinds.{is_read_fault, is_read_step, kind_of_fault};
-ghost use Rattle.uca_lines.specs.FileSteps.{TakesNext, RefusesNext};
+ghost use Rattle.uca_lines.specs.inside.FileSteps.{TakesNext, RefusesNext};
 ghost use Rattle.uca_lines.specs.LineReader.{left_of};
 
 use crate::files::{FileForm, LineFileFault, LineParser};

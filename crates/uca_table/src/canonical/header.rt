@@ -5,7 +5,7 @@ ghost use Rattle.uca_lines.specs.Lines.{ended};
 ghost use Rattle.uca_lines.specs.Numbers.{digits};
 ghost use Rattle.uca_table.specs.Canonical.{version_line, setting_line, range_line};
 ghost use Rattle.uca_lines.specs.Buffered.{count_of, HasRoom, WritesThrough};
-ghost use Rattle.uca_table.specs.CanonicalLineTexts.{setting_text, range_lines, header_text};
+ghost use Rattle.uca_table.specs.inside.CanonicalLineTexts.{setting_text, range_lines, header_text};
 
 use crate::canonical::buffered::write_point;
 use std::alloc::Allocator;

@@ -6,7 +6,7 @@ ghost use Rattle.uca_lines.specs.Lines.{ended};
 ghost use Rattle.uca_table.specs.CanonicalElements.{element_text};
 ghost use Rattle.uca_table.specs.Canonical.{key_point_text, key_text, row_line};
 ghost use Rattle.uca_lines.specs.Buffered.{HasRoom, WritesThrough};
-ghost use Rattle.uca_table.specs.CanonicalLineTexts.{row_lines};
+ghost use Rattle.uca_table.specs.inside.CanonicalLineTexts.{row_lines};
 
 use crate::canonical::buffered::write_point;
 use crate::canonical::elements::element_text;

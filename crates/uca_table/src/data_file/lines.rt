@@ -5,7 +5,7 @@ ghost use Rattle.uca_lines.specs.Leads.{BeginsWord};
 ghost use Rattle.uca_lines.specs.Numbers.{class_of};
 ghost use Rattle.uca_lines.specs.CodePointRanges.{range_of};
 ghost use Rattle.uca_table.specs.DataLines.{AreWords, read_words, range_read};
-ghost use Rattle.uca_table.specs.DataSteps.{IsNumbered};
+ghost use Rattle.uca_table.specs.inside.DataSteps.{IsNumbered};
 
 use uca_lines::fields::{RangeSyntax, class_number, code_point_range, cut_word, skip_blanks};
 use uca_lines::files::FaultKind;

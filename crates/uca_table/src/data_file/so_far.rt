@@ -5,7 +5,7 @@ ghost use Rattle.uca_values.specs.declared.faults.FaultKind.{FaultKind};
 ghost use Rattle.uca_lines.specs.declared.files.TheConstants.{TABLE_FORM};
 ghost use Rattle.uca_lines.specs.FileStops.{is_read_kind};
 ghost use Rattle.uca_table.specs.DataSoFar.{Says, Cause, RangeCause, summary};
-ghost use Rattle.uca_table.specs.DataSteps.{Takes, IsAdded, IsNumbered};
+ghost use Rattle.uca_table.specs.inside.DataSteps.{Takes, IsAdded, IsNumbered};
 
 use crate::data_file::lines::{RangeLine, range_line};
 use std::alloc::Allocator;

@@ -24,8 +24,8 @@ use Rattle.uca_plans.specs.Keys.{keys_in, is_among, with_key, with_targets}
 use Rattle.uca_plans.proofs.KeyPlaces.{has_key_is, keys_with_row}
 use Rattle.uca_plans.proofs.PlaceRows.{row_at, row_after}
 use Rattle.uca_plans.proofs.PlanSteps.{target_row, step_of}
-use Rattle.uca_tailor.specs.drafts.KeyRows.{IsRowOf}
-use Rattle.uca_tailor.specs.drafts.Ready.{IsReady, IsRejected}
+use Rattle.uca_tailor.specs.inside.KeyRows.{IsRowOf}
+use Rattle.uca_tailor.specs.inside.Ready.{IsReady, IsRejected}
 use Rattle.uca_plans.proofs.PlanKeys.{keys_of_drafts}
 use Rattle.uca_tailor.proofs.drafts.ListedKeys.{targets_more, relations_more}
 use Rattle.uca_tailor.proofs.drafts.KeyLookups.{not_in_front, row_in_front, front_is}

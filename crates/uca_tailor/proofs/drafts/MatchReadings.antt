@@ -21,8 +21,8 @@ use Rattle.uca_elements.proofs.Parts.{each_part}
 use Rattle.uca_plans.specs.declared.drafts.DraftElement.{DraftElement}
 use Rattle.uca_plans.specs.Drafts.{DraftRow, as_draft, draft_at, part_drafts}
 use Rattle.uca_plans.specs.Keys.{keys_in, is_among, read_over}
-use Rattle.uca_tailor.specs.drafts.MatchDrafts.{elements_at, match_drafts}
-use Rattle.uca_tailor.specs.drafts.Ready.{ArePositionsWith}
+use Rattle.uca_tailor.specs.inside.MatchDrafts.{elements_at, match_drafts}
+use Rattle.uca_tailor.specs.inside.Ready.{ArePositionsWith}
 
 -- ---- Positions
 

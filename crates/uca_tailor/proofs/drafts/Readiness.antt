@@ -12,8 +12,8 @@ use Rattle.uca_plans.specs.Plans.{Basis, Drafting}
 use Rattle.uca_plans.specs.Keys.{keys_in, is_among, with_key, with_targets}
 use Rattle.uca_plans.proofs.KeyPlaces.{with_key_is}
 use Rattle.uca_plans.proofs.SameReading.{same_reading, targets_append, target_among}
-use Rattle.uca_tailor.specs.drafts.KeyRows.{ArePositions, IsFull}
-use Rattle.uca_tailor.specs.drafts.Ready.{IsReady}
+use Rattle.uca_tailor.specs.inside.KeyRows.{ArePositions, IsFull}
+use Rattle.uca_tailor.specs.inside.Ready.{IsReady}
 use Rattle.uca_tailor.proofs.drafts.MatchReadings.{placed_among}
 use Rattle.uca_tailor.proofs.drafts.ListedKeys.{relations_around}
 use Rattle.uca_tailor.proofs.drafts.DraftingSteps.{IsDrafted}

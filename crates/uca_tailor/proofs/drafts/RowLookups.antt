@@ -1,7 +1,7 @@
 -- The row at a position.
 use Rattle.std.proofs.Common.{◌≡◌, ℕ, zero, suc, ◌<◌, ◌≤◌, List, [], ◌∷◌, length, get_or, refl, ap, sym, arith}
 use Rattle.uca_plans.specs.Drafts.{DraftRow}
-use Rattle.uca_tailor.specs.drafts.MatchDrafts.{elements_at}
+use Rattle.uca_tailor.specs.inside.MatchDrafts.{elements_at}
 
 -- the elements of the row at a position
 pub elements_there : (rows : List DraftRow) (at : ℕ) (row : DraftRow) → at < length rows → row ≡ get_or rows at row →

@@ -8,7 +8,7 @@ use Rattle.uca_plans.specs.declared.drafts.DraftElement.{DraftElement}
 use Rattle.uca_plans.specs.Plans.{is_among_variables}
 use Rattle.std.specs.Prelude.{Option}
 use Rattle.uca_tailor.specs.declared.drafts.variables.VariableSpan.{VariableSpan}
-use Rattle.uca_tailor.specs.drafts.Variables.{AreBounds, is_within}
+use Rattle.uca_tailor.specs.inside.Variables.{AreBounds, is_within}
 
 -- a weight within the bounds of some elements is among their variable ones
 within_is : (span : Option VariableSpan) (es : List Element) → AreBounds span es → (w : DraftWeight) → is_within span w ≡ is_among_variables es w

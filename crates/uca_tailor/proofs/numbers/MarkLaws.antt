@@ -12,7 +12,7 @@ use Rattle.uca_plans.specs.Lists.{fixed_weight, top_weight, base_weights}
 use Rattle.uca_plans.specs.ListLaws.{IsRising, IsAmong, HasWeight}
 use Rattle.uca_plans.proofs.ListMembers.{of_each}
 use Rattle.uca_plans.proofs.BaseWeightLemmas.{are_base_weights}
-use Rattle.uca_tailor.specs.numbers.Marks.{AreMarked, slots_from}
+use Rattle.uca_tailor.specs.inside.Marks.{AreMarked, slots_from}
 use Rattle.uca_plans.proofs.PlanRows.{top_fits}
 
 -- ---- One more element

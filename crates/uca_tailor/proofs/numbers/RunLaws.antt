@@ -10,7 +10,7 @@ use Rattle.uca_weights.proofs.Lists.{taken_more}
 use Rattle.uca_plans.specs.declared.drafts.DraftWeight.{DraftWeight}
 use Rattle.uca_plans.specs.declared.drafts.DraftWeight.TheVariants.{Base, New}
 use Rattle.uca_plans.specs.Plans.{run_before, runs_of}
-use Rattle.uca_tailor.specs.numbers.NumberTables.{EndsLow}
+use Rattle.uca_tailor.specs.inside.NumberTables.{EndsLow}
 
 -- ---- One weight more
 

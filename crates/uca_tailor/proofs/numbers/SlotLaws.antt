@@ -8,7 +8,7 @@ use Rattle.uca_plans.specs.Lists.{inserted, same_weight, before_weight, after_we
 use Rattle.uca_plans.specs.ListLaws.{IsAmong}
 use Rattle.uca_plans.proofs.ListMembers.{same_or_other, same_itself, weight_split}
 use Rattle.uca_plans.proofs.InsertionLemmas.{later_among}
-use Rattle.uca_tailor.specs.numbers.Slots.{IsSlotOf}
+use Rattle.uca_tailor.specs.inside.Slots.{IsSlotOf}
 
 -- ---- The first slot
 

@@ -7,7 +7,7 @@ use Rattle.std.specs.List.{AllByRecursion}
 use Rattle.uca_plans.specs.declared.drafts.DraftWeight.{DraftWeight}
 use Rattle.uca_plans.specs.declared.drafts.DraftWeight.TheVariants.{Base, New}
 use Rattle.uca_plans.specs.Lists.{IsNamedBelow}
-use Rattle.uca_tailor.specs.numbers.NumberTables.{AreTables}
+use Rattle.uca_tailor.specs.inside.NumberTables.{AreTables}
 use Rattle.uca_tailor.proofs.numbers.RunLaws.{rest_from}
 
 -- what is written back over a whole list is what was written

@@ -10,10 +10,10 @@ ghost use Rattle.uca_plans.specs.Plans as plans;
 ghost use Rattle.uca_plans.specs.Plans.{begun, with_relation, with_relations};
 ghost use Rattle.uca_plans.specs.Tailors.{basis_of, out_of_memory};
 ghost use Rattle.uca_check.specs.WellFormed.{elements_of};
-ghost use Rattle.uca_tailor.specs.drafts.KeyRows.{ArePositions};
-ghost use Rattle.uca_tailor.specs.drafts.Ready.{basis_in, ArePositionsWith, IsReady, IsRejected, TakesRow};
-ghost use Rattle.uca_tailor.specs.drafts.Targets.{insertions_of};
-ghost use Rattle.uca_tailor.specs.drafts.Variables.{AreBounds};
+ghost use Rattle.uca_tailor.specs.inside.KeyRows.{ArePositions};
+ghost use Rattle.uca_tailor.specs.inside.Ready.{basis_in, ArePositionsWith, IsReady, IsRejected, TakesRow};
+ghost use Rattle.uca_tailor.specs.inside.Targets.{insertions_of};
+ghost use Rattle.uca_tailor.specs.inside.Variables.{AreBounds};
 
 use crate::drafts::key_rows::{row_of_key, rows_of_keys};
 use crate::drafts::readings::DraftBasis;

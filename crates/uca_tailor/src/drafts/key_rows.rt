@@ -7,7 +7,7 @@ ghost use Rattle.uca_elements.specs.Positions.{place_at, AreDistinctKeys};
 ghost use Rattle.uca_match.specs.Tries.{positions};
 ghost use Rattle.uca_match.specs.NumberedKeys.{points_of};
 ghost use Rattle.uca_plans.specs.Keys.{is_among};
-ghost use Rattle.uca_tailor.specs.drafts.KeyRows.{IsRowOf, AreListed, ArePositions};
+ghost use Rattle.uca_tailor.specs.inside.KeyRows.{IsRowOf, AreListed, ArePositions};
 
 use std::alloc::{AllocError, Allocator};
 use uca_match::{KeyMap, key_list};

@@ -7,8 +7,8 @@ ghost use Rattle.uca_elements.specs.Positions.{is_placed};
 ghost use Rattle.uca_match.specs.Tries.{positions};
 ghost use Rattle.uca_plans.specs.Drafts as drafts;
 ghost use Rattle.uca_plans.specs.Keys.{read_over};
-ghost use Rattle.uca_tailor.specs.drafts.Ready.{ArePositionsWith};
-ghost use Rattle.uca_tailor.specs.drafts.MatchDrafts.{match_drafts};
+ghost use Rattle.uca_tailor.specs.inside.Ready.{ArePositionsWith};
+ghost use Rattle.uca_tailor.specs.inside.MatchDrafts.{match_drafts};
 
 use crate::drafts::elements::as_draft;
 use crate::drafts::row_drafts::RowDraft;

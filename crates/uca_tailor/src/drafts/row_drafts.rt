@@ -2,7 +2,7 @@
 
 ghost use Rattle.std.specs.Prelude.{◌≡◌, ◌++◌, OnOk, map, false};
 ghost use Rattle.uca_plans.specs.Drafts.{as_draft, row_as_draft};
-ghost use Rattle.uca_tailor.specs.drafts.RowDrafts.{row_elements};
+ghost use Rattle.uca_tailor.specs.inside.RowDrafts.{row_elements};
 
 use crate::drafts::elements::as_draft;
 use std::alloc::{AllocError, Allocator};
@@ -24,7 +24,7 @@ impl<'a, A: Allocator> Model for RowDraft<'a, A> {
 
     ghost Value = { DraftRow };
 
-    ghost use Rattle.uca_tailor.specs.drafts.RowDrafts.{row_elements};
+    ghost use Rattle.uca_tailor.specs.inside.RowDrafts.{row_elements};
 
     ghost view = { λ r. record { key = r.key.now; elements = row_elements r.elements } };
 }

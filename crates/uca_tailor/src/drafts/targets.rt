@@ -6,8 +6,8 @@ ghost use Rattle.uca_plans.specs.declared.drafts.DraftElement.{DraftElement};
 ghost use Rattle.uca_plans.specs.Drafts.{anchor_part, accepted_part};
 ghost use Rattle.uca_plans.specs.Plans as plans;
 ghost use Rattle.uca_plans.specs.Plans.{placed_if_accepted, draft_expansion};
-ghost use Rattle.uca_tailor.specs.drafts.Ready.{basis_in, ArePositionsWith, ReadsAlike};
-ghost use Rattle.uca_tailor.specs.drafts.Targets.{drafted_with};
+ghost use Rattle.uca_tailor.specs.inside.Ready.{basis_in, ArePositionsWith, ReadsAlike};
+ghost use Rattle.uca_tailor.specs.inside.Targets.{drafted_with};
 
 use crate::drafts::elements::{draft_weight, level_of, reweighted, take_last, takes_no_weight};
 use crate::drafts::readings::DraftBasis;

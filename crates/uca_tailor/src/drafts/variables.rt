@@ -4,7 +4,7 @@ ghost use Rattle.std.specs.Prelude.{◌≡◌, ◌&&◌, List, [], ◌∷◌, �
 ghost use Rattle.std.specs.List.{list_any};
 ghost use Rattle.uca_weights.specs.declared.Element.{Element as ElementType};
 ghost use Rattle.uca_check.specs.WellFormed.{elements_of};
-ghost use Rattle.uca_tailor.specs.drafts.Variables.{AreBounds, is_within};
+ghost use Rattle.uca_tailor.specs.inside.Variables.{AreBounds, is_within};
 
 use std::alloc::Allocator;
 use uca_plans::{DraftElement, DraftWeight};

@@ -8,7 +8,7 @@ ghost use Rattle.uca_plans.specs.Lists as lists;
 ghost use Rattle.uca_plans.specs.Lists.{InsertsBelow, IsNamedBelow, members_of, number_in};
 ghost use Rattle.uca_plans.specs.Plans as plans;
 ghost use Rattle.uca_plans.specs.Plans.{LevelPlan, level_plan, numbered_weight, run_before};
-ghost use Rattle.uca_tailor.specs.numbers.NumberTables.{AreTables, EndsLow};
+ghost use Rattle.uca_tailor.specs.inside.NumberTables.{AreTables, EndsLow};
 
 use crate::numbers::lists::{
     WEIGHT_COUNT, fixed_weight, high_members, high_segment, level_has_room, low_members,
@@ -36,7 +36,7 @@ pub(crate) struct LevelNumbers<A: Allocator> {
 
 impl<A: Allocator> Model for LevelNumbers<A> {
     ghost use Rattle.uca_plans.specs.Plans.{LevelPlan};
-    ghost use Rattle.uca_tailor.specs.numbers.NumberTables.{AreTables};
+    ghost use Rattle.uca_tailor.specs.inside.NumberTables.{AreTables};
 
     ghost Value = { LevelPlan };
 

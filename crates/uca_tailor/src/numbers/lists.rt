@@ -8,8 +8,8 @@ ghost use Rattle.uca_plans.specs.declared.drafts.DraftWeight.TheVariants.{Base};
 ghost use Rattle.uca_plans.specs.Lists as lists;
 ghost use Rattle.uca_plans.specs.Lists.{inserted};
 ghost use Rattle.uca_plans.specs.ListLaws.{IsAmong};
-ghost use Rattle.uca_tailor.specs.numbers.Marks.{AreMarked, slots_from};
-ghost use Rattle.uca_tailor.specs.numbers.Slots.{IsSlotOf};
+ghost use Rattle.uca_tailor.specs.inside.Marks.{AreMarked, slots_from};
+ghost use Rattle.uca_tailor.specs.inside.Slots.{IsSlotOf};
 
 use std::alloc::{AllocError, Allocator};
 use uca_plans::{DraftWeight, Insertion, Segment};

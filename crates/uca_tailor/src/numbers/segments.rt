@@ -2,7 +2,7 @@
 
 ghost use Rattle.std.specs.Prelude.{◌≡◌, ◌+◌, ◌<◌, ◌≤◌, IfOk, max};
 ghost use Rattle.uca_plans.specs.Numbering.{HasPlaces, numbers_of};
-ghost use Rattle.uca_plans.specs.OnePass as one_pass;
+ghost use Rattle.uca_plans.specs.inside.OnePass as one_pass;
 
 use std::alloc::{AllocError, Allocator};
 use uca_plans::{DraftWeight, Segment};

@@ -2,7 +2,7 @@
 use Rattle.std.proofs.Common.{◌≡◌, ◌||◌, Bool, List, true, false, refl, subst, sym, true≢false}
 use Rattle.clap.specs.Words.{Row, Text, found_of, rows_of}
 use Rattle.uca_words.specs.Command.{check_app, keys_app, sort_app, compare_app, tailor_app, audit_app, affected_app, changes_app, audit_changes_app, rekey_app, fingerprint_app}
-use Rattle.uca_words.specs.Met.{is_met}
+use Rattle.uca_words.specs.inside.Met.{is_met}
 use Rattle.uca_words.specs.Words.{Says}
 use Rattle.uca_words.specs.declared.Words.{Words}
 use Rattle.uca_words.proofs.SubcommandWords.{is_of_rest}

@@ -1,5 +1,5 @@
 use Rattle.uca_tailorings.specs.declared.conditions.Condition.TheVariants.{RowChanged, RowMissing, RowExtra}
-use Rattle.uca_audit.specs.Views.{tailoring_in}
+use Rattle.uca_audit.specs.inside.Views.{tailoring_in}
 use Rattle.uca_audit.proofs.Chaining.{meets_more, passes_refused, passes_last}
 use Rattle.uca_audit.proofs.auditing.audit_table_rows.Goals as goal
 

@@ -1,5 +1,5 @@
 use Rattle.uca_tailorings.specs.declared.conditions.Condition.TheVariants.{BaseIllFormed, TailoredIllFormed, Header}
-use Rattle.uca_audit.specs.Views.{tailoring_in}
+use Rattle.uca_audit.specs.inside.Views.{tailoring_in}
 use Rattle.uca_audit.proofs.Chaining.{meets_none, meets_more, passes_refused, passes_last}
 use Rattle.uca_audit.proofs.auditing.audit_tables.Goals as goal
 

@@ -1,4 +1,4 @@
-use Rattle.uca_audit.specs.Views.{tailoring_in}
+use Rattle.uca_audit.specs.inside.Views.{tailoring_in}
 use Rattle.uca_audit.proofs.auditing.meaning.Goals as goal
 
 pub returns : goal.returns

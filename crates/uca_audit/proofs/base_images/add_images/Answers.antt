@@ -5,7 +5,7 @@ use Rattle.uca_values.specs.Content.{Entry}
 use Rattle.uca_check.specs.WellFormed.{elements_of}
 use Rattle.uca_check.proofs.Elements.{after_more}
 use Rattle.uca_tailorings.specs.Inputs.{maps_of}
-use Rattle.uca_audit.specs.KnownWeights.{HoldsImages}
+use Rattle.uca_audit.specs.inside.KnownWeights.{HoldsImages}
 use Rattle.uca_audit.proofs.KnownImages.{row_more}
 use Rattle.uca_audit.proofs.base_images.add_images.Goals as goal
 

@@ -2,7 +2,7 @@
 use Rattle.std.proofs.Common.{take, ◌++◌}
 use Rattle.uca_check.specs.WellFormed.{elements_of}
 use Rattle.uca_tailorings.specs.Inputs.{maps_of}
-use Rattle.uca_audit.specs.KnownWeights.{HoldsImages}
+use Rattle.uca_audit.specs.inside.KnownWeights.{HoldsImages}
 use Rattle.uca_audit.proofs.base_images.add_images.Given as goal
 
 abbrev pub invariant-loop-element : goal.invariant-loop-element

@@ -3,8 +3,8 @@ use Rattle.std.proofs.Common.{ap, subst, ◌∙◌}
 use Rattle.uca_values.specs.Content.{TableContent}
 use Rattle.uca_check.specs.WellFormed.{elements_of}
 use Rattle.uca_tailorings.specs.Inputs.{maps_of}
-use Rattle.uca_audit.specs.KnownWeights.{HoldsImages}
-use Rattle.uca_audit.specs.Views.{tailoring_in}
+use Rattle.uca_audit.specs.inside.KnownWeights.{HoldsImages}
+use Rattle.uca_audit.specs.inside.Views.{tailoring_in}
 use Rattle.uca_audit.proofs.KnownImages.{pairs_alone, known_of_images}
 use Rattle.uca_audit.proofs.base_images.known_weights.Goals as goal
 

@@ -1,7 +1,7 @@
 use Rattle.std.proofs.Common.{inl, subst}
 use Rattle.uca_tailorings.specs.Tailorings.{IsPlaced, Meets}
 use Rattle.uca_tailorings.specs.declared.conditions.Condition.TheVariants.{NotPlaced}
-use Rattle.uca_audit.specs.Views.{tailoring_in, FindsFirstRelation}
+use Rattle.uca_audit.specs.inside.Views.{tailoring_in, FindsFirstRelation}
 use Rattle.uca_audit.proofs.FirstRelations.{within_first, fails_at_relation}
 use Rattle.uca_audit.proofs.conditions.targets_are_placed.Goals as goal
 

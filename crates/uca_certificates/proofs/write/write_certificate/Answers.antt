@@ -4,7 +4,7 @@ use Rattle.uca_weights.specs.declared.Level.TheVariants.{One, Two, Three}
 use Rattle.uca_lines.proofs.BufferedLemmas.{part, written_none, part_fits, part_written, part_fails, all_parts_written, none_buffered, nothing_counted, fault_writes, fault_leaves_some, flush_leaves_some}
 use Rattle.uca_certificates.specs.Certificates.{CertificateContent, IsCertificate}
 use Rattle.uca_certificates.specs.Texts.{certificate_text}
-use Rattle.uca_certificates.specs.Steps.{level_text}
+use Rattle.uca_certificates.specs.inside.Steps.{level_text}
 use Rattle.uca_certificates.proofs.WriteLaws.{certificate_parts, certificate_text_is, certificate_fits}
 use Rattle.uca_certificates.proofs.write.write_certificate.Goals as goal
 

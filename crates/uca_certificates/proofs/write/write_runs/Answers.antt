@@ -1,7 +1,7 @@
 -- Each line is written after those before it.
 use Rattle.std.proofs.Common.{refl}
 use Rattle.uca_lines.proofs.BufferedLemmas.{written_none, part_fits, part_written, returns_fault, all_parts_written}
-use Rattle.uca_certificates.specs.Steps.{level_text}
+use Rattle.uca_certificates.specs.inside.Steps.{level_text}
 use Rattle.uca_certificates.proofs.WriteLaws.{line_at}
 use Rattle.uca_certificates.proofs.write.write_runs.Goals as goal
 

@@ -1,7 +1,7 @@
 -- The lines of the runs so far were written.
 use Rattle.std.proofs.Common.{take}
 use Rattle.uca_lines.specs.Buffered.{HasWrittenThrough}
-use Rattle.uca_certificates.specs.Steps.{level_text}
+use Rattle.uca_certificates.specs.inside.Steps.{level_text}
 use Rattle.uca_certificates.proofs.write.write_runs.Given as goal
 
 abbrev pub invariant-loop-run : goal.invariant-loop-run

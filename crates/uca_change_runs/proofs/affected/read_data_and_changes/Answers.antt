@@ -6,7 +6,7 @@ use Rattle.uca_run_parts.specs.ReadFiles.{data_file}
 use Rattle.uca_run_parts.proofs.FilesLemmas.{stays}
 use Rattle.uca_run_parts.proofs.ReadFilesLemmas.{both_read, first_rejected, second_rejected}
 use Rattle.uca_change_runs.specs.ChangeFiles.{changes_with}
-use Rattle.uca_change_runs.specs.ReadChanges.{changes_file}
+use Rattle.uca_change_runs.specs.inside.ReadChanges.{changes_file}
 use Rattle.uca_change_runs.proofs.affected.read_data_and_changes.Goals as goal
 
 pub returns-in-Err : goal.returns-in-Err

@@ -4,7 +4,7 @@ use Rattle.uca_changes.specs.Changes.{Change}
 use Rattle.uca_run_parts.proofs.FilesLemmas.{stays}
 use Rattle.uca_run_parts.proofs.ReadFilesLemmas.{both_read, first_rejected, second_rejected}
 use Rattle.uca_change_runs.specs.ChangeFiles.{editions_files, editions_roles}
-use Rattle.uca_change_runs.specs.ReadChanges.{change_listed, editions_of, listed_files, listed_of, listed_roles}
+use Rattle.uca_change_runs.specs.inside.ReadChanges.{change_listed, editions_of, listed_files, listed_of, listed_roles}
 use Rattle.uca_change_runs.proofs.ChangeFilesRead.{audits_changes}
 use Rattle.uca_change_runs.proofs.audit_changes.run_audit_changes_in.Goals as goal
 

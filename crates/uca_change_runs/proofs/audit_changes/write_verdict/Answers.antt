@@ -2,7 +2,7 @@
 use Rattle.std.proofs.Common.{◌∷◌, [], ◌++◌, ◌≡◌, ◌⊎◌, ℕ, List, refl, ap, subst, ◌∙◌}
 use Rattle.uca_changes.specs.declared.faults.ChangeFault.TheVariants.{Memory, NotMet}
 use Rattle.uca_editions.specs.ChangeRefusals.{IsFirstRefusal}
-use Rattle.uca_change_runs.specs.ReadChanges.{change_of}
+use Rattle.uca_change_runs.specs.inside.ReadChanges.{change_of}
 use Rattle.uca_change_runs.proofs.ChangeVerdicts.{refusal_of_not_met}
 use Rattle.uca_change_runs.proofs.audit_changes.write_verdict.Goals as goal
 

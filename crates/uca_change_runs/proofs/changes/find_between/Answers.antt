@@ -1,6 +1,6 @@
 -- What is found, or why nothing is.
 use Rattle.std.proofs.Common.{Err, ap}
-use Rattle.uca_change_runs.specs.ReadChanges.{editions_of}
+use Rattle.uca_change_runs.specs.inside.ReadChanges.{editions_of}
 use Rattle.uca_change_runs.proofs.EditionsRead.{not_found}
 use Rattle.uca_change_runs.proofs.changes.find_between.Goals as goal
 

@@ -1,6 +1,6 @@
 -- The whole run, from what its four files mean and what is found between them.
 use Rattle.std.proofs.Common.{[], ◌∷◌, Ok, Err, refl}
-use Rattle.uca_change_runs.specs.ReadChanges.{editions_of}
+use Rattle.uca_change_runs.specs.inside.ReadChanges.{editions_of}
 use Rattle.uca_change_runs.proofs.EditionsRead.{finds_changes}
 use Rattle.uca_change_runs.proofs.changes.run_changes_in.Goals as goal
 

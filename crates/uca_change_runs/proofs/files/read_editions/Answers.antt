@@ -5,7 +5,7 @@ use Rattle.uca_run_parts.specs.declared.faults.Role.TheVariants as roles
 use Rattle.uca_run_parts.proofs.FilesLemmas.{stays}
 use Rattle.uca_run_parts.proofs.ReadFilesLemmas.{both_read, first_rejected, second_rejected}
 use Rattle.uca_change_runs.specs.ChangeFiles.{editions_with}
-use Rattle.uca_change_runs.specs.ReadChanges.{edition_files, edition_of}
+use Rattle.uca_change_runs.specs.inside.ReadChanges.{edition_files, edition_of}
 use Rattle.uca_change_runs.proofs.files.read_editions.Goals as goal
 
 abbrev old_roles : List Role

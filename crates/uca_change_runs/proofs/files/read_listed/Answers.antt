@@ -4,7 +4,7 @@ use Rattle.uca_run_parts.specs.declared.faults.Role.TheVariants as roles
 use Rattle.uca_run_parts.specs.ReadFiles.{certificate_file}
 use Rattle.uca_run_parts.proofs.FilesLemmas.{stays}
 use Rattle.uca_run_parts.proofs.ReadFilesLemmas.{both_read, first_rejected, second_rejected}
-use Rattle.uca_change_runs.specs.ReadChanges.{changes_file, listed_with}
+use Rattle.uca_change_runs.specs.inside.ReadChanges.{changes_file, listed_with}
 use Rattle.uca_change_runs.proofs.files.read_listed.Goals as goal
 
 pub returns-in-Err : goal.returns-in-Err

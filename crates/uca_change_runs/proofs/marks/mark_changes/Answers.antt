@@ -3,7 +3,7 @@ use Rattle.std.proofs.Common.{ℕ, List, subst, ◌∙◌}
 use Rattle.std.specs.List.{AllByRecursion}
 use Rattle.uca_weights.proofs.Lists.{each_weaker}
 use Rattle.uca_values.specs.declared.CodePointRange.{CodePointRange}
-use Rattle.uca_change_runs.specs.Index.{HasMarks, IsMarked, first_of}
+use Rattle.uca_change_runs.specs.inside.Index.{HasMarks, IsMarked, first_of}
 use Rattle.uca_change_runs.proofs.marks.mark_changes.Goals as goal
 
 pub returns : goal.returns

@@ -1,6 +1,6 @@
 -- What was marked is still marked, and so are the code points of the range so far.
 use Rattle.std.proofs.Common.{ℕ, ◌<◌, ◌≤◌}
-use Rattle.uca_change_runs.specs.Index.{IsMarked, KeepsMarks}
+use Rattle.uca_change_runs.specs.inside.Index.{IsMarked, KeepsMarks}
 use Rattle.uca_change_runs.proofs.marks.mark_range.Given as goal
 
 abbrev pub invariant-loop-code : goal.invariant-loop-code

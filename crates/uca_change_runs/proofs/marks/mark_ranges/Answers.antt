@@ -1,7 +1,7 @@
 use Rattle.std.proofs.Common.{get_or}
 use Rattle.std.proofs.lemmas.List.{get_or_default}
 use Rattle.uca_values.specs.declared.CodePointRange.{CodePointRange}
-use Rattle.uca_change_runs.specs.Index.{HasMarks}
+use Rattle.uca_change_runs.specs.inside.Index.{HasMarks}
 use Rattle.uca_change_runs.proofs.MarkLaws.{each_more}
 use Rattle.uca_change_runs.proofs.marks.mark_ranges.Goals as goal
 

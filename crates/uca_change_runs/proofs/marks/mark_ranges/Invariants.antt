@@ -1,7 +1,7 @@
 -- What was marked is still marked, and so are the code points of the ranges so far.
 use Rattle.std.proofs.Common.{take}
 use Rattle.std.specs.List.{AllByRecursion}
-use Rattle.uca_change_runs.specs.Index.{HasMarks, KeepsMarks}
+use Rattle.uca_change_runs.specs.inside.Index.{HasMarks, KeepsMarks}
 use Rattle.uca_change_runs.proofs.marks.mark_ranges.Given as goal
 
 abbrev pub invariant-loop-range : goal.invariant-loop-range

@@ -1,5 +1,5 @@
 use Rattle.std.proofs.Common.{subst}
-use Rattle.uca_change_runs.specs.Index.{IsMarked, first_of}
+use Rattle.uca_change_runs.specs.inside.Index.{IsMarked, first_of}
 use Rattle.uca_change_runs.proofs.MarkLaws.{each_more}
 use Rattle.uca_change_runs.proofs.marks.mark_texts.Goals as goal
 

@@ -1,7 +1,7 @@
 -- What was marked is still marked, and so are the first code points of the texts so far.
 use Rattle.std.proofs.Common.{take}
 use Rattle.std.specs.List.{AllByRecursion}
-use Rattle.uca_change_runs.specs.Index.{IsMarked, KeepsMarks, first_of}
+use Rattle.uca_change_runs.specs.inside.Index.{IsMarked, KeepsMarks, first_of}
 use Rattle.uca_change_runs.proofs.marks.mark_texts.Given as goal
 
 abbrev pub invariant-loop-text : goal.invariant-loop-text

@@ -1,7 +1,7 @@
 use Rattle.std.proofs.Common.{ltb, rules}
 use Rattle.std.proofs.lemmas.List.Sorted.{IsPartitionPoint-from_clause}
 use Rattle.uca_values.proofs.Rising.{place_from_tests}
-use Rattle.uca_change_runs.specs.Index.{first_of}
+use Rattle.uca_change_runs.specs.inside.Index.{first_of}
 use Rattle.uca_change_runs.proofs.SearchLaws.{firsts_parted}
 use Rattle.uca_change_runs.proofs.searches.text_place.Goals as goal
 

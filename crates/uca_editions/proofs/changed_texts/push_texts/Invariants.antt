@@ -1,6 +1,6 @@
 -- If all texts may be listed, those so far are.
 use Rattle.std.proofs.Common.{map}
-use Rattle.uca_editions.specs.Everything.{MayListAll}
+use Rattle.uca_editions.specs.inside.Everything.{MayListAll}
 use Rattle.uca_editions.proofs.ListedKeys.{ListsFirst}
 use Rattle.uca_editions.proofs.changed_texts.push_texts.Given as goal
 

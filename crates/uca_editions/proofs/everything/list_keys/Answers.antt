@@ -1,7 +1,7 @@
 use Rattle.std.proofs.Common.{◌≡◌, ◌∙◌, ◌++◌, ℕ, List, Bor, ap, ap₂, map, subst}
 use Rattle.std.proofs.lemmas.Result.{on_ok_weaker}
 use Rattle.uca_values.specs.Content.{Entry, TableContent, keys_of}
-use Rattle.uca_editions.specs.Everything.{ListsAll}
+use Rattle.uca_editions.specs.inside.Everything.{ListsAll}
 use Rattle.uca_editions.proofs.EveryKey.{may_list_keys}
 use Rattle.uca_editions.proofs.everything.list_keys.Goals as goal
 

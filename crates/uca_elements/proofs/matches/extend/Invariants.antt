@@ -1,6 +1,6 @@
 use Rattle.std.proofs.Common.{◌-◌, length}
 use Rattle.uca_text.specs.Texts.{Text, code_points}
-use Rattle.uca_elements.specs.Extensions.{IsAfter, IsGoing}
+use Rattle.uca_elements.specs.inside.Extensions.{IsAfter, IsGoing}
 use Rattle.uca_elements.proofs.matches.extend.Given as goal
 
 abbrev pub invariant-loop-i : goal.invariant-loop-i

@@ -3,7 +3,7 @@ use Rattle.std.proofs.Common.{subst, sym, ap, ◌∙◌}
 use Rattle.std.specs.Option.{unwrap_or}
 use Rattle.uca_weights.specs.Runs.{weight_image}
 use Rattle.uca_weights.proofs.RunMaps.{IsRisingMap-runs}
-use Rattle.uca_images.specs.ImageTables.{IsImageEntry}
+use Rattle.uca_images.specs.inside.ImageTables.{IsImageEntry}
 use Rattle.uca_images.proofs.ImageTables.{image_entry}
 use Rattle.uca_images.proofs.images.image_or_zero.Goals as goal
 

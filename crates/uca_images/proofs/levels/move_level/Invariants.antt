@@ -3,7 +3,7 @@ use Rattle.std.proofs.Common.{ℕ, suc, ◌-◌, ◌≤◌, List, Option, length
 use Rattle.uca_weights.specs.declared.Depth.{Depth}
 use Rattle.uca_tailorings.specs.Images.{Maps}
 use Rattle.uca_tailorings.specs.Moves.{level_images}
-use Rattle.uca_images.specs.ImageTables.{IsImageTable}
+use Rattle.uca_images.specs.inside.ImageTables.{IsImageTable}
 use Rattle.uca_images.specs.Moving.{HasMoved}
 use Rattle.uca_images.proofs.levels.move_level.Given as goal
 

@@ -5,7 +5,7 @@ use Rattle.uca_run_parts.specs.Runs.{is_input_read}
 use Rattle.uca_run_parts.proofs.Running.{as_before}
 use Rattle.uca_order.specs.Keyings.{keying_of}
 use Rattle.uca_key_runs.specs.HeadedRun.{WritesHeaded}
-use Rattle.uca_key_runs.specs.KeyForms.{line_as}
+use Rattle.uca_key_runs.specs.inside.KeyForms.{line_as}
 use Rattle.uca_key_runs.proofs.HeadedRuns.{headed, input_after, out_after, part_of_header, same_before_input}
 use Rattle.uca_key_runs.proofs.headed.print_headed.Goals as goal
 

@@ -10,7 +10,7 @@ use Rattle.uca_run_parts.proofs.Running.{file_before}
 use Rattle.uca_fingerprint_runs.specs.SummedFiles.{summed_files, summed_with}
 use Rattle.uca_elements.specs.Collations.{collation_over}
 use Rattle.uca_key_runs.proofs.Rows.{before_input, both_outcomes, no_file}
-use Rattle.uca_key_runs.specs.HeadedParts.{IsHeaded}
+use Rattle.uca_key_runs.specs.inside.HeadedParts.{IsHeaded}
 use Rattle.uca_key_runs.proofs.headed.read_headed.Goals as goal
 
 pub returns-in-Err-clause-read : goal.returns-in-Err-clause-read

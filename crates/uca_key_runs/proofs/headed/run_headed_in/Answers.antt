@@ -11,9 +11,9 @@ use Rattle.uca_run_parts.proofs.WholeRuns.{ended_before, ended_by_lines}
 use Rattle.uca_fingerprint_runs.specs.SummedFiles.{summed_files}
 use Rattle.uca_order.specs.Keyings.{Keying, keying}
 use Rattle.uca_key_runs.proofs.Keyings.{same_keying}
-use Rattle.uca_key_runs.specs.HeadedParts.{IsHeaded}
+use Rattle.uca_key_runs.specs.inside.HeadedParts.{IsHeaded}
 use Rattle.uca_key_runs.specs.HeadedRun.{RunsHeaded, WritesHeaded}
-use Rattle.uca_key_runs.specs.KeyForms.{line_as}
+use Rattle.uca_key_runs.specs.inside.KeyForms.{line_as}
 use Rattle.uca_key_runs.proofs.HeadedRuns.{headed_under}
 use Rattle.uca_key_runs.proofs.headed.run_headed_in.Goals as goal
 

@@ -3,7 +3,7 @@ use Rattle.std.proofs.Common.{◌≡◌, true, None, subst, sym, chars}
 use Rattle.uca_text.specs.Texts.{nfd_text}
 use Rattle.uca_key_writer.specs.Writers.{collation_by}
 use Rattle.uca_run_parts.specs.Input.{cause_of}
-use Rattle.uca_key_runs.specs.KeyForms.{shows_points}
+use Rattle.uca_key_runs.specs.inside.KeyForms.{shows_points}
 use Rattle.uca_run_parts.specs.Texts.{HasTextCause}
 use Rattle.uca_key_runs.proofs.KeyLines.{line_made}
 use Rattle.uca_key_runs.proofs.Keyings.{same_settings}

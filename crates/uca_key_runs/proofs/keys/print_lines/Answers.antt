@@ -5,7 +5,7 @@ use Rattle.uca_values.specs.Content.{properties_of}
 use Rattle.uca_order.specs.Keyings.{keying_of}
 use Rattle.uca_key_runs.specs.Keys.{keying_at}
 use Rattle.uca_order.specs.Lengths.{HasShortRows}
-use Rattle.uca_key_runs.specs.KeyForms.{line_as}
+use Rattle.uca_key_runs.specs.inside.KeyForms.{line_as}
 use Rattle.uca_run_parts.specs.EachLineSoFar.{WritesRest}
 use Rattle.uca_run_parts.proofs.Finishing.{started, of_lines}
 use Rattle.uca_key_runs.proofs.Keyings.{same_settings}

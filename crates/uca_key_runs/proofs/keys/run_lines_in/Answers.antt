@@ -8,7 +8,7 @@ use Rattle.uca_order.specs.Lengths.{HasShortRows}
 use Rattle.uca_run_parts.specs.declared.faults.RunFault.TheVariants.{Memory}
 use Rattle.uca_run_parts.specs.EachLine.{RunsEach}
 use Rattle.uca_run_parts.specs.Files.{table_and_data, table_and_data_roles}
-use Rattle.uca_key_runs.specs.KeyForms.{line_as}
+use Rattle.uca_key_runs.specs.inside.KeyForms.{line_as}
 use Rattle.uca_order.specs.Keyings.{Keying}
 use Rattle.uca_key_runs.specs.Keys.{IsCollation}
 use Rattle.uca_key_runs.specs.KeysRun.{RunsUnder}

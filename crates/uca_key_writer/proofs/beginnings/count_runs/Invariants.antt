@@ -4,7 +4,7 @@ use Rattle.std.proofs.Common.{◌≤◌, length}
 use Rattle.std.specs.Str.{chars}
 use Rattle.uca_elements.specs.Collations.{collation_of}
 use Rattle.uca_plain.specs.PointCache.{AreTrueEntries}
-use Rattle.uca_key_writer.specs.Beginnings.{IsJudgedTo}
+use Rattle.uca_key_writer.specs.inside.Beginnings.{IsJudgedTo}
 use Rattle.uca_key_writer.proofs.beginnings.count_runs.Given as goal
 
 -- the text before the rest has no long run

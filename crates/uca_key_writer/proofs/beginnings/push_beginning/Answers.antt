@@ -6,7 +6,7 @@ use Rattle.std.proofs.lemmas.Iterator.{YieldsList-from_chars}
 use Rattle.std.proofs.lemmas.Iterator.Consumers.{YieldsList-end, YieldsList-so_far, YieldsList-turn}
 use Rattle.std.proofs.lemmas.List.{map-id}
 use Rattle.uca_elements.specs.Collations.{collation_of}
-use Rattle.uca_key_writer.specs.Pieces.{ReadsTo, HasRead}
+use Rattle.uca_key_writer.specs.inside.Pieces.{ReadsTo, HasRead}
 use Rattle.uca_key_writer.proofs.PieceSteps.{begin_text}
 use Rattle.uca_key_writer.proofs.BeginningSteps.{begun_all, begun_early, text_parts}
 use Rattle.uca_key_writer.proofs.beginnings.push_beginning.Goals as goal

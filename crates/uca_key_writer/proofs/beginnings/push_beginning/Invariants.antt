@@ -1,6 +1,6 @@
 use Rattle.uca_elements.specs.Collations.{collation_of}
 use Rattle.uca_plain.specs.PointCache.{AreTrueEntries}
-use Rattle.uca_key_writer.specs.Pieces.{ReadsTo}
+use Rattle.uca_key_writer.specs.inside.Pieces.{ReadsTo}
 use Rattle.uca_key_writer.proofs.beginnings.push_beginning.Given as goal
 
 -- what comes before the piece has given its elements to the levels

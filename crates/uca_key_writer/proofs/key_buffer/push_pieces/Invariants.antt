@@ -4,7 +4,7 @@ use denote.Shadow.{shadow}
 use Rattle.std.specs.Str.{chars}
 use Rattle.uca_elements.specs.Collations.{collation_of}
 use Rattle.uca_plain.specs.PointCache.{AreTrueEntries}
-use Rattle.uca_key_writer.specs.Stretches.{ReadsMore}
+use Rattle.uca_key_writer.specs.inside.Stretches.{ReadsMore}
 use Rattle.uca_key_writer.proofs.key_buffer.push_pieces.Given as goal
 
 -- what comes before the piece has given its elements to the levels

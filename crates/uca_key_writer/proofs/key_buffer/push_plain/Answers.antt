@@ -1,8 +1,8 @@
 use Rattle.std.proofs.Common.{[], ◌∷◌, ◌++◌, refl, subst}
 use Rattle.std.specs.Bool.{OnTrue}
 use Rattle.uca_elements.specs.Collations.{collation_of}
-use Rattle.uca_key_writer.specs.Pieces.{HasRead}
-use Rattle.uca_key_writer.specs.Stretches.{ReadsUpTo}
+use Rattle.uca_key_writer.specs.inside.Pieces.{HasRead}
+use Rattle.uca_key_writer.specs.inside.Stretches.{ReadsUpTo}
 use Rattle.uca_key_writer.proofs.key_buffer.push_plain.Goals as goal
 
 pub returns-in-Ok-true : goal.returns-in-Ok-true

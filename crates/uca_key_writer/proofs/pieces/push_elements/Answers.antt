@@ -1,5 +1,5 @@
 use Rattle.std.proofs.Common.{[], ◌∷◌, ◌++◌, sym, ◌∙◌, subst, append-nil, append_assoc}
-use Rattle.uca_key_writer.specs.LevelBuffers.{HoldsLevels}
+use Rattle.uca_key_writer.specs.inside.LevelBuffers.{HoldsLevels}
 use Rattle.uca_order.proofs.KeyLength.{shown}
 use Rattle.uca_key_writer.proofs.pieces.push_elements.Goals as goal
 

@@ -3,7 +3,7 @@ use Rattle.std.specs.Prelude.{IfOk}
 use Rattle.std.specs.Bool.{OnTrue}
 use Rattle.uca_elements.specs.Collations.{collation_of}
 use Rattle.uca_plain.specs.Leaves.{points_elements}
-use Rattle.uca_key_writer.specs.LevelBuffers.{HoldsLevels}
+use Rattle.uca_key_writer.specs.inside.LevelBuffers.{HoldsLevels}
 use Rattle.uca_plain.proofs.LeafReading.{text_of_points}
 use Rattle.uca_key_writer.proofs.pieces.push_normal.Goals as goal
 

@@ -1,6 +1,6 @@
 use Rattle.std.proofs.Common.{ℕ, ◌+◌, ◌-◌, List, length, ◌++◌, take}
 use Rattle.uca_weights.specs.declared.Element.{Element}
-use Rattle.uca_key_writer.specs.LevelBuffers.{HasRoom, HoldsLevels, levels_of}
+use Rattle.uca_key_writer.specs.inside.LevelBuffers.{HasRoom, HoldsLevels, levels_of}
 use Rattle.uca_key_writer.proofs.slots.put_elements.Given as goal
 
 -- the elements so far were put

@@ -3,7 +3,7 @@ use Rattle.std.specs.List.{flat_map}
 use Rattle.uca_weights.specs.declared.Element.{Element}
 use Rattle.uca_elements.specs.Collations.{Collation}
 use Rattle.uca_plain.specs.Leaves.{AreLeaves, leaf_elements}
-use Rattle.uca_key_writer.specs.LevelBuffers.{HasRoom, HoldsLevels, levels_of}
+use Rattle.uca_key_writer.specs.inside.LevelBuffers.{HasRoom, HoldsLevels, levels_of}
 use Rattle.uca_plain.specs.PointCache.{AreTrueEntries}
 use Rattle.uca_key_writer.proofs.stretches.put_leaves.Given as goal
 

@@ -5,8 +5,8 @@ use Rattle.std.proofs.lemmas.List.{nil_from_length}
 use Rattle.std.proofs.lemmas.Str.{chars-nil}
 use Rattle.uca_text.specs.Texts.{nfd_text}
 use Rattle.uca_elements.specs.Collations.{elements_of}
-use Rattle.uca_key_writer.specs.LevelBuffers.{HoldsLevels, levels_of}
-use Rattle.uca_key_writer.specs.Pieces.{HasRead}
+use Rattle.uca_key_writer.specs.inside.LevelBuffers.{HoldsLevels, levels_of}
+use Rattle.uca_key_writer.specs.inside.Pieces.{HasRead}
 use Rattle.uca_key_writer.proofs.BufferLemmas.{less_room}
 use Rattle.uca_key_writer.proofs.StretchSteps.{stretch_begins, read_next, stretch_ends}
 use Rattle.uca_key_writer.proofs.stretches.put_stretch.Goals as goal

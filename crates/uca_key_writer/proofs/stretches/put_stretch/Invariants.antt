@@ -2,9 +2,9 @@ use Rattle.std.proofs.Common.{ℕ, ◌≤◌, ◌*◌, ◌-◌, List}
 use denote.Text.{Utf8}
 use denote.Shadow.{shadow}
 use Rattle.uca_elements.specs.Collations.{Collation}
-use Rattle.uca_key_writer.specs.LevelBuffers.{HasRoom, levels_of}
+use Rattle.uca_key_writer.specs.inside.LevelBuffers.{HasRoom, levels_of}
 use Rattle.uca_plain.specs.PointCache.{AreTrueEntries}
-use Rattle.uca_key_writer.specs.Stretches.{ReadsUpTo, ReadsSome}
+use Rattle.uca_key_writer.specs.inside.Stretches.{ReadsUpTo, ReadsSome}
 use Rattle.uca_key_writer.proofs.stretches.put_stretch.Given as goal
 
 -- the last code point waits

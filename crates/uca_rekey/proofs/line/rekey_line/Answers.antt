@@ -2,7 +2,7 @@
 use Rattle.std.proofs.Common.{◌∙◌}
 use Rattle.std.proofs.lemmas.List.{with_items_is}
 use Rattle.std.proofs.lemmas.Result.{err_from_is_err_and}
-use Rattle.uca_rekey.specs.RekeySoFar.{moved_by}
+use Rattle.uca_rekey.specs.inside.RekeySoFar.{moved_by}
 use Rattle.uca_rekey.proofs.LineKeys.{key_replaced}
 use Rattle.uca_rekey.proofs.line.rekey_line.Goals as goal
 

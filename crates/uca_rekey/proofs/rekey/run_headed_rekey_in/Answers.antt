@@ -8,7 +8,7 @@ use Rattle.uca_run_parts.specs.declared.faults.RunFault.{RunFault}
 use Rattle.uca_run_parts.specs.declared.faults.RunFault.TheVariants.{Memory}
 use Rattle.uca_run_parts.proofs.WholeRuns.{ended_before, ended_by_lines}
 use Rattle.uca_rekey.specs.HeadedRun.{RunsHeaded, WritesHeaded}
-use Rattle.uca_rekey.specs.RekeySoFar.{HasRekeyed, IsBegun, moved_by, mover_of}
+use Rattle.uca_rekey.specs.inside.RekeySoFar.{HasRekeyed, IsBegun, moved_by, mover_of}
 use Rattle.uca_rekey.proofs.Headers.{header_length, runs_headed}
 use Rattle.uca_rekey.proofs.Rekeying.{begun_so, by_same}
 use Rattle.uca_rekey.proofs.rekey.run_headed_rekey_in.Goals as goal

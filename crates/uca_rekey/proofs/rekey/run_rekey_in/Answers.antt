@@ -7,7 +7,7 @@ use Rattle.uca_run_parts.specs.declared.faults.RunFault.{RunFault}
 use Rattle.uca_run_parts.specs.declared.faults.RunFault.TheVariants.{Memory}
 use Rattle.uca_run_parts.proofs.WholeRuns.{ended_before, ended_by_lines}
 use Rattle.uca_rekey.specs.RekeyRun.{RunsRekey}
-use Rattle.uca_rekey.specs.RekeySoFar.{HasRekeyed, IsBegun, RekeysRest, moved_by, mover_of}
+use Rattle.uca_rekey.specs.inside.RekeySoFar.{HasRekeyed, IsBegun, RekeysRest, moved_by, mover_of}
 use Rattle.uca_rekey.proofs.Rekeying.{begun_so, by_same, runs_rekey, writes_rekeyed}
 use Rattle.uca_rekey.proofs.rekey.run_rekey_in.Goals as goal
 

@@ -1,6 +1,6 @@
 use Rattle.std.proofs.Common.{refl}
 use Rattle.uca_values.specs.Content.{properties_of}
-use Rattle.uca_rules.specs.Reading.{properties_in}
+use Rattle.uca_rules.specs.inside.Reading.{properties_in}
 use Rattle.uca_rules.proofs.Causes.{fault_of}
 use Rattle.uca_rules.proofs.reader.read_characters.Goals as goal
 

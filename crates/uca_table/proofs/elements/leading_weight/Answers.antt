@@ -2,7 +2,7 @@
 use Rattle.std.proofs.Common.{Some, drop, ap, sym, ◌∙◌}
 use Rattle.std.specs.Option.{option_map}
 use Rattle.uca_lines.specs.Numbers.{weight_of}
-use Rattle.uca_table.specs.ElementSteps.{weight_at}
+use Rattle.uca_table.specs.inside.ElementSteps.{weight_at}
 use Rattle.uca_table.proofs.elements.leading_weight.Goals as goal
 
 pub returns-in_err-weight : goal.returns-in_err-weight

@@ -5,7 +5,7 @@ use Rattle.uca_weights.specs.declared.maps.Run.{Run}
 use Rattle.uca_weights.specs.Runs.{AreProperRuns, MapContent}
 use Rattle.uca_certificates.specs.Certificates.{CertificateContent, IsCertificate}
 use Rattle.uca_plans.specs.Plans.{LevelPlans, runs_of}
-use Rattle.uca_tailor.specs.PlanParts.{certificate_by}
+use Rattle.uca_tailor.specs.inside.PlanParts.{certificate_by}
 use Rattle.uca_tailor.proofs.plan.certificate_by.Goals as goal
 
 -- The runs of a level.

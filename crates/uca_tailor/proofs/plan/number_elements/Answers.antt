@@ -6,7 +6,7 @@ use Rattle.uca_plans.specs.declared.drafts.DraftElement.{DraftElement}
 use Rattle.uca_plans.specs.declared.drafts.DraftWeight.TheVariants.{Base}
 use Rattle.uca_plans.specs.Drafts.{as_draft}
 use Rattle.uca_plans.specs.Plans.{numbered}
-use Rattle.uca_tailor.specs.drafts.RowDrafts.{row_elements}
+use Rattle.uca_tailor.specs.inside.RowDrafts.{row_elements}
 use Rattle.uca_tailor.proofs.Mapped.{mapped_more, mapped_all}
 use Rattle.uca_tailor.proofs.RowElements.{no_element}
 use Rattle.uca_tailor.proofs.plan.number_elements.Goals as goal

@@ -2,7 +2,7 @@ use Rattle.std.proofs.Common.{◌≡◌, List, ℕ, subst, rules}
 use Rattle.std.specs.Str.{chars}
 use Rattle.std.specs.declared.cmp.Ordering.TheVariants.{Equal}
 use Rattle.uca_comparison.specs.declared.walk.Walked.{Walked}
-use Rattle.uca_text_comparer.specs.Shared.{ComparesTexts}
+use Rattle.uca_text_comparer.specs.inside.Shared.{ComparesTexts}
 use Rattle.uca_text_comparer.proofs.PlainComparisons.{same_compared}
 use Rattle.uca_text_comparer.proofs.plain_comparison.compare_same.Goals as goal
 

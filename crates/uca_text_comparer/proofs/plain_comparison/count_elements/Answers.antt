@@ -3,7 +3,7 @@ use Rattle.std.specs.Str.{chars}
 use Rattle.std.proofs.lemmas.Iterator.{YieldsList-from_chars}
 use Rattle.std.proofs.lemmas.Iterator.Consumers.{YieldsList-end}
 use Rattle.std.proofs.lemmas.List.{map-id}
-use Rattle.uca_text_comparer.specs.Shared.{HasCount}
+use Rattle.uca_text_comparer.specs.inside.Shared.{HasCount}
 use Rattle.uca_text_comparer.proofs.SharedSteps.{count_begun, count_on}
 use Rattle.uca_text_comparer.proofs.plain_comparison.count_elements.Goals as goal
 

@@ -6,7 +6,7 @@ use Rattle.std.proofs.lemmas.Iterator.Consumers.{YieldsList-end}
 use Rattle.std.proofs.lemmas.List.{map-id}
 use Rattle.uca_elements.specs.Collations.{collation_of}
 use Rattle.uca_plain.specs.Plain.{IsPlain, elements_alone}
-use Rattle.uca_text_comparer.specs.Shared.{HasElements}
+use Rattle.uca_text_comparer.specs.inside.Shared.{HasElements}
 use Rattle.uca_text_comparer.proofs.SharedSteps.{plain_on, elements_on}
 use Rattle.uca_text_comparer.proofs.plain_comparison.read_plain.Goals as goal
 

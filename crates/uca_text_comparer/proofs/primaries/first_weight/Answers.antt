@@ -1,6 +1,6 @@
 use Rattle.std.proofs.Common.{Option, subst}
 use Rattle.uca_weights.specs.declared.Element.{Element}
-use Rattle.uca_text_comparer.specs.Shared.{IsFirst}
+use Rattle.uca_text_comparer.specs.inside.Shared.{IsFirst}
 use Rattle.uca_text_comparer.proofs.PrimarySteps.{some_weight, none_weight}
 use Rattle.uca_text_comparer.proofs.primaries.first_weight.Goals as goal
 

@@ -2,7 +2,7 @@ use Rattle.std.proofs.Common.{ℕ, List, length}
 use Rattle.std.specs.Str.{chars}
 use Rattle.uca_elements.specs.Collations.{Collation}
 use Rattle.uca_plain.specs.PointCache.{AreTrueEntries}
-use Rattle.uca_text_comparer.specs.Primaries.{GoTogether}
+use Rattle.uca_text_comparer.specs.inside.Primaries.{GoTogether}
 use Rattle.uca_text_comparer.proofs.primaries.skip_equal.Given as goal
 
 -- the texts go on together at level 1

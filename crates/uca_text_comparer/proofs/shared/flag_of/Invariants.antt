@@ -1,5 +1,5 @@
 use Rattle.std.proofs.Common.{◌≡◌, drop}
-use Rattle.uca_text_comparer.specs.Shared.{flag_after}
+use Rattle.uca_text_comparer.specs.inside.Shared.{flag_after}
 use Rattle.uca_text_comparer.proofs.shared.flag_of.Given as goal
 
 abbrev pub invariant-loop-element : goal.invariant-loop-element

@@ -4,7 +4,7 @@ use Rattle.std.proofs.Common.{length}
 use Rattle.std.specs.Str.{chars}
 use Rattle.uca_elements.specs.Collations.{collation_of}
 use Rattle.uca_plain.specs.PointCache.{AreTrueEntries}
-use Rattle.uca_text_comparer.specs.Shared.{IsRest}
+use Rattle.uca_text_comparer.specs.inside.Shared.{IsRest}
 use Rattle.uca_text_comparer.proofs.shared.skip_shared.Given as goal
 
 -- both texts begin with the same plain code points

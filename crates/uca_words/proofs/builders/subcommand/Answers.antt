@@ -7,7 +7,7 @@ use Rattle.clap.specs.declared.builder.command.Command.{Command}
 use Rattle.clap.specs.Words.{AddsArg, App, Rule, new_app, rule_of, with_rule}
 use Rattle.uca_words.specs.declared.subcommands.Argument.{Argument}
 use Rattle.uca_words.specs.Command.{StandsFor}
-use Rattle.uca_words.specs.Subcommands.{with_argument, with_arguments}
+use Rattle.uca_words.specs.inside.Subcommands.{with_argument, with_arguments}
 use Rattle.uca_words.proofs.builders.subcommand.Goals as goal
 
 -- a command with one more argument

@@ -7,7 +7,7 @@ use Rattle.clap.specs.declared.builder.command.Command.{Command}
 use Rattle.clap.specs.Words.{App}
 use Rattle.uca_words.specs.declared.subcommands.Subcommand.{Subcommand}
 use Rattle.uca_words.specs.Command.{StandsFor}
-use Rattle.uca_words.specs.Subcommands.{with_one, with_subcommands}
+use Rattle.uca_words.specs.inside.Subcommands.{with_one, with_subcommands}
 use Rattle.uca_words.proofs.builders.take_subcommands.Goals as goal
 
 -- the subcommand at i comes after those before it

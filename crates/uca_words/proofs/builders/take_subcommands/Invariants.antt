@@ -2,7 +2,7 @@
 use Rattle.std.proofs.Common.{IfOk, take}
 use Rattle.clap.specs.Words.{App}
 use Rattle.uca_words.specs.Command.{StandsFor}
-use Rattle.uca_words.specs.Subcommands.{with_subcommands}
+use Rattle.uca_words.specs.inside.Subcommands.{with_subcommands}
 use Rattle.uca_words.proofs.builders.take_subcommands.Given as goal
 
 abbrev pub invariant-loop-each : goal.invariant-loop-each

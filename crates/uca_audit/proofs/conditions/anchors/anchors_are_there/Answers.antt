@@ -4,7 +4,7 @@ use Rattle.uca_rules.specs.declared.relations.Relation.{Relation}
 use Rattle.uca_tailorings.specs.Tailorings.{HasAnchor, anchor_elements, tailored_reading}
 use Rattle.uca_audit.specs.Refusals.{IsFirstRelationWithout}
 use Rattle.uca_tailorings.specs.declared.conditions.Condition.TheVariants.{Anchor}
-use Rattle.uca_audit.specs.Views.{tailoring_in}
+use Rattle.uca_audit.specs.inside.Views.{tailoring_in}
 use Rattle.uca_audit.proofs.RelationSteps.{each_further, each_whole, first_here, read_alike, found_has, none_has}
 use Rattle.uca_audit.proofs.FirstRelations.{fails_at_relation}
 use Rattle.uca_audit.proofs.conditions.anchors.anchors_are_there.Goals as goal

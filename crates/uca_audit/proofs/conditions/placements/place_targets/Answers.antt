@@ -4,7 +4,7 @@ use Rattle.uca_rules.specs.declared.relations.Relation.{Relation}
 use Rattle.uca_tailorings.specs.Tailorings.{IsPlaced}
 use Rattle.uca_audit.specs.declared.conditions.placements.Placement.{Placement}
 use Rattle.uca_audit.specs.Refusals.{IsFirstRelationWithout}
-use Rattle.uca_audit.specs.Views.{IsPlacement, tailoring_in}
+use Rattle.uca_audit.specs.inside.Views.{IsPlacement, tailoring_in}
 use Rattle.uca_audit.proofs.RelationSteps.{each_further, each_whole, zip_further, zip_whole, first_here}
 use Rattle.uca_audit.proofs.TargetRows.{some_placed, none_placed}
 use Rattle.uca_audit.proofs.conditions.placements.place_targets.Goals as goal

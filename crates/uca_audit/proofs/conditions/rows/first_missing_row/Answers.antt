@@ -4,7 +4,7 @@ use Rattle.std.proofs.lemmas.Bool.{false≢true}
 use Rattle.uca_values.specs.Content.{Entry, TableContent}
 use Rattle.uca_elements.specs.Rows.{rows_of}
 use Rattle.uca_tailorings.specs.Tailorings.{IsPresentRow}
-use Rattle.uca_audit.specs.Views.{tailoring_in}
+use Rattle.uca_audit.specs.inside.Views.{tailoring_in}
 use Rattle.uca_images.proofs.FirstRows.{row_further, row_here, rows_whole}
 use Rattle.uca_audit.proofs.TargetRows.{key_alike}
 use Rattle.uca_audit.proofs.conditions.rows.first_missing_row.Goals as goal

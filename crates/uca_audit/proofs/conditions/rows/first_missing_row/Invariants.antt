@@ -1,7 +1,7 @@
 use Rattle.std.proofs.Common.{take}
 use Rattle.std.specs.List.{AllByRecursion}
 use Rattle.uca_tailorings.specs.Tailorings.{IsPresentRow}
-use Rattle.uca_audit.specs.Views.{tailoring_in}
+use Rattle.uca_audit.specs.inside.Views.{tailoring_in}
 use Rattle.uca_audit.proofs.conditions.rows.first_missing_row.Given as goal
 
 abbrev pub invariant-loop-at : goal.invariant-loop-at

@@ -5,7 +5,7 @@ use Rattle.uca_elements.specs.Rows.{rows_of}
 use Rattle.uca_rules.specs.declared.relations.Relation.{Relation}
 use Rattle.uca_tailorings.specs.Tailorings.{IsPresentTarget}
 use Rattle.uca_audit.specs.Refusals.{IsFirstRelationWithout}
-use Rattle.uca_audit.specs.Views.{tailoring_in}
+use Rattle.uca_audit.specs.inside.Views.{tailoring_in}
 use Rattle.uca_audit.proofs.RelationSteps.{each_further, each_whole, first_here}
 use Rattle.uca_audit.proofs.TargetRows.{key_alike}
 use Rattle.uca_audit.proofs.conditions.rows.first_missing_target.Goals as goal

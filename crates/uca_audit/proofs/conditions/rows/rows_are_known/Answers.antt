@@ -5,7 +5,7 @@ use Rattle.uca_tailorings.specs.Tailorings.{IsExpectedRow}
 use Rattle.uca_tailorings.specs.declared.conditions.Condition.TheVariants.{RowExtra}
 use Rattle.uca_check.specs.WellFormed.{IsFirstWithout}
 use Rattle.uca_audit.specs.declared.faults.Place.TheVariants.{TailoredRow}
-use Rattle.uca_audit.specs.Views.{tailoring_in}
+use Rattle.uca_audit.specs.inside.Views.{tailoring_in}
 use Rattle.uca_audit.proofs.FirstRelations.{fails_at_row}
 use Rattle.uca_images.proofs.FirstRows.{row_further, row_here, rows_whole}
 use Rattle.uca_audit.proofs.conditions.rows.rows_are_known.Goals as goal

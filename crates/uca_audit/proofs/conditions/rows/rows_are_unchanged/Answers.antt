@@ -5,7 +5,7 @@ use Rattle.uca_tailorings.specs.Tailorings.{IsUnchangedRow}
 use Rattle.uca_tailorings.specs.declared.conditions.Condition.TheVariants.{RowChanged}
 use Rattle.uca_check.specs.WellFormed.{IsFirstWithout}
 use Rattle.uca_audit.specs.declared.faults.Place.TheVariants.{BaseRow}
-use Rattle.uca_audit.specs.Views.{tailoring_in}
+use Rattle.uca_audit.specs.inside.Views.{tailoring_in}
 use Rattle.uca_audit.proofs.FirstRelations.{fails_at_row}
 use Rattle.uca_images.proofs.FirstRows.{row_further, row_here, rows_whole}
 use Rattle.uca_audit.proofs.conditions.rows.rows_are_unchanged.Goals as goal

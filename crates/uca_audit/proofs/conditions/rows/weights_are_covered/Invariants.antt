@@ -2,7 +2,7 @@
 use Rattle.std.proofs.Common.{take}
 use Rattle.std.specs.List.{AllByRecursion}
 use Rattle.uca_tailorings.specs.Tailorings.{IsCoveredRow}
-use Rattle.uca_audit.specs.Views.{tailoring_in}
+use Rattle.uca_audit.specs.inside.Views.{tailoring_in}
 use Rattle.uca_audit.proofs.conditions.rows.weights_are_covered.Given as goal
 
 abbrev pub invariant-loop-at : goal.invariant-loop-at

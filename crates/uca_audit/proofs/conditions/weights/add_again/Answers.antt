@@ -2,7 +2,7 @@
 use Rattle.std.proofs.Common.{sym, subst}
 use Rattle.std.proofs.lemmas.Bool.{false≢true}
 use Rattle.std.proofs.Common.{◌++◌, ◌∷◌, [], ◌∙◌}
-use Rattle.uca_audit.specs.NewWeights.{HoldsNew}
+use Rattle.uca_audit.specs.inside.NewWeights.{HoldsNew}
 use Rattle.uca_audit.proofs.Fresh.{shared_more, shared_same, seen_more}
 use Rattle.uca_audit.proofs.conditions.weights.add_again.Goals as goal
 use Rattle.uca_audit.proofs.conditions.weights.add_again.Goals.{then-contains, else-contains}

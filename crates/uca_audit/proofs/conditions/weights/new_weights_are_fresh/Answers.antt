@@ -2,7 +2,7 @@
 use Rattle.std.proofs.Common.{add-one, arith, inl}
 use Rattle.uca_tailorings.specs.Tailorings.{IsFresh}
 use Rattle.uca_tailorings.specs.declared.conditions.Condition.TheVariants.{NotFresh}
-use Rattle.uca_audit.specs.Views.{tailoring_in, IsPlacement}
+use Rattle.uca_audit.specs.inside.Views.{tailoring_in, IsPlacement}
 use Rattle.uca_audit.proofs.Passes.{below_none, below_whole, length_in_step}
 use Rattle.uca_audit.proofs.Fresh.{fresh_more, fresh_fails}
 use Rattle.uca_audit.proofs.FirstRelations.{fails_at_relation}

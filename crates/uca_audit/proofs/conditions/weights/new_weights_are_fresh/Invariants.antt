@@ -1,6 +1,6 @@
 -- The relations so far are fresh.
 use Rattle.uca_tailorings.specs.Tailorings.{IsFresh}
-use Rattle.uca_audit.specs.Views.{tailoring_in}
+use Rattle.uca_audit.specs.inside.Views.{tailoring_in}
 use Rattle.uca_audit.proofs.Passes.{AllBelow}
 use Rattle.uca_audit.proofs.conditions.weights.new_weights_are_fresh.Given as goal
 

@@ -1,7 +1,7 @@
 -- The sets of all placements are those of the last one.
 use Rattle.std.proofs.Common.{subst, sym, take, arith}
 use Rattle.std.proofs.lemmas.List.{take_more, take_all}
-use Rattle.uca_audit.specs.NewWeights.{HoldsNew}
+use Rattle.uca_audit.specs.inside.NewWeights.{HoldsNew}
 use Rattle.uca_audit.proofs.conditions.weights.shared_weights.Goals as goal
 
 pub loop-placement-preserved : goal.loop-placement-preserved

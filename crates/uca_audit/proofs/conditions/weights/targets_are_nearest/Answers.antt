@@ -2,7 +2,7 @@
 use Rattle.std.proofs.Common.{add-one, arith, inl, ⊎_elim}
 use Rattle.uca_tailorings.specs.Tailorings.{IsNearest}
 use Rattle.uca_tailorings.specs.declared.conditions.Condition.TheVariants.{NotNearest}
-use Rattle.uca_audit.specs.Views.{tailoring_in, IsPlacement}
+use Rattle.uca_audit.specs.inside.Views.{tailoring_in, IsPlacement}
 use Rattle.uca_audit.proofs.Passes.{below_none, below_whole, length_in_step}
 use Rattle.uca_audit.proofs.Nearest.{nearest_more, nearest_fails, known_next}
 use Rattle.uca_audit.proofs.FirstRelations.{fails_at_relation}

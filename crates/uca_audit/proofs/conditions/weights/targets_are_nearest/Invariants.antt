@@ -1,8 +1,8 @@
 -- The relations so far are nearest, and the set has their new weights.
 use Rattle.std.proofs.Common.{take}
 use Rattle.uca_tailorings.specs.Tailorings.{IsNearest}
-use Rattle.uca_audit.specs.Views.{tailoring_in}
-use Rattle.uca_audit.specs.NewWeights.{HoldsKnownAndNew}
+use Rattle.uca_audit.specs.inside.Views.{tailoring_in}
+use Rattle.uca_audit.specs.inside.NewWeights.{HoldsKnownAndNew}
 use Rattle.uca_audit.proofs.Passes.{AllBelow}
 use Rattle.uca_audit.proofs.conditions.weights.targets_are_nearest.Given as goal
 

@@ -2,7 +2,7 @@
 use Rattle.std.proofs.Common.{map, subst, ◌∙◌}
 use Rattle.std.proofs.lemmas.List.{take_all}
 use Rattle.std.proofs.lemmas.Map.Lookups.{exact_bytes}
-use Rattle.uca_audit.specs.Chaining.{AreTargetsOf}
+use Rattle.uca_audit.specs.inside.Chaining.{AreTargetsOf}
 use Rattle.uca_audit.proofs.TargetSets.{targets_more}
 use Rattle.uca_audit.proofs.targets.Targets.new.Goals as goal
 

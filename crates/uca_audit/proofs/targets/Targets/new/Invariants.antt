@@ -1,5 +1,5 @@
 use Rattle.std.proofs.Common.{take, map}
-use Rattle.uca_audit.specs.Chaining.{AreTargetsOf}
+use Rattle.uca_audit.specs.inside.Chaining.{AreTargetsOf}
 use Rattle.uca_audit.proofs.targets.Targets.new.Given as goal
 
 abbrev pub invariant-loop-relation : goal.invariant-loop-relation

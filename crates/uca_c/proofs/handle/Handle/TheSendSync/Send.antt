@@ -14,7 +14,7 @@ use Rattle.std_heap.proofs.Global.TheSendSync as allocator
 use Rattle.uca_owned.specs.contracts.owned.OwnedCollator as Home
 use Rattle.uca_owned.proofs.owned.OwnedCollator.TheSendSync.{the_send as home}
 use Rattle.uca_c.specs.contracts.handle.Handle.{the_row, the_type}
-use Rattle.uca_c.specs.Handles.{handle_owns}
+use Rattle.uca_c.specs.inside.Handles.{handle_owns}
 
 owned : (full : Bool) (alloc : Global) (p : Ptr) (x : Home.the_row.Denot) → Keyless (handle_owns full alloc p x)
 owned true alloc p x = (lies Home.the_row home p x, heap.frees.frees alloc (raw (lone Home.the_row.mir)) p)

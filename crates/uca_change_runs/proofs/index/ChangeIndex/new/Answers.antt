@@ -1,6 +1,6 @@
 use Rattle.std.proofs.Common.{sym, subst, ◌∙◌}
 use Rattle.std.proofs.lemmas.List.{with_items_is}
-use Rattle.uca_change_runs.specs.Index.{AreMarked}
+use Rattle.uca_change_runs.specs.inside.Index.{AreMarked}
 use Rattle.uca_change_runs.proofs.index.ChangeIndex.new.Goals as goal
 
 pub invariant_of-result : goal.invariant_of-result

@@ -1,9 +1,9 @@
 -- One more code point that affects nothing, and that all affect nothing.
 use Rattle.std.proofs.Common.{◌≡◌, false, List, ℕ, ap, sym, ◌∙◌, subst}
-use Rattle.uca_table.specs.Keeping.{has_bit}
+use Rattle.uca_table.specs.inside.Keeping.{has_bit}
 use Rattle.uca_change_files.specs.Changes.{ChangeContent, IsChangeList}
 use Rattle.uca_change_runs.specs.AffectedRun.{is_affected_by}
-use Rattle.uca_change_runs.specs.Index.{AreMarked}
+use Rattle.uca_change_runs.specs.inside.Index.{AreMarked}
 use Rattle.uca_change_runs.proofs.FreeTexts.{all_free, unmarked_free}
 use Rattle.uca_change_runs.proofs.index.ChangeIndexAffects.affects.Goals as goal
 use Rattle.uca_change_runs.proofs.index.ChangeIndexAffects.affects.Goals.{else-is_marked-via-then-is_marked+else-is_hit, else-is_marked-via-else-is_marked}

@@ -2,7 +2,7 @@ use Rattle.std.proofs.Common.{sym, ap, length, arith, ◌∙◌}
 use Rattle.std.proofs.lemmas.List.{nil_from_length}
 use Rattle.uca_elements.specs.Collations.{collation_of}
 use Rattle.uca_elements.specs.Places.{left_of}
-use Rattle.uca_elements.specs.Rest.{rest_of}
+use Rattle.uca_elements.specs.inside.Rest.{rest_of}
 use Rattle.uca_elements.proofs.Portions.{row_comes, pair_comes}
 use Rattle.uca_elements.proofs.elements.ElementsIterator.next.Goals as goal
 

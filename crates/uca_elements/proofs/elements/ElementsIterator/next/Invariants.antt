@@ -1,7 +1,7 @@
 use Rattle.std.proofs.Common.{◌≡◌, ◌-◌, None, length}
 use Rattle.uca_elements.specs.Collations.{collation_of}
 use Rattle.uca_elements.specs.Places.{IsPlace, left_of}
-use Rattle.uca_elements.specs.Rest.{rest_of}
+use Rattle.uca_elements.specs.inside.Rest.{rest_of}
 use Rattle.uca_elements.proofs.elements.ElementsIterator.next.Given as goal
 
 abbrev pub invariant-loop-first : goal.invariant-loop-first

@@ -2,7 +2,7 @@
 use Rattle.std.proofs.Common.{◌≡◌, ◌+◌, ◌-◌, ◌<◌, ◌≤◌, length, arith, subst}
 use Rattle.std.proofs.lemmas.Result.{err_from_is_err_and}
 use Rattle.uca_lines.specs.Buffered.{count_of}
-use Rattle.uca_key_runs.specs.KeyForms.{printed_as}
+use Rattle.uca_key_runs.specs.inside.KeyForms.{printed_as}
 use Rattle.uca_key_runs.proofs.KeyLines.{printed_is_short}
 use Rattle.uca_run_parts.proofs.Finishing.{piece_fails}
 use Rattle.uca_run_parts.proofs.Printing.{small_enough, still_small}

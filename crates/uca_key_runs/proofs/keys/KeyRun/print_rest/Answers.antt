@@ -9,7 +9,7 @@ use Rattle.uca_lines.specs.OutputBuffer.{IsBuffered}
 use Rattle.uca_run_parts.specs.Texts.{LinesState}
 use Rattle.uca_order.specs.Keyings.{Keying, keying_by}
 use Rattle.uca_key_runs.specs.Keys.{keying_at, keying_of_writer}
-use Rattle.uca_key_runs.specs.KeyForms.{MakesKeys, line_as}
+use Rattle.uca_key_runs.specs.inside.KeyForms.{MakesKeys, line_as}
 use Rattle.uca_run_parts.proofs.Printing.{line_written, not_written, no_write}
 use Rattle.uca_run_parts.proofs.Running.{as_before}
 use Rattle.uca_key_runs.proofs.keys.KeyRun.print_rest.Goals as goal

@@ -2,7 +2,7 @@
 use Rattle.std.proofs.Common.{◌≡◌, ℕ, ◌+◌, ◌-◌, ◌*◌, ◌^◌, ◌≤◌, List, Option, length}
 use Rattle.uca_values.specs.Content.{properties_of}
 use Rattle.uca_key_runs.specs.Keys.{keying_at, keying_of_writer}
-use Rattle.uca_key_runs.specs.KeyForms.{MakesKeys, line_as}
+use Rattle.uca_key_runs.specs.inside.KeyForms.{MakesKeys, line_as}
 use Rattle.uca_run_parts.specs.EachLineSoFar.{HasWritten}
 use Rattle.uca_key_runs.proofs.keys.KeyRun.print_rest.Given as goal
 

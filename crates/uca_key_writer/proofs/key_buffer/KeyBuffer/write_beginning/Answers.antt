@@ -3,8 +3,8 @@ use Rattle.std.specs.Bool.{OnTrue}
 use Rattle.std.specs.Str.{chars}
 use Rattle.uca_elements.specs.Collations.{collation_of}
 use Rattle.uca_key_writer.specs.Buffers.{KeyState}
-use Rattle.uca_key_writer.specs.LevelBuffers.{LevelState}
-use Rattle.uca_key_writer.specs.Beginnings.{HasBegun}
+use Rattle.uca_key_writer.specs.inside.LevelBuffers.{LevelState}
+use Rattle.uca_key_writer.specs.inside.Beginnings.{HasBegun}
 use Rattle.uca_plain.proofs.Results.{no_result}
 use Rattle.uca_key_writer.proofs.PieceSteps.{accepted_if_read}
 use Rattle.uca_key_writer.proofs.BeginningSteps.{accepted_if_short, beginning_if_begun, whole_if_begun}

@@ -1,6 +1,6 @@
 use Rattle.std.proofs.Common.{◌+◌, ◌++◌, length, ap, sym, subst, ◌∙◌, arith}
 use Rattle.std.proofs.lemmas.List.{with_items_is}
-use Rattle.uca_key_writer.specs.LevelBuffers.{HoldsLevels, held}
+use Rattle.uca_key_writer.specs.inside.LevelBuffers.{HoldsLevels, held}
 use Rattle.uca_plain.proofs.Results.{no_result}
 use Rattle.uca_key_writer.proofs.BufferLemmas.{less_room, room_in, same_levels}
 use Rattle.uca_key_writer.proofs.level_buffers.LevelBuffers.push_all_by.Goals as goal

@@ -2,7 +2,7 @@ use Rattle.std.proofs.Common.{◌++◌, ap, sym, subst, ◌∙◌, arith}
 use Rattle.std.proofs.lemmas.List.{with_items_is}
 use Rattle.std.specs.Bool.{OnTrue}
 use Rattle.uca_plain.specs.Leaves.{points_elements}
-use Rattle.uca_key_writer.specs.LevelBuffers.{HoldsLevels, held}
+use Rattle.uca_key_writer.specs.inside.LevelBuffers.{HoldsLevels, held}
 use Rattle.uca_key_writer.proofs.BufferLemmas.{same_levels}
 use Rattle.uca_key_writer.proofs.level_buffers.LevelBuffers.push_leaves_by.Goals as goal
 

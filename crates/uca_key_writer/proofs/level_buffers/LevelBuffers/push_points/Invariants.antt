@@ -1,6 +1,6 @@
 use Rattle.std.proofs.Common.{◌≡◌, ◌∷◌, ◌++◌, take}
 use Rattle.uca_order.specs.Depths.{points_bytes}
-use Rattle.uca_key_writer.specs.LevelBuffers.{HasRoom}
+use Rattle.uca_key_writer.specs.inside.LevelBuffers.{HasRoom}
 use Rattle.uca_key_writer.proofs.level_buffers.LevelBuffers.push_points.Given as goal
 
 -- the points so far follow the key, and the levels stay

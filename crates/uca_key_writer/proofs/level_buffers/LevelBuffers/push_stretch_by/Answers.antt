@@ -1,7 +1,7 @@
 use Rattle.std.proofs.Common.{ap, sym, subst, ◌∙◌, arith}
 use Rattle.std.proofs.lemmas.List.{with_items_is}
-use Rattle.uca_key_writer.specs.LevelBuffers.{held}
-use Rattle.uca_key_writer.specs.Stretches.{ReadsUpTo, StretchReads}
+use Rattle.uca_key_writer.specs.inside.LevelBuffers.{held}
+use Rattle.uca_key_writer.specs.inside.Stretches.{ReadsUpTo, StretchReads}
 use Rattle.uca_plain.proofs.Results.{no_result}
 use Rattle.uca_key_writer.proofs.BufferLemmas.{room_in, same_levels}
 use Rattle.uca_key_writer.proofs.level_buffers.LevelBuffers.push_stretch_by.Goals as goal

@@ -1,4 +1,4 @@
-use Rattle.uca_key_writer.specs.LevelBuffers.{HoldsLevels}
+use Rattle.uca_key_writer.specs.inside.LevelBuffers.{HoldsLevels}
 use Rattle.uca_key_writer.proofs.level_buffers.LevelBuffers.write.Given as goal
 
 abbrev pub invariant-loop-element : goal.invariant-loop-element

@@ -3,7 +3,7 @@ use Rattle.std.specs.Str.{chars}
 use Rattle.std.specs.String.{string_bytes}
 use Rattle.uca_text.specs.Texts.{nfd_text}
 use Rattle.uca_elements.specs.Collations.{collation_of, elements_of}
-use Rattle.uca_key_writer.specs.Pieces.{points_by, IsTrueAlone}
+use Rattle.uca_key_writer.specs.inside.Pieces.{points_by, IsTrueAlone}
 use Rattle.uca_plain.proofs.PlainTexts.{alone_no_long_run}
 use Rattle.uca_key_writer.proofs.PieceSteps.{on_any, end_piece}
 use Rattle.uca_key_writer.proofs.StretchSteps.{no_chars, piece_is_empty}

@@ -1,7 +1,7 @@
 use Rattle.std.proofs.Common.{[], ◌∷◌, ◌++◌, subst}
 use Rattle.std.specs.Bool.{OnTrue}
 use Rattle.uca_elements.specs.Collations.{collation_of}
-use Rattle.uca_key_writer.specs.Pieces.{ReadsTo}
+use Rattle.uca_key_writer.specs.inside.Pieces.{ReadsTo}
 use Rattle.uca_plain.proofs.Results.{no_result}
 use Rattle.uca_key_writer.proofs.PieceSteps.{next_piece, longer_piece}
 use Rattle.uca_key_writer.proofs.pieces.Piece.go_on.Goals as goal

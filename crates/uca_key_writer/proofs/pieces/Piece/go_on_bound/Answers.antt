@@ -2,7 +2,7 @@ use Rattle.std.proofs.Common.{[], ◌∷◌, ◌++◌, ap, sym, ◌∙◌, rules
 use Rattle.std.specs.Str.{chars}
 use Rattle.std.specs.String.{string_bytes}
 use Rattle.std.proofs.lemmas.Str.{IsUtf8-string_bytes}
-use Rattle.uca_key_writer.specs.Pieces.{points_by}
+use Rattle.uca_key_writer.specs.inside.Pieces.{points_by}
 use Rattle.uca_key_writer.proofs.PieceSteps.{chars_extended, longer_piece}
 use Rattle.uca_key_writer.proofs.pieces.Piece.go_on_bound.Goals as goal
 

@@ -1,5 +1,5 @@
 use Rattle.std.proofs.Common.{subst}
-use Rattle.uca_key_writer.specs.Stretches.{StretchReads}
+use Rattle.uca_key_writer.specs.inside.Stretches.{StretchReads}
 use Rattle.uca_key_writer.proofs.StretchSteps.{piece_stops}
 use Rattle.uca_key_writer.proofs.pieces.Piece.go_on_plain.Goals as goal
 

@@ -3,7 +3,7 @@ use Rattle.std.specs.Char.{encode_utf8}
 use Rattle.std.specs.Str.{chars}
 use Rattle.std.specs.String.{string_bytes}
 use Rattle.std.proofs.lemmas.Str.{IsUtf8-string_bytes}
-use Rattle.uca_key_writer.specs.Pieces.{points_by}
+use Rattle.uca_key_writer.specs.inside.Pieces.{points_by}
 use Rattle.uca_plain.proofs.PlainEntries.{chars_alone}
 use Rattle.uca_key_writer.proofs.pieces.Piece.write_out.Goals as goal
 

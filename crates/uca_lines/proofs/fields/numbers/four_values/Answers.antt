@@ -1,5 +1,5 @@
 use Rattle.std.proofs.Common.{arith}
-use Rattle.uca_lines.specs.DigitValues.{number_or_more}
+use Rattle.uca_lines.specs.inside.DigitValues.{number_or_more}
 use Rattle.uca_lines.proofs.fields.numbers.four_values.Goals as goal
 
 pub returns-clause-number : goal.returns-clause-number

@@ -4,7 +4,7 @@ use Rattle.std.specs.List.{slice_range}
 use Rattle.std.proofs.KnownBytes.{Keeps-refl}
 use Rattle.std.proofs.lemmas.List.{take_all, with_items_is}
 use borrow.Rule.Slice.PartMut.{put_mid, same_len_mid}
-use Rattle.uca_rekey.specs.LinesInPlace.{LinesState}
+use Rattle.uca_rekey.specs.inside.LinesInPlace.{LinesState}
 use Rattle.uca_rekey.proofs.Places.{begins_so, filled, front_range, nothing_filled, range_filled, range_kept, some_more}
 use Rattle.uca_rekey.proofs.lines.KeyLines.fill.Goals as goal
 

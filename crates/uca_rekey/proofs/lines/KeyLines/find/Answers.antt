@@ -4,7 +4,7 @@ use Rattle.std.proofs.Math.Bool.{or-false}
 use Rattle.std.proofs.KnownBytes.{Keeps-refl, Keeps-trans}
 use Rattle.std.proofs.lemmas.List.{length-take-le}
 use Rattle.uca_lines.specs.Lines.{is_lf, Lacks}
-use Rattle.uca_rekey.specs.LinesInPlace.{BeginsLine, left_of}
+use Rattle.uca_rekey.specs.inside.LinesInPlace.{BeginsLine, left_of}
 use Rattle.uca_rekey.proofs.Places.{line_taken, long_line, not_filled, rest_taken}
 use Rattle.uca_rekey.proofs.lines.KeyLines.find.Goals as goal
 

@@ -2,7 +2,7 @@
 use Rattle.std.proofs.Common.{◌≡◌, ◌-◌, ◌≤◌, false, length, take}
 use Rattle.std.specs.Io.KnownBytes.{Keeps}
 use Rattle.uca_lines.specs.Lines.{is_lf, Lacks}
-use Rattle.uca_rekey.specs.LinesInPlace.{left_of}
+use Rattle.uca_rekey.specs.inside.LinesInPlace.{left_of}
 use Rattle.uca_rekey.proofs.lines.KeyLines.find.Given as goal
 
 abbrev pub invariant-loop-len : goal.invariant-loop-len

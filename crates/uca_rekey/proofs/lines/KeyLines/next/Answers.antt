@@ -1,6 +1,6 @@
 -- The lines after the one that was found, and why none was.
 use Rattle.std.proofs.Common.{sym, ap, ◌∙◌}
-use Rattle.uca_rekey.specs.LinesInPlace.{LinesState, left_of}
+use Rattle.uca_rekey.specs.inside.LinesInPlace.{LinesState, left_of}
 use Rattle.uca_rekey.proofs.LinesRead.{line_read, last_read, not_read}
 use Rattle.uca_rekey.proofs.lines.KeyLines.next.Goals as goal
 

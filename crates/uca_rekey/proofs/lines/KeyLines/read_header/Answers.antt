@@ -2,7 +2,7 @@
 use Rattle.std.proofs.Common.{◌≡◌, ◌≢◌, ℕ, [], ◌∷◌, List, Some, sym, subst, ◌∙◌}
 use Rattle.std.proofs.lemmas.Slice.Eq.{slice_eq-Decides}
 use Rattle.std.proofs.lemmas.Bool.Decides.{Decides-eqb}
-use Rattle.uca_rekey.specs.LinesInPlace.{HasRead}
+use Rattle.uca_rekey.specs.inside.LinesInPlace.{HasRead}
 use Rattle.uca_rekey.proofs.Headers.{header_unread, no_header, other_header}
 use Rattle.uca_rekey.proofs.lines.KeyLines.read_header.Goals as goal
 

@@ -3,10 +3,10 @@ use Rattle.std.proofs.Common.{◌≡◌, ◌-◌, List, ℕ, IfErr, OnOk, Some, 
 use Rattle.std.specs.List.{slice_range}
 use Rattle.std.proofs.lemmas.List.{with_items_is}
 use borrow.Rule.Slice.PartMut.{put_mid, same_len_mid}
-use Rattle.uca_rekey.specs.LinesInPlace.{LinesState}
+use Rattle.uca_rekey.specs.inside.LinesInPlace.{LinesState}
 use Rattle.uca_rekey.specs.RekeyedLines.{rekeyed_by}
 use Rattle.uca_rekey.specs.RekeyRun.{IsLineCause}
-use Rattle.uca_rekey.specs.RekeySoFar.{moved_by}
+use Rattle.uca_rekey.specs.inside.RekeySoFar.{moved_by}
 use Rattle.uca_rekey.proofs.Places.{range_after, range_written}
 use Rattle.uca_rekey.proofs.lines.KeyLines.rekey.Goals as goal
 

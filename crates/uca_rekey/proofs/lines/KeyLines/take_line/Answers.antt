@@ -1,7 +1,7 @@
 -- What waits after the line and its LF.
 use Rattle.std.proofs.Common.{◌≡◌, ◌+◌, ◌-◌, drop, ap, ◌∙◌, arith, length, length-take}
 use Rattle.std.specs.List.{slice_range}
-use Rattle.uca_rekey.specs.LinesInPlace.{LinesState}
+use Rattle.uca_rekey.specs.inside.LinesInPlace.{LinesState}
 use Rattle.uca_rekey.proofs.Places.{rest_of_range}
 use Rattle.uca_rekey.proofs.lines.KeyLines.take_line.Goals as goal
 

@@ -1,7 +1,7 @@
 -- The line that was read, and why none was.
 use Rattle.std.proofs.Common.{[], ◌≡◌, suc, ◌+◌, ◌||◌, length, sym, ap, subst, ◌∙◌, arith, IfSome}
 use Rattle.uca_rekey.specs.RekeyRun.{IsLineFault}
-use Rattle.uca_rekey.specs.RekeySoFar.{moved_by}
+use Rattle.uca_rekey.specs.inside.RekeySoFar.{moved_by}
 use Rattle.uca_rekey.proofs.Rekeying.{cause_of_line, line_fault, read_stays}
 use Rattle.uca_rekey.proofs.rekey.RekeyRun.next.Goals as goal
 

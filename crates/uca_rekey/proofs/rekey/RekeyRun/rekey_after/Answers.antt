@@ -1,6 +1,6 @@
 -- The new header was written, and the lines after it; or why it was not.
 use Rattle.std.proofs.Common.{[], ◌∷◌}
-use Rattle.uca_rekey.specs.RekeySoFar.{moved_by}
+use Rattle.uca_rekey.specs.inside.RekeySoFar.{moved_by}
 use Rattle.uca_rekey.proofs.Headers.{header_not_written, header_written, line_not_before}
 use Rattle.uca_rekey.proofs.rekey.RekeyRun.rekey_after.Goals as goal
 

@@ -2,7 +2,7 @@
 use Rattle.std.proofs.Common.{◌||◌, [], ◌∷◌, ap, sym, ◌∙◌}
 use Rattle.std.proofs.Math.Bool.{or-false}
 use Rattle.uca_run_parts.specs.Runs.{is_input_read}
-use Rattle.uca_rekey.specs.RekeySoFar.{HasReadHeader, moved_by}
+use Rattle.uca_rekey.specs.inside.RekeySoFar.{HasReadHeader, moved_by}
 use Rattle.uca_rekey.proofs.Headers.{not_headed, writes_headed}
 use Rattle.uca_rekey.proofs.rekey.RekeyRun.rekey_headed.Goals as goal
 

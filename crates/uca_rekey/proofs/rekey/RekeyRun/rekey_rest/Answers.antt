@@ -4,7 +4,7 @@ use Rattle.std.proofs.Common.{[], ◌∷◌, ◌++◌, ℕ, Bool, List, true, fa
 use Rattle.std.proofs.Math.Bool.{or-false}
 use Rattle.std.proofs.lemmas.Result.{err_from_is_err_and}
 use Rattle.uca_images.specs.Moving.{MoverState}
-use Rattle.uca_rekey.specs.RekeySoFar.{HasRekeyed, RekeysLine, RekeysRest, WritesLine, WrittenState, moved_by}
+use Rattle.uca_rekey.specs.inside.RekeySoFar.{HasRekeyed, RekeysLine, RekeysRest, WritesLine, WrittenState, moved_by}
 use Rattle.uca_rekey.proofs.Rekeying.{all_rekeyed, line_not_written, line_rekeyed, none_rekeyed, not_before}
 use Rattle.uca_rekey.proofs.rekey.RekeyRun.rekey_rest.Goals as goal
 

@@ -1,6 +1,6 @@
 -- The lines so far were rekeyed and written, and neither reader nor writer has failed since.
 use Rattle.std.proofs.Common.{◌≡◌, ℕ, ◌-◌, ◌^◌, List, Option}
-use Rattle.uca_rekey.specs.RekeySoFar.{HasRekeyed, moved_by}
+use Rattle.uca_rekey.specs.inside.RekeySoFar.{HasRekeyed, moved_by}
 use Rattle.uca_rekey.proofs.rekey.RekeyRun.rekey_rest.Given as goal
 
 abbrev pub invariant-loop-self : goal.invariant-loop-self

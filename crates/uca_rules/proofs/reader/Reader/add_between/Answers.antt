@@ -4,7 +4,7 @@ use Rattle.std.proofs.lemmas.Result.{err_from_is_err_and}
 use Rattle.uca_rules.specs.declared.characters.Character.{Character}
 use Rattle.uca_rules.specs.declared.reader.Reader.{Reader}
 use Rattle.uca_rules.specs.Statements.{Starred, placed_at}
-use Rattle.uca_rules.specs.Reading.{Adds, HasTargetFault, properties_in, state_of}
+use Rattle.uca_rules.specs.inside.Reading.{Adds, HasTargetFault, properties_in, state_of}
 use Rattle.uca_rules.proofs.StarredLemmas.{adds_further, adds_none, fault_within, inside_range, placed_around, placed_more, ready_after}
 use Rattle.uca_rules.proofs.reader.Reader.add_between.Goals as goal
 use Rattle.uca_rules.proofs.reader.Reader.add_between.Goals.{in-Some+in_ok-add_character, in_default}

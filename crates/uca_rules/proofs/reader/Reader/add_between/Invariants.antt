@@ -1,7 +1,7 @@
 use Rattle.std.proofs.Common.{◌+◌, ◌-◌}
 use Rattle.std.specs.List.{range_with_len}
 use Rattle.uca_rules.specs.Statements.{Starred, placed_at}
-use Rattle.uca_rules.specs.Reading.{Adds}
+use Rattle.uca_rules.specs.inside.Reading.{Adds}
 use Rattle.uca_rules.proofs.reader.Reader.add_between.Given as goal
 
 abbrev pub invariant-loop-point : goal.invariant-loop-point

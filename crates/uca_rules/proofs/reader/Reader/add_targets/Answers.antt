@@ -7,7 +7,7 @@ use Rattle.uca_rules.specs.declared.reader.Reader.{Reader}
 use Rattle.uca_rules.specs.Pieces.{Symbol, Literal, Hyphen}
 use Rattle.uca_rules.specs.Statements.{Starred, between, targets_of}
 use Rattle.uca_rules.specs.Relations.{IsRuleText}
-use Rattle.uca_rules.specs.Reading.{Adds, IsReady}
+use Rattle.uca_rules.specs.inside.Reading.{Adds, IsReady}
 use Rattle.uca_rules.proofs.StarredLemmas.{Before, adds_character, adds_none, fault_in_range, fault_of_character, further_hyphen, further_range, no_literal, none_before, range_at, range_before}
 use Rattle.uca_rules.proofs.reader.Reader.add_targets.Goals as goal
 use Rattle.uca_rules.proofs.reader.Reader.add_targets.Goals.{in-Some+in_ok-add_between, in_default-open_range}

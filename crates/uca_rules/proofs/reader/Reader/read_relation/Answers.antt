@@ -2,9 +2,9 @@ use Rattle.std.proofs.Common.{◌≡◌, ◌<◌, ◌≤◌, ℕ, true, false, l
 use Rattle.std.proofs.lemmas.Result.{err_from_is_err_and, IfErr-weaker, IfOk-weaker}
 use Rattle.uca_rules.specs.declared.signs.Preceding.TheVariants as lasts
 use Rattle.uca_rules.specs.Statements.{IsTargetDue}
-use Rattle.uca_rules.specs.Reading
+use Rattle.uca_rules.specs.inside.Reading
 use Rattle.uca_rules.specs.Faults.{StatementCause}
-use Rattle.uca_rules.specs.Reading.{properties_in, state_of}
+use Rattle.uca_rules.specs.inside.Reading.{properties_in, state_of}
 use Rattle.uca_rules.proofs.StatementSteps.{plain_next_fault, starred_next_fault, plain_goes_on, starred_goes_on, target_due, with_last}
 use Rattle.uca_rules.proofs.reader.Reader.read_relation.Goals as goal
 

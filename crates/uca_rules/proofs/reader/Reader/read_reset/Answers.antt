@@ -3,8 +3,8 @@ use Rattle.std.proofs.Common.{length, subst, sym, inr}
 use Rattle.std.proofs.lemmas.Result.{err_from_is_err_and}
 use Rattle.uca_rules.specs.declared.faults.RuleFaultKind.{RuleFaultKind}
 use Rattle.uca_rules.specs.Faults.{StatementCause}
-use Rattle.uca_rules.specs.Reading
-use Rattle.uca_rules.specs.Reading.{properties_in, state_of}
+use Rattle.uca_rules.specs.inside.Reading
+use Rattle.uca_rules.specs.inside.Reading.{properties_in, state_of}
 use Rattle.uca_rules.proofs.StatementSteps.{reset_fault, reset_goes_on}
 use Rattle.uca_rules.proofs.reader.Reader.read_reset.Goals as goal
 

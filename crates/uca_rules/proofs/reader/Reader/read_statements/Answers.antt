@@ -5,7 +5,7 @@ use Rattle.uca_rules.specs.declared.characters.Character.{Character}
 use Rattle.uca_rules.specs.declared.faults.RuleFaultKind.TheVariants as kinds
 use Rattle.uca_rules.specs.declared.signs.Preceding.{Preceding}
 use Rattle.uca_rules.specs.Statements.{MayEnd}
-use Rattle.uca_rules.specs.Reading.{IsReadingFault, State, properties_in, state_of}
+use Rattle.uca_rules.specs.inside.Reading.{IsReadingFault, State, properties_in, state_of}
 use Rattle.uca_rules.proofs.Progress.{HasRead, ends_after_reset, fault_after, fewer_left, keeps_both, kept_fault, kept_next, may_end, none_left, reading_starts, reads_all, reads_more}
 use Rattle.uca_rules.proofs.reader.Reader.read_statements.Goals as goal
 

@@ -1,5 +1,5 @@
 use Rattle.std.proofs.Common.{length}
-use Rattle.uca_rules.specs.Reading.{IsReady, Keeps, properties_in, state_of}
+use Rattle.uca_rules.specs.inside.Reading.{IsReady, Keeps, properties_in, state_of}
 use Rattle.uca_rules.proofs.Progress.{HasRead}
 use Rattle.uca_rules.proofs.reader.Reader.read_statements.Given as goal
 

@@ -1,7 +1,7 @@
 use Rattle.std.proofs.Common.{List, true, refl, sym, subst}
 use Rattle.uca_rules.specs.Pieces.{Symbol, BeginsText}
 use Rattle.uca_rules.specs.Statements.{HasRanges}
-use Rattle.uca_rules.specs.Reading.{properties_in, state_of}
+use Rattle.uca_rules.specs.inside.Reading.{properties_in, state_of}
 use Rattle.uca_rules.proofs.StarredLemmas.{starred_fault}
 use Rattle.uca_rules.proofs.reader.Reader.read_symbols.Goals as goal
 

@@ -5,8 +5,8 @@ use Rattle.uca_values.specs.Content.{Properties}
 use Rattle.uca_rules.specs.declared.characters.Character.{Character}
 use Rattle.uca_rules.specs.Characters.{place_of}
 use Rattle.uca_rules.specs.Faults.{RelationCause}
-use Rattle.uca_rules.specs.Views.{IsMemoryAt, IsTextFault}
-use Rattle.uca_rules.specs.Reading.{AreTextsOf, properties_in, relation_of, state_of}
+use Rattle.uca_rules.specs.inside.Views.{IsMemoryAt, IsTextFault}
+use Rattle.uca_rules.specs.inside.Reading.{AreTextsOf, properties_in, relation_of, state_of}
 use Rattle.uca_rules.proofs.Progress.{kept_properties, keeps_both}
 use Rattle.uca_rules.proofs.StatementSteps.{expansion_fault, plain_adds, relation_fault, rule_expansion, target_fault, written_place}
 use Rattle.uca_rules.proofs.reader.Reader.read_target.Goals as goal

@@ -3,7 +3,7 @@ use Rattle.std.proofs.Common.{◌≡◌, ◌≢◌, ◌≤◌, List, [], length,
 use Rattle.std.proofs.lemmas.Result.{err_from_is_err_and}
 use Rattle.uca_text.specs.Texts.{NfdText, nfd_text}
 use Rattle.uca_rules.specs.Characters.{place_of}
-use Rattle.uca_rules.specs.Reading.{IsNoRuleText, properties_in}
+use Rattle.uca_rules.specs.inside.Reading.{IsNoRuleText, properties_in}
 use Rattle.uca_rules.specs.declared.characters.Symbol.{Symbol}
 use Rattle.uca_rules.specs.Pieces.{points_of}
 use Rattle.uca_rules.proofs.RuleTexts.{text_fault}

@@ -2,7 +2,7 @@ use Rattle.std.proofs.Common.{[], ap, subst, ◌∙◌, arith}
 use Rattle.uca_values.specs.Content.{HeaderContent, IsHeader}
 use Rattle.uca_lines.specs.Lines.{ended}
 use Rattle.uca_table.specs.Canonical.{version_line}
-use Rattle.uca_table.specs.CanonicalLineTexts.{setting_text, range_lines}
+use Rattle.uca_table.specs.inside.CanonicalLineTexts.{setting_text, range_lines}
 use Rattle.uca_lines.proofs.BufferedLemmas.{part, written_none, part_fits, part_written, returns_fault, returns_last}
 use Rattle.uca_table.proofs.CanonicalSizes.{length-header_text, header_fits}
 use Rattle.uca_table.proofs.CanonicalTexts.{header_parts, header_text_is}

@@ -1,7 +1,7 @@
 use Rattle.std.proofs.Common.{refl}
 use Rattle.uca_lines.specs.Lines.{ended}
 use Rattle.uca_table.specs.Canonical.{range_line}
-use Rattle.uca_table.specs.CanonicalLineTexts.{range_lines}
+use Rattle.uca_table.specs.inside.CanonicalLineTexts.{range_lines}
 use Rattle.uca_lines.proofs.BufferedLemmas.{part_fits, part_written, returns_fault, all_parts_written}
 use Rattle.uca_table.proofs.canonical.header.write_ranges.Goals as goal
 

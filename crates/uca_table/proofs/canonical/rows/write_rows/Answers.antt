@@ -1,7 +1,7 @@
 use Rattle.std.proofs.Common.{refl, ap}
 use Rattle.uca_lines.specs.Lines.{ended}
 use Rattle.uca_table.specs.Canonical.{row_line}
-use Rattle.uca_table.specs.CanonicalLineTexts.{row_lines}
+use Rattle.uca_table.specs.inside.CanonicalLineTexts.{row_lines}
 use Rattle.uca_lines.proofs.BufferedLemmas.{part_fits, part_written, returns_fault, all_parts_written}
 use Rattle.uca_table.proofs.canonical.rows.write_rows.Goals as goal
 

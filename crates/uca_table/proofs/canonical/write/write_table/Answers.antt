@@ -1,7 +1,7 @@
 use Rattle.std.proofs.Common.{[], ap, sym, subst, ◌∙◌, arith}
 use Rattle.uca_values.specs.Content.{TableContent, AreRows}
 use Rattle.uca_table.specs.Canonical.{canonical}
-use Rattle.uca_table.specs.CanonicalLineTexts.{header_text, row_lines}
+use Rattle.uca_table.specs.inside.CanonicalLineTexts.{header_text, row_lines}
 use Rattle.uca_lines.proofs.BufferedLemmas.{part, written_none, part_written, part_fails, all_parts_written, none_buffered, nothing_counted, fault_writes, fault_leaves_some, flush_leaves_some}
 use Rattle.uca_table.proofs.CanonicalTexts.{table_parts, canonical_is}
 use Rattle.uca_table.proofs.CanonicalSizes.{rows_fit}

@@ -3,7 +3,7 @@ use Rattle.std.proofs.Common.{◌≡◌, ◌⊎◌, OnOk, IfErr, refl, subst, sy
 use Rattle.std.proofs.lemmas.Result.{err_from_is_err_and}
 use Rattle.uca_values.specs.declared.faults.FaultKind.TheVariants as kinds
 use Rattle.uca_table.specs.TableLines.{TextCause}
-use Rattle.uca_table.specs.Taking.{TakesText}
+use Rattle.uca_table.specs.inside.Taking.{TakesText}
 use Rattle.uca_table.proofs.TakeLaws.{row_is_entry, has_some, has_none, row_order_fault, row_text_fault, row_add_fault, row_taken}
 use Rattle.uca_table.proofs.lines.TableLines.take_row.Goals as goal
 

@@ -11,8 +11,8 @@ use Rattle.uca_match.specs.Tries.{positions}
 use Rattle.uca_rules.specs.declared.relations.Relation.{Relation}
 use Rattle.uca_rules.specs.Relations.{AreRules}
 use Rattle.uca_plans.specs.Lists.{InsertsBelow}
-use Rattle.uca_tailor.specs.drafts.KeyRows.{ArePositions}
-use Rattle.uca_tailor.specs.drafts.Variables.{AreBounds}
+use Rattle.uca_tailor.specs.inside.KeyRows.{ArePositions}
+use Rattle.uca_tailor.specs.inside.Variables.{AreBounds}
 use Rattle.uca_tailor.proofs.drafts.Readiness.{ready}
 use Rattle.uca_tailor.proofs.drafts.DraftingSteps.{none_drafted, one_more, rejected_first, all_drafted}
 use Rattle.uca_tailor.proofs.drafts.Names.{drafts_named, named_below}

@@ -8,11 +8,11 @@ use Rattle.uca_plans.specs.Drafts.{DraftRow}
 use Rattle.uca_plans.specs.Keys.{keys_in, is_among}
 use Rattle.uca_plans.specs.Plans.{Basis, Drafted, Drafting}
 use Rattle.uca_plans.proofs.PlanSteps.{target_row}
-use Rattle.uca_tailor.specs.drafts.KeyRows.{IsRowOf}
-use Rattle.uca_tailor.specs.drafts.Ready.{basis_in}
+use Rattle.uca_tailor.specs.inside.KeyRows.{IsRowOf}
+use Rattle.uca_tailor.specs.inside.Ready.{basis_in}
 use Rattle.uca_tailor.specs.declared.drafts.targets.TargetDraft.{TargetDraft}
 use Rattle.uca_tailor.specs.declared.drafts.targets.TargetDraft.TheVariants.{AnchorRejected, Identical, NewWeight}
-use Rattle.uca_tailor.specs.drafts.Targets.{drafted_with, insertions_of}
+use Rattle.uca_tailor.specs.inside.Targets.{drafted_with, insertions_of}
 use Rattle.uca_tailor.proofs.drafts.VariableLaws.{holds_is}
 use Rattle.uca_tailor.proofs.drafts.DraftingSteps.{refused_anchor, refused_prefix, refused_limit, too_many, refused_room, refused_variable, in_limits, row_put}
 use Rattle.uca_tailor.proofs.drafts.drafting.row_for.Goals as goal

@@ -12,7 +12,7 @@ use Rattle.uca_plans.specs.Plans.{Basis, Drafted, Drafting, draft_expansion, dra
 use Rattle.uca_rules.specs.declared.relations.Relation.{Relation}
 use Rattle.uca_weights.specs.declared.Level.{Level}
 use Rattle.uca_weights.specs.Levels.{level_of}
-use Rattle.uca_tailor.specs.drafts.Ready.{ReadsAlike, basis_in}
+use Rattle.uca_tailor.specs.inside.Ready.{ReadsAlike, basis_in}
 use Rattle.uca_tailor.proofs.drafts.targets.draft_target.Goals as goal
 
 -- the rows so far

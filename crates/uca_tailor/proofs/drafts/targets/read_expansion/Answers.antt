@@ -1,7 +1,7 @@
 -- An expansion is read over the positions as over the rows.
 use Rattle.std.proofs.Common.{◌≡◌, ◌++◌, [], OnOk, inr, sym, subst}
 use Rattle.uca_plans.specs.Plans.{draft_expansion}
-use Rattle.uca_tailor.specs.drafts.Ready.{basis_in}
+use Rattle.uca_tailor.specs.inside.Ready.{basis_in}
 use Rattle.uca_tailor.proofs.drafts.targets.read_expansion.Goals as goal
 
 pub returns-in-Some : goal.returns-in-Some

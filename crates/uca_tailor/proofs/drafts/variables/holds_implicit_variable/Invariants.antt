@@ -1,7 +1,7 @@
 -- None of the elements so far is such a one.
 use Rattle.std.proofs.Common.{◌≡◌, ◌&&◌, drop}
 use Rattle.std.specs.List.{list_any}
-use Rattle.uca_tailor.specs.drafts.Variables.{is_within}
+use Rattle.uca_tailor.specs.inside.Variables.{is_within}
 use Rattle.uca_tailor.proofs.drafts.variables.holds_implicit_variable.Given as goal
 
 abbrev pub invariant-loop-element : goal.invariant-loop-element

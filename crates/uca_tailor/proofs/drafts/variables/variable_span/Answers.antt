@@ -4,7 +4,7 @@ use Rattle.uca_values.specs.Content.{Entry}
 use Rattle.uca_check.specs.WellFormed.{elements_of}
 use Rattle.uca_check.proofs.Elements.{after_more}
 use Rattle.uca_tailor.proofs.RowElements.{no_element, row_more}
-use Rattle.uca_tailor.specs.drafts.Variables.{AreBounds}
+use Rattle.uca_tailor.specs.inside.Variables.{AreBounds}
 use Rattle.uca_tailor.proofs.drafts.variables.variable_span.Goals as goal
 
 pub loop-element-init : goal.loop-element-init

@@ -1,6 +1,6 @@
 use Rattle.std.proofs.Common.{take, ◌++◌}
 use Rattle.uca_check.specs.WellFormed.{elements_of}
-use Rattle.uca_tailor.specs.drafts.Variables.{AreBounds}
+use Rattle.uca_tailor.specs.inside.Variables.{AreBounds}
 use Rattle.uca_tailor.proofs.drafts.variables.variable_span.Given as goal
 
 -- the bounds are those of the elements so far

@@ -1,5 +1,5 @@
 use Rattle.std.proofs.Common.{◌≤◌, length, drop}
-use Rattle.uca_tailor.specs.numbers.NumberTables.{AreTables}
+use Rattle.uca_tailor.specs.inside.NumberTables.{AreTables}
 use Rattle.uca_tailor.proofs.numbers.levels.fill_tables.Given as goal
 
 -- the tables are those of the members from here on

@@ -1,7 +1,7 @@
 use Rattle.std.proofs.Common.{◌≡◌, ◌≤◌, length, drop, reverse}
 use Rattle.std.specs.List.{AllByRecursion}
 use Rattle.uca_plans.specs.Plans.{runs_of}
-use Rattle.uca_tailor.specs.numbers.NumberTables.{EndsLow}
+use Rattle.uca_tailor.specs.inside.NumberTables.{EndsLow}
 use Rattle.uca_tailor.proofs.numbers.levels.runs_of.Given as goal
 
 -- the runs are those of the members from here on, in reverse order

@@ -3,7 +3,7 @@ use Rattle.std.proofs.Common.{map, ap, sym, subst, ◌∙◌, ◌≡◌, false, 
 use Rattle.std.proofs.lemmas.Result.{IfOk-weaker}
 use Rattle.uca_check.specs.WellFormed.{elements_of}
 use Rattle.uca_plans.specs.declared.drafts.DraftWeight.TheVariants.{Base}
-use Rattle.uca_tailor.specs.numbers.Marks.{AreMarked}
+use Rattle.uca_tailor.specs.inside.Marks.{AreMarked}
 use Rattle.uca_tailor.proofs.numbers.MarkLaws.{marked_are}
 use Rattle.uca_tailor.proofs.numbers.TableLaws.{as_far}
 use Rattle.uca_tailor.proofs.numbers.lists.base_weights.Goals as goal

@@ -4,7 +4,7 @@ use Rattle.uca_values.specs.Content.{Entry}
 use Rattle.uca_check.specs.WellFormed.{elements_of}
 use Rattle.uca_check.proofs.Elements.{after_more}
 use Rattle.uca_tailor.proofs.RowElements.{row_more}
-use Rattle.uca_tailor.specs.numbers.Marks.{AreMarked}
+use Rattle.uca_tailor.specs.inside.Marks.{AreMarked}
 use Rattle.uca_tailor.proofs.numbers.lists.mark_rows.Goals as goal
 
 pub loop-element-preserved : goal.loop-element-preserved

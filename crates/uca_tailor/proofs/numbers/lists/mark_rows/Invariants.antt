@@ -1,6 +1,6 @@
 use Rattle.std.proofs.Common.{take, ◌++◌}
 use Rattle.uca_check.specs.WellFormed.{elements_of}
-use Rattle.uca_tailor.specs.numbers.Marks.{AreMarked}
+use Rattle.uca_tailor.specs.inside.Marks.{AreMarked}
 use Rattle.uca_tailor.proofs.numbers.lists.mark_rows.Given as goal
 
 -- the weights of the elements so far are marked

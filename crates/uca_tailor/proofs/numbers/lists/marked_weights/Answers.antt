@@ -3,7 +3,7 @@ use Rattle.std.proofs.Common.{◌≡◌, ℕ, ◌+◌, ◌<◌, Bool, true, fals
 use Rattle.std.proofs.lemmas.List.{append-nil, drop_more, drop_all}
 use Rattle.uca_plans.specs.declared.drafts.DraftWeight.{DraftWeight}
 use Rattle.uca_plans.specs.declared.drafts.DraftWeight.TheVariants.{Base}
-use Rattle.uca_tailor.specs.numbers.Marks.{slots_from}
+use Rattle.uca_tailor.specs.inside.Marks.{slots_from}
 use Rattle.uca_tailor.proofs.numbers.lists.marked_weights.Goals as goal
 use Rattle.uca_tailor.proofs.numbers.lists.marked_weights.Goals.{then-marked+in_ok-push, else-marked}
 

@@ -1,6 +1,6 @@
 use Rattle.std.proofs.Common.{◌≡◌, ◌++◌, map, drop}
 use Rattle.uca_plans.specs.declared.drafts.DraftWeight.TheVariants.{Base}
-use Rattle.uca_tailor.specs.numbers.Marks.{slots_from}
+use Rattle.uca_tailor.specs.inside.Marks.{slots_from}
 use Rattle.uca_tailor.proofs.numbers.lists.marked_weights.Given as goal
 
 -- the weights so far and those of the marks that are left are all that are marked

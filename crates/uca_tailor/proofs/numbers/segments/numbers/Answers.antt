@@ -4,7 +4,7 @@ use Rattle.std.proofs.lemmas.List.{append-nil, drop_more, drop_all, length-drop}
 use Rattle.uca_plans.specs.declared.drafts.DraftWeight.{DraftWeight}
 use Rattle.uca_plans.specs.declared.drafts.DraftWeight.TheVariants.{Base}
 use Rattle.uca_plans.specs.Numbering.{numbers_of}
-use Rattle.uca_plans.specs.OnePass.{one_further, numbers_from}
+use Rattle.uca_plans.specs.inside.OnePass.{one_further, numbers_from}
 use Rattle.uca_plans.proofs.NumberLemmas.{numbers_in_one_pass}
 use Rattle.uca_tailor.proofs.numbers.segments.numbers.Goals as goal
 

@@ -1,6 +1,6 @@
 use Rattle.std.proofs.Common.{◌≡◌, ◌+◌, ◌≤◌, ◌++◌, length, drop}
 use Rattle.uca_plans.specs.Numbering.{numbers_of}
-use Rattle.uca_plans.specs.OnePass.{numbers_from}
+use Rattle.uca_plans.specs.inside.OnePass.{numbers_from}
 use Rattle.uca_tailor.proofs.numbers.segments.numbers.Given as goal
 
 -- the numbers so far and those of the members that are left are all numbers

@@ -3,7 +3,7 @@ use Rattle.std.specs.Prelude.{IfSome}
 use Rattle.std.specs.Str.{chars}
 use Rattle.uca_elements.specs.Collations.{collation_of}
 use Rattle.uca_text_comparer.specs.declared.shared.Rest.{Rest}
-use Rattle.uca_text_comparer.specs.Shared.{IsRest}
+use Rattle.uca_text_comparer.specs.inside.Shared.{IsRest}
 use Rattle.uca_plain.proofs.Results.{no_result}
 use Rattle.uca_text_comparer.proofs.plain_comparison.PlainComparison.compare_after_shared.Goals as goal
 

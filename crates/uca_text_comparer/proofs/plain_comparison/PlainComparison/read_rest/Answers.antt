@@ -2,7 +2,7 @@ use Rattle.std.proofs.Common.{subst}
 use Rattle.std.specs.Bool.{OnTrue}
 use Rattle.std.specs.Str.{chars}
 use Rattle.uca_elements.specs.Collations.{collation_of}
-use Rattle.uca_text_comparer.specs.Shared.{HasElements}
+use Rattle.uca_text_comparer.specs.inside.Shared.{HasElements}
 use Rattle.uca_plain.proofs.Results.{no_result}
 use Rattle.uca_text_comparer.proofs.PlainComparisons.{both_read}
 use Rattle.uca_text_comparer.proofs.plain_comparison.PlainComparison.read_rest.Goals as goal

@@ -8,7 +8,7 @@ use Rattle.uca_elements.specs.Collations.{collation_of}
 use Rattle.uca_comparison.specs.declared.walk.Walked.{Walked}
 use Rattle.uca_order.specs.Depths.{read_text}
 use Rattle.uca_text_comparer.specs.Comparers.{ComparerState, collation_by}
-use Rattle.uca_text_comparer.specs.Shared.{ComparesAccepted}
+use Rattle.uca_text_comparer.specs.inside.Shared.{ComparesAccepted}
 use Rattle.uca_comparison.proofs.Counts.{counted_from_none}
 use Rattle.uca_comparison.proofs.ComparisonLemmas.{compares_at}
 use Rattle.uca_plain.proofs.Results.{no_result}

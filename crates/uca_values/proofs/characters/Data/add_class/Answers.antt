@@ -1,7 +1,7 @@
 use Rattle.std.proofs.Common.{◌≡◌, length, refl, sym, ◌∙◌, subst, arith, rules}
 use Rattle.std.specs.List.{insert}
 use Rattle.std.proofs.lemmas.List.{with_items_is}
-use Rattle.uca_values.specs.LowClasses.{AreLowClasses}
+use Rattle.uca_values.specs.inside.LowClasses.{AreLowClasses}
 use Rattle.uca_values.proofs.Gaps.{taken, keeps_class, gains_class, full_class}
 use Rattle.uca_values.proofs.LowClasses.{low_classes_put}
 use Rattle.uca_values.proofs.characters.Data.add_class.Goals as goal

@@ -1,6 +1,6 @@
 -- The first rows have the first spans.
 use Rattle.std.proofs.Common.{sym, ap, subst, take, ◌∙◌}
-use Rattle.uca_values.specs.RowParts.{AreSpans, rows_in}
+use Rattle.uca_values.specs.inside.RowParts.{AreSpans, rows_in}
 use Rattle.uca_values.proofs.RowParts.{rows_take, spans_take}
 use Rattle.uca_values.proofs.packed.PackedRows.truncate.Goals as goal
 

@@ -2,7 +2,7 @@
 use Rattle.std.proofs.Common.{◌≡◌, ◌++◌}
 use Rattle.std.specs.List.{flat_map}
 use Rattle.uca_values.specs.Content.{properties_of}
-use Rattle.uca_tailor.specs.drafts.MatchDrafts.{match_drafts}
+use Rattle.uca_tailor.specs.inside.MatchDrafts.{match_drafts}
 use Rattle.uca_tailor.proofs.drafts.readings.DraftBasis.read.Given as goal
 
 abbrev pub invariant-loop-part : goal.invariant-loop-part

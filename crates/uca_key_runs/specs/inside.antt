@@ -1,0 +1,4 @@
+pub mod HeadedParts
+pub mod KeptLines
+pub mod KeyForms
+pub mod SortSoFar

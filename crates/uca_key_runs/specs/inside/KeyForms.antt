@@ -1,0 +1,56 @@
+-- The forms of a line of output that has a key.
+use Rattle.std.specs.Prelude.{◌≡◌, ℕ, List, Bool, true, false, Option, Result, chars}
+use Rattle.uca_weights.specs.Streams.{SourceState, SinkState}
+use Rattle.uca_weights.specs.declared.Weighting.{Weighting}
+use Rattle.uca_weights.specs.declared.Depth.{Depth}
+use Rattle.uca_weights.specs.declared.Depth.TheVariants.{Weights, Identical}
+use Rattle.uca_values.specs.Content.{Properties}
+use Rattle.uca_text.specs.Texts.{NfdText, nfd_text}
+use Rattle.uca_order.specs.Depths.{read_text, key_at}
+use Rattle.uca_order.specs.Lengths.{HasShortRows}
+use Rattle.uca_run_parts.specs.declared.faults.RunFault.{RunFault}
+use Rattle.uca_key_runs.specs.declared.keys.KeyForm.{KeyForm}
+use Rattle.uca_key_runs.specs.declared.keys.KeyForm.TheVariants.{Alone, BeforeLine}
+use Rattle.uca_run_parts.specs.EachLine.{PrintsEach}
+use Rattle.uca_run_parts.specs.Files.{table_and_data, table_and_data_roles}
+use Rattle.uca_order.specs.Keyings.{Keying}
+use Rattle.uca_key_runs.specs.KeysRun.{RunsUnder}
+use Rattle.uca_run_parts.specs.Print.{print_line_at, keyed_line_of}
+
+-- the depth of the key that is made for a form: a key alone shows its identical level otherwise than the weights
+abbrev pub depth_as : KeyForm → Depth → Depth
+depth_as Alone depth = Weights
+depth_as BeforeLine depth = depth
+
+-- whether the code points of the text are printed: those of a key alone are, with an identical level
+abbrev pub shows_points : KeyForm → Depth → Bool
+shows_points Alone Weights = false
+shows_points Alone Identical = true
+shows_points BeforeLine depth = false
+
+-- the line of output, by that key, the code points of the text, and the line of the input
+abbrev pub printed_as : KeyForm → Depth → List ℕ → List ℕ → List ℕ → List ℕ
+printed_as Alone depth key points line = print_line_at depth key points
+printed_as BeforeLine depth key points line = keyed_line_of key line
+
+-- that of a line with its text
+abbrev pub text_as : KeyForm → Keying → NfdText → List ℕ → List ℕ
+text_as form c text line = printed_as form c.depth (key_at (depth_as form c.depth) c.weighting (read_text c.collation text)) text.points line
+
+-- that of a line of the input, which is UTF-8
+abbrev pub line_as : KeyForm → Keying → List ℕ → List ℕ
+line_as form c line = text_as form c (nfd_text c.collation.properties (chars line)) line
+
+-- a run that writes such a line for each line of its input
+abbrev pub PrintsAs : {A : Type 0} → KeyForm → Option Weighting → Depth → List SourceState → List SourceState → SourceState → SourceState
+    → SinkState → SinkState → Result A RunFault → Type 0
+PrintsAs form asked depth olds news input input_new out out_new result =
+    PrintsEach table_and_data table_and_data_roles (RunsUnder (line_as form) asked depth input input_new out out_new result) olds news input input_new out out_new result
+
+-- ---- A writer of the keys of a form
+
+-- keys of the form at that depth go by these settings, and texts by these properties
+pub record MakesKeys (form : KeyForm) (depth : Depth) (properties : Properties) (c : Keying) : Type 0 where
+  pub key_depth : c.depth ≡ depth_as form depth
+  pub same : properties ≡ c.collation.properties
+  pub short_rows : HasShortRows c.collation.rows

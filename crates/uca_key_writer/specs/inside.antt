@@ -1,0 +1,5 @@
+pub mod Beginnings
+pub mod LevelBuffers
+pub mod Pieces
+pub mod Readings
+pub mod Stretches

@@ -1,0 +1,2 @@
+pub mod LinesInPlace
+pub mod RekeySoFar

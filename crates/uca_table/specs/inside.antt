@@ -1,0 +1,5 @@
+pub mod CanonicalLineTexts
+pub mod DataSteps
+pub mod ElementSteps
+pub mod Keeping
+pub mod Taking

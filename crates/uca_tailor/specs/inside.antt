@@ -1,0 +1,10 @@
+pub mod PlanParts
+pub mod KeyRows
+pub mod MatchDrafts
+pub mod Ready
+pub mod RowDrafts
+pub mod Targets
+pub mod Variables
+pub mod Marks
+pub mod NumberTables
+pub mod Slots

@@ -1,0 +1,2 @@
+pub mod Primaries
+pub mod Shared
