@@ -1,4 +1,4 @@
--- What the passes over a table find. Only private contracts cite these.
+-- What the passes over a table find.
 use Rattle.std.specs.Prelude.{◌⊎◌, ⊤, ℕ, ◌+◌, ◌<◌, ◌↔◌, List, Option, MatchOption, length}
 use Rattle.std.specs.List.{AllByRecursion}
 use Rattle.uca_weights.specs.declared.Element.{Element}

@@ -1,5 +1,4 @@
 -- What is found of keys in what is left of a text.
--- Only clauses inside this crate cite this file.
 use Rattle.std.specs.Prelude.{◌≡◌, ℕ, suc, ◌<◌, ◌≤◌, List, ◌∷◌, true, Option, Some, None, drop, take, length}
 use Rattle.uca_text.specs.Texts.{Text, NfdText, code_points}
 use Rattle.uca_elements.specs.Rows.{Keys}

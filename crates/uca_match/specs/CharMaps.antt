@@ -1,5 +1,4 @@
 -- Numbers of code points, kept in pages of 256.
--- Only clauses inside this crate cite this file.
 use Rattle.std.specs.Prelude.{◌≡◌, ℕ, ◌+◌, ◌*◌, ◌/◌, ◌%◌, ◌<◌, List, length, nat_lt, slice_index_or}
 use Rattle.std.specs.List.{count_by}
 

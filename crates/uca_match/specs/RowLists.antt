@@ -1,5 +1,4 @@
 -- What the nodes of a list of rows stand for.
--- Only clauses inside this crate cite this file: a caller's clauses see the map alone, as the lookup's content.
 use Rattle.std.specs.Prelude.{ℕ, zero, suc, List, [], ◌∷◌, take}
 use Rattle.uca_values.specs.Content.{Entry}
 use Rattle.uca_match.specs.declared.row_list.RowNode.{RowNode}
