@@ -1,5 +1,5 @@
-//! What tests share: readers and writers in memory that fail where a test says, tables of cases written as
-//! text, and a table and a data file to begin with.
+//! What tests share: readers and writers in memory that fail where a test says, tables of cases written as text, and a
+//! table and a data file to begin with. The streams of a run are here too.
 #![tactic(auto)]
 
 pub mod cases;

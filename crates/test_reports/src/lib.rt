@@ -1,4 +1,4 @@
-//! Tests of what is said of an error, and of the arguments that are read.
+//! Tests of error lines, and of the arguments that are read.
 #![tactic(auto)]
 
 #[cfg(test)]

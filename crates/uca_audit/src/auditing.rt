@@ -1,4 +1,9 @@
-//! The audit.
+//! `audit`: tests the eleven conditions in their order, and stops at the first that fails. Where all are met, it calls
+//! the law of accepted tailorings with the invariants of the five values. So its `Ok` has what the law says.
+//!
+//! The anchors of all relations are read twice, once for condition 8 and once for 9. A trie of the tailored table is
+//! kept from condition 5 on, and one of the base for condition 7 alone. The images of all weights take 0.4 MB from
+//! condition 4 on. Conditions 1 to 3 take no memory.
 
 ghost use Rattle.std.specs.Prelude.{◌≡◌, ◌⊎◌, IfErr, OnOk};
 ghost use Rattle.std.specs.List.{AllZip};

@@ -1,5 +1,17 @@
 //! The audit of tailorings: an independent check of a tailored table. The table has to be what its base, its rules and
 //! its certificate say, and must not change a text in which no target of the rules occurs.
+//!
+//! An audit reads five files and judges what they mean:
+//!
+//! ```text
+//! base, data, tailored ────────────────────────────────> conditions 1 to 3: two well-formed tables with one header
+//! certificate ─> the images of all weights ────────────> conditions 4 and 5: weights that have an image, rows that are images
+//! rules ─> relations: their targets ───────────────────> conditions 6 and 7: rows that are missing, or too many
+//! tailored ─> Trie ─> Collator ─> anchors, expansions ─> conditions 8 and 9 ─> Placements
+//! Placements, and the images ──────────────────────────> conditions 10 and 11: new weights that are fresh and nearest
+//! ```
+//!
+//! There is one function for each condition. The crate shares no code with anything that makes tables.
 #![tactic(auto)]
 
 mod auditing;

@@ -1,5 +1,7 @@
-//! The library for C: a collator that is opened by the bytes of a table and a data file, sort keys in the caller's memory,
-//! and comparison. `include/uca.h` declares what is exported here, and says what a caller owes.
+//! The library for C: a collator that is opened by the bytes of a table and a data file, sort keys in the caller's
+//! memory, and comparison. `bindings/c/include/uca.h` declares the calls, and says what a caller owes.
+//!
+//! The calls are those of an `OwnedCollator` (`uca_owned`) that C keeps. Each error is a status.
 #![tactic(auto)]
 
 mod crossing;

@@ -1,5 +1,5 @@
-//! Certificates of tailorings: how the weights of a base change, as a map for each level. A reader and a writer of
-//! their one text.
+//! Certificates of tailorings: how the weights of a base change, as a map for each level. `read_certificate` and
+//! `write_certificate` read and write their one text.
 #![tactic(auto)]
 
 mod certificate;

@@ -1,5 +1,5 @@
-//! Files of changes: the texts, and the ranges of code points, that change from one table and data file to others. A
-//! reader and a writer of their one text.
+//! Files of changes: the texts, and the ranges of code points, that change from one table and data file to others.
+//! `ChangeList` has them in their order. `read_changes` and `write_changes` read and write their one text.
 #![tactic(auto)]
 
 mod laws;

@@ -1,5 +1,6 @@
-//! What changes from one table to another list: the changed texts, and the changed ranges of code points. And where two
-//! tables or two data files differ outside of these ranges.
+//! `Changes`: the texts and the ranges of code points that a change lists. And the first code point outside of these
+//! ranges at which two headers or two data files differ. `TextSet` finds a listed text, and `borders.rt` where ranges
+//! begin and have ended.
 #![tactic(auto)]
 
 mod borders;

@@ -1,4 +1,5 @@
-//! The run that prints the lines that changes affect.
+//! The run that prints the lines that changes affect: the run over rules of `uca_run_parts`, with a file of changes in
+//! place of the rules.
 
 ghost use Rattle.std.specs.Prelude.{◌∷◌, []};
 ghost use Rattle.uca_values.specs.Content.{properties_of};

@@ -1,4 +1,8 @@
 //! `ChangeIndex`: a list of changes, ready to be looked up in texts.
+//!
+//! It has a bit for each code point that lies in a changed range or begins a changed text. So a code point without a
+//! bit takes one look. The texts that begin with a code point are looked for once, from its first place in the line on.
+//! What does not occur from there on does not occur later.
 
 ghost use Rattle.std.specs.Prelude.{◌≡◌, ℕ, ◌+◌, ◌<◌, true, false, length, take, IfOk};
 ghost use Rattle.uca_change_runs.specs.AffectedRun.{is_affected_by};

@@ -1,5 +1,6 @@
-//! The runs over changes from an old table and its data file to new ones: finding what changes, auditing a change, and
-//! printing the lines that a change affects.
+//! The runs over changes from an old table and its data file to new ones. `uca changes` is the maker of `uca_editions`
+//! over four files (`run_changes`), and `uca audit-changes` the audit over six (`run_audit_changes`).
+//! `uca affected --changes` prints the lines that a change affects (`run_affected_by_changes`).
 #![tactic(auto)]
 
 pub mod affected;

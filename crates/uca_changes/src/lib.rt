@@ -1,5 +1,6 @@
-//! Changes from one table to another, such as an edition of Unicode to the next: when one is accepted, and what that means
-//! for texts and for stored keys. These are definitions and laws, and the errors of a change that is not accepted.
+//! Changes from one table to another, such as an edition of Unicode to the next: when one is accepted, and what that
+//! means for texts and for stored keys. These are definitions and laws. `ChangeFault` says why a change is not
+//! accepted.
 #![tactic(auto)]
 
 mod conditions;

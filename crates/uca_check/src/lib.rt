@@ -1,4 +1,6 @@
-//! Whether a table is well-formed (UTS #10, section 9.2).
+//! `check`: whether a table is well-formed (UTS #10, section 9.2).
+//!
+//! It needs the values of files and not their readers, so it is proved beside these.
 #![tactic(auto)]
 
 ghost use Rattle.std.specs.Prelude.{◌≡◌, ℕ, ◌+◌, ◌<◌, ◌≤◌, length, Some, OnOk, IfErr};

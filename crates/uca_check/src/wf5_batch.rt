@@ -1,4 +1,7 @@
 //! The rows of the shorter keys of a batch of rows, all found in one pass over the table.
+//!
+//! The shorter keys of 4,096 rows are on the stack, so this takes no memory. 200,000 rows that all have one take 49
+//! passes. Only of a key that is missing all rows are looked at once more, and that ends the check.
 
 ghost use Rattle.std.specs.Prelude.{◌<◌, length, IfSome};
 

@@ -1,6 +1,6 @@
-//! The command: it opens the files that its arguments name, runs over them, and reports what comes of it. The runs are those of
-//! `uca_run_parts`, `uca_key_runs`, `uca_tailor_runs`, `uca_change_runs`, `uca_rekey` and `uca_fingerprint_runs`, and the reports
-//! those of `uca_host`.
+//! The command (`run_command`): it opens the files that its arguments name, runs over them, and reports what comes of it. It passes
+//! on `report` of `uca_host`, and the runs of `uca_run_parts`, `uca_key_runs`, `uca_tailor_runs`, `uca_change_runs`, `uca_rekey` and
+//! `uca_fingerprint_runs`.
 #![tactic(auto)]
 
 mod change_commands;

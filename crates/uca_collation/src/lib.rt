@@ -1,5 +1,8 @@
 //! Unicode collation (UTS #10) in one place: what a program needs to read a table, to make and compare sort keys, and
 //! to tailor a table. `docs/LIBRARY.md` shows its use by five short programs.
+//!
+//! The crate passes on the calls and types of the crates below it. Its own are `Settings`, and the methods `key` and
+//! `compare` of a `Collator` (`Collate`).
 #![tactic(auto)]
 
 mod collate;

@@ -1,4 +1,7 @@
-//! Comparison of two texts by one walk over their collation elements (UTS #10, section 1.1), and of two stored keys.
+//! Comparison of two texts by one walk over their collation elements (`compare`; UTS #10, section 1.1), and of two
+//! stored keys (`compare_keys`).
+//!
+//! It needs no code that makes keys, and is proved beside that.
 #![tactic(auto)]
 
 pub mod comparison;

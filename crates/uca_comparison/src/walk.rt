@@ -1,4 +1,9 @@
 //! Comparing levels of two texts in one walk over both, side by side.
+//!
+//! One such walk compares all levels. It knows up to which level the lists of weights are equal so far, and the order
+//! of the level after it, once that one has differed. At each level the next weights of the two texts (`front.rt`) say
+//! which text may go on: either, both together, or one alone. Sometimes two levels allow no common step. Then the later
+//! level and those after it are left for another walk. Texts under real tables have not needed one (bench/README.md).
 
 ghost use Rattle.std.specs.Prelude.{◌≡◌, ◌≤◌, ◌<◌, ℕ, List, false, if◌then◌else◌};
 ghost use Rattle.uca_elements.specs.Collations.{collation_of, elements_of};

@@ -1,4 +1,18 @@
-//! The audit.
+//! `audit_change`: tests the nine conditions in their order, and stops at the first that is not met. It judges two
+//! tables, two data files, a list of changes and a certificate:
+//!
+//! ```text
+//! old, new, their data files ──────────────> conditions 1 and 2: two well-formed tables
+//! headers, changes ─> borders of ranges ───> condition 3: implicit weights by the ranges that are not as they were
+//! old, changes, images ────────────────────> condition 4: weights without an image
+//! new ─> Trie ─> rows of old, changes ─────> conditions 5 and 6: rows that are no images, or are missing
+//! old ─> Trie ─> rows of new, changes ─────> condition 7: rows that are too many
+//! data files, changes ─> borders of ranges > condition 8: code points that are not as they were
+//! headers ─────────────────────────────────> condition 9: the weighting that both tables say
+//! ```
+//!
+//! Between two borders of ranges nothing changes. So conditions 3 and 8 look at the code points where a range begins or
+//! has ended, and at no others.
 
 ghost use Rattle.std.specs.Prelude.{◌≡◌, ◌⊎◌, IfErr, OnOk};
 ghost use Rattle.uca_values.specs.Content.{IsHeader, IsTable};

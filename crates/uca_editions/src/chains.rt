@@ -1,5 +1,5 @@
-//! Chains of moves. In a chain each move has greater weights than the one before, on both sides. The heaviest chain is that of most
-//! rows.
+//! Chains of moves. In a chain each move has greater weights than the one before, on both sides. Of all such chains the
+//! maker takes one with most votes. A tree over the new weights has the heaviest chain that ends in each range of them.
 
 use crate::moves::Move;
 use std::alloc::{AllocError, Allocator};

@@ -1,5 +1,5 @@
-//! A change of everything: it lists all keys of both tables and all code points. So it is accepted of any two tables that are
-//! well-formed and say the same weighting.
+//! A change of everything: it lists all keys of both tables and all code points. It is proved that an audit rejects
+//! such a list only for the tables: they are not well-formed, or say two weightings.
 
 ghost use Rattle.std.specs.Prelude.{◌≡◌, ◌++◌, [], ◌∷◌, map, IfOk, OnOk, Contains};
 ghost use Rattle.std.specs.List.{AllByRecursion};

@@ -1,8 +1,9 @@
 //! Two editions of a table and its data file: what changes from the old one to the new one.
 //!
-//! The audit is an independent check of such changes. Texts in which no changed text occurs, and which have no code point of a
-//! changed range, have to compare as before. The maker finds changes: a list of texts and of ranges of code points, and a
-//! certificate that has the images of the old table's weights. It ends with the audit, whose modules know nothing of it.
+//! The audit (`audit_change`) is an independent check of such changes. Texts in which no changed text occurs, and which
+//! have no code point of a changed range, have to compare as before. The maker (`find_changes`) finds changes: a list
+//! of texts and of ranges of code points, and a certificate that has the images of the old table's weights. It ends
+//! with the audit, whose modules know nothing of it. `changes_of` is a list of changes as an audit takes it.
 #![tactic(auto)]
 
 mod auditing;

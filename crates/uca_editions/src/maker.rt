@@ -1,4 +1,13 @@
-//! `find_changes`: what changes, and its audit.
+//! `find_changes`: finds a list of changes and a certificate, and ends with an audit of them.
+//!
+//! ```text
+//! old, new ─> rows of the same shape ─> moves of weights ─> the heaviest rising chain of each level ─> runs ─> Certificate
+//! old, new, images ─> keys whose rows are no images, keys of one table alone ─> changed texts
+//! headers, data files ─> borders of ranges ─> code points that are not as they were ─> changed ranges
+//! ```
+//!
+//! Nothing is proved of these steps, since the audit judges what they find. If it rejected that, the maker would list
+//! all keys and all code points (`everything.rt`).
 
 ghost use Rattle.std.specs.Prelude.{◌≡◌, ◌⊎◌, IfOk, IfErr, OnOk};
 ghost use Rattle.uca_changes.specs.Changes.{IsAcceptedChange};

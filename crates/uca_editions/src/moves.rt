@@ -1,4 +1,6 @@
-//! Which weight of a new row stands where an old row has which weight.
+//! A move: an old weight with the weight at its position in the new row. Each row votes for its moves.
+//!
+//! For each weight the image is kept that most rows give, as far as the images rise.
 
 ghost use Rattle.std.specs.Prelude.{◌≡◌};
 ghost use Rattle.uca_editions.specs.inside.LeastMaps as least_maps;

@@ -1,4 +1,7 @@
 //! `Lookup`: a map from keys to collation elements, in which a key is found code point by code point.
+//!
+//! Two of its methods only save time. Where `may_go_on` is false, the search for the longest key ends. Where
+//! `may_follow` is false of a code point, a text may be cut before it.
 ghost use Rattle.std.specs.Prelude.{◌≡◌, ℕ, false, List, [], ◌∷◌, ◌++◌, Option, Some, None, MatchOption};
 ghost use Rattle.uca_weights.specs.declared.Element.{Element};
 ghost use Rattle.uca_elements.specs.Rows.{is_key};

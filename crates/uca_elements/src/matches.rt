@@ -1,4 +1,5 @@
-//! The portions of a text that match keys.
+//! The portions of a text that match keys. A text is matched against keys alone (`KeySet`). `Elements` gives the
+//! elements of each match, and `Matches` of `uca_match` its position in a list of keys.
 ghost use Rattle.std.specs.Prelude.{◌≡◌, ◌≢◌, ℕ, ◌-◌, ◌<◌, ◌≤◌, true, false, length, [], ◌∷◌, ◌++◌, MatchOption, List, ◌+◌, slice_index};
 ghost use Rattle.uca_text.specs.Texts.{Text, code_points};
 ghost use Rattle.uca_elements.specs.Places.{left_at, left_of, IsPlace};

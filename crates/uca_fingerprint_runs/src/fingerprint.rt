@@ -1,4 +1,5 @@
-//! The run that prints the fingerprint of what keys are made by.
+//! The run that prints the fingerprint of what keys are made by. It reads the table and the data file alone, each by a
+//! parser that sums (`Summed` of `summed_files`).
 
 ghost use Rattle.std.specs.Prelude.{◌≡◌, ◌∷◌, [], ◌++◌};
 ghost use Rattle.hex.specs.Hex.{encode_lower};

@@ -1,4 +1,5 @@
-//! The run that prints the fingerprint of what keys are made by; reading a table and a data file with their sums.
+//! The run that prints the fingerprint of what keys are made by (`run_fingerprint`); reading a table and a data file
+//! with their sums (`read_summed_files`).
 #![tactic(auto)]
 
 mod fingerprint;

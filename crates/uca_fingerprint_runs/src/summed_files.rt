@@ -1,4 +1,5 @@
-//! A table and a data file with their sums, each read once.
+//! Tables and data files with the SHA-256 of their bytes, which are read once: `read_summed_table` and
+//! `read_summed_data`.
 
 ghost use Rattle.std.specs.Prelude.{◌∷◌, []};
 ghost use Rattle.uca_values.specs.Content.{properties_of};

@@ -1,4 +1,5 @@
-//! What an error writes on standard error, and the status that the program ends with.
+//! `report`: what an error writes on standard error, and the status that the program ends with. It needs no run that
+//! makes keys.
 
 ghost use Rattle.std.specs.Prelude.{◌≡◌, ◌++◌, ◌∷◌, []};
 ghost use Rattle.uca_run_parts.specs.FaultText.{fault_text};

@@ -1,4 +1,8 @@
 //! Standard streams that are closed: folders stand in their places.
+//!
+//! A stream is open if the system gives a second descriptor of it (`fcntl` with `F_DUPFD_CLOEXEC`), which is closed
+//! at once. The folder is `/`, opened for reading: a read of it fails, and so does a write. A run that does not use
+//! the stream goes on.
 
 use std::os::fd::{AsFd, AsRawFd, IntoRawFd};
 use std::{fs, io};

@@ -1,4 +1,7 @@
-//! The images of all weights, each found in one step.
+//! The images of all weights, each found in one step. The maps of a certificate are written out once, as a list of
+//! 65,536 images for each level (`Images`). So a weight of a row costs one step, whatever the runs are.
+//!
+//! An image has 16 bits. 0 says that a weight has none: only the weight 0 has the image 0.
 
 ghost use Rattle.std.specs.Prelude.{◌≡◌, IfOk};
 ghost use Rattle.uca_weights.specs.Runs.{AreProperRuns, weight_image};

@@ -1,6 +1,8 @@
-//! What maps of weights make of rows and of stored keys. Conditions of tailorings and of changes ask for rows that become their
-//! images, except for those of listed texts: this crate has what tests them. Stored keys are put through the maps, with no text
-//! and no table.
+//! Puts rows and stored keys through the maps of a certificate.
+//!
+//! Conditions of tailorings and of changes ask for rows that become their images, except for those of listed texts:
+//! this crate finds the first row that does not. `KeyMover` puts stored keys through the maps, with no text and no
+//! table.
 #![tactic(auto)]
 
 mod images;

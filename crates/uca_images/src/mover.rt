@@ -1,4 +1,9 @@
 //! `KeyMover`: the maps of a certificate, ready for many keys.
+//!
+//! A key of the other weighting has another number of levels, so it has no image. At the depth `Identical` this is so
+//! for most such keys, and not for all. A non-ignorable key has as many levels there as a shifted key without it, and
+//! whole code points have to follow the weights. The shifted key of three spaces ends in `0209 0209 0209`, which can
+//! be read as two code points. The code points of some ideographs from U+20000 on can be read as weights.
 
 ghost use Rattle.std.specs.Prelude.{◌≡◌, ℕ, suc, ◌<◌, ◌≤◌, ◌++◌, List, option_map, if◌then◌else◌, IfOk};
 ghost use Rattle.uca_order.specs.Levels as key_levels;

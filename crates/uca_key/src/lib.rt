@@ -1,8 +1,8 @@
-//! Sort keys (UTS #10, section 7.3), and comparison. A key has the levels of the collation elements of a text in
-//! order, with an identical level after them or without. Keys compare as bytes, and give the order of their texts.
-//! Two texts also compare without keys.
+//! What programs use of sort keys (UTS #10, section 7.3) and of comparison. This crate passes on the calls and types of
+//! `uca_key_writer`, `uca_comparison` and `uca_text_comparer`, with the laws of keys.
 //!
-//! This crate passes on what programs use of the crates `uca_key_writer`, `uca_comparison` and `uca_text_comparer`.
+//! A key has the levels of the collation elements of a text in order, with an identical level after them or without.
+//! Keys compare as bytes, and give the order of their texts. Two texts also compare without keys.
 #![tactic(auto)]
 
 pub mod laws;

@@ -1,4 +1,5 @@
-//! The run that compares two texts.
+//! The run that compares two texts. It has two arguments in place of the input, and walks their elements side by side,
+//! without keys.
 
 ghost use Rattle.std.specs.Prelude.{◌≡◌, ◌∷◌, [], ◌≤◌, ◌||◌, true, false, chars, IfOk, IfErr};
 ghost use Rattle.uca_values.specs.Content.{properties_of};

@@ -1,4 +1,6 @@
-//! The runs that print keys with a header: a first line that says what made the keys.
+//! The runs that print keys with a header: a first line that says what made the keys. After it they are the runs of
+//! `keys.rt` and `keyed_lines.rt`. Both files go through a parser that sums their lines too (`Summed` of
+//! `uca_fingerprint_runs`), so each is read once.
 
 ghost use Rattle.std.specs.Prelude.{◌≡◌, ◌≤◌, ◌∷◌, [], ◌||◌, false, true, length, IfErr, IfOk, IfSome, MatchResult};
 ghost use Rattle.uca_values.specs.Content.{properties_of};

@@ -1,4 +1,4 @@
-//! The run that prints each line after its sort key.
+//! The run that prints each line after its sort key: the run of keys with another format of an output line (`KeyForm`).
 
 ghost use Rattle.std.specs.Prelude.{◌∷◌, []};
 ghost use Rattle.uca_key_runs.specs.KeysRun.{PrintsKeyedLines};

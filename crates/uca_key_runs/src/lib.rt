@@ -1,5 +1,20 @@
-//! The runs that go by the sort keys of lines: they print the keys, sort lines by them, or compare two texts; and laws of the keys
-//! of lines.
+//! The runs that go by the sort keys of lines: they print keys, sort lines by them, or compare two texts. Laws of the keys of lines
+//! are here too.
+//!
+//! A run of keys:
+//!
+//! ```text
+//! table bytes ─> read_packed_table ─> PackedTable ─> Trie, Header ─┐
+//! data bytes ──> read_data ──> Data ─────────┬─────────────────────┴────> Collator
+//!                                            │                  │
+//! input bytes ─> LineReader ─> line ─> UTF-8 ┴─> Normal ─────> Elements
+//!                                                               │
+//! output bytes <─ Sink <─ OutputBuffer <─ printed groups <─ KeyBuffer (weighting, depth, levels)
+//! ```
+//!
+//! `InputLines` (`uca_run_parts`) is its part from the input to the line as UTF-8, and `KeyWriter` (`uca_key_writer`)
+//! its part from there to the key. `KeyWriter` takes a line of plain code points without a `Normal`. The other runs
+//! differ at the end.
 #![tactic(auto)]
 
 mod collations;

@@ -1,4 +1,4 @@
-//! The sort key of a line of the input.
+//! The sort key of a line of the input (`write_line_key`), or the beginning of it.
 
 ghost use Rattle.std.specs.Prelude.{◌≡◌, ℕ, ◌<◌, ◌^◌, false, IfErr, OnOk, length, take};
 ghost use Rattle.uca_order.specs.Lengths.{HasShortRows};

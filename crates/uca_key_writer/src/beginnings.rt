@@ -1,5 +1,13 @@
 //! Beginnings of keys: the weights of level 1 come first in a key, so its first bytes need the first pieces of the text. The
 //! rest is only judged.
+//!
+//! Pieces are read until level 1 has eight weights. The rest of the text has only to have no long run of
+//! non-starters. At most 64 code points of Normalization Form D, from a starter on, have none. So after a code point
+//! that decomposes into a starter first, 24 bytes are passed over without a look: they are at most 48 such code
+//! points. Then each code point is looked up and counted, until the next one with a starter first.
+//!
+//! Where the count comes past 64, the text is read again, and no bytes are passed over. Only a text with more than 64
+//! from one starter to the next goes the way of `KeyWriter::write`.
 
 ghost use Rattle.std.specs.Prelude.{◌≡◌, ◌<◌, ◌≤◌, [], chars, map, length, IfOk};
 ghost use Rattle.std.specs.Bool.{OnTrue};

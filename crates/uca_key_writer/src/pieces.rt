@@ -1,4 +1,8 @@
 //! `Piece`: a piece of a text, which is cut before each plain code point.
+//!
+//! A piece with marks is brought to Normalization Form D. A code point there is a leaf if no key is longer and begins
+//! with it. A piece of at most 64 leaves reads as they do one by one, so each has the elements that are kept of it.
+//! All other pieces with marks go through the tree.
 
 ghost use Rattle.std.specs.Prelude.{◌≡◌, ℕ, [], ◌∷◌, ◌++◌, List, Some, None, chars, map, IfOk, OnOk};
 ghost use Rattle.std.specs.Bool.{OnTrue};

@@ -1,4 +1,7 @@
 //! Stretches of plain code points that are in the cache. Their weights are put in one loop.
+//!
+//! At most 64 code points are put at a time. Room for them is made before the loop: three slots each, so 192 a
+//! level. The last code point waits, since a mark may follow it.
 
 ghost use Rattle.std.specs.Prelude.{◌≡◌, ℕ, ◌∷◌, [], ◌<◌, ◌≤◌, ◌++◌, List, length, chars, IfSome, MatchOption};
 ghost use Rattle.std.specs.Bool.{OnTrue};

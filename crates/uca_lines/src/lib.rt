@@ -1,5 +1,8 @@
-//! Files of lines. This crate has the lines of a source, the parts of a line (`fields`), and files that are
-//! read line by line (`files`). It also has a buffer for what goes to a sink.
+//! Files of lines, in any format: the lines of a source, the parts of a line (`fields`), and the reading of a whole
+//! file line by line (`files`).
+//!
+//! A format (`FileForm`) says how long a line may be, how many lines there may be, and what each error is called. A
+//! parser (`LineParser`) takes the lines in turn. The crate also has a buffer for what goes to a sink (`OutputBuffer`).
 #![tactic(auto)]
 
 pub mod fields;

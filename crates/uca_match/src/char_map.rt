@@ -1,4 +1,7 @@
 //! `CharMap`: a number for each code point.
+//!
+//! A page takes 2 KB. Code points without a number share the first page, and the numbers of the pages of all code
+//! points take 8.7 KB. So small tables pay little.
 ghost use Rattle.std.specs.Prelude.{◌≡◌, ◌≢◌, ℕ, ◌<◌, ◌/◌, IfOk, OnOk, slice_index_or};
 ghost use Rattle.uca_match.specs.CharMaps.{number_in, number_of, ArePages};
 

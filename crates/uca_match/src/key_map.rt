@@ -1,4 +1,15 @@
 //! `KeyMap`: keys and their positions in a list, as a tree of code points.
+//!
+//! The nodes of the tree are in one vector, and their positions there are their names. Each node has its edges in the
+//! order of their code points. If the way to a node is a key, the node has the key's position.
+//!
+//! Keys of one code point are added first, which needs no search. The others are sorted before they are added, so
+//! that a new edge always comes last at its node. In Unicode's table these are 900 of 33,000. Nothing that is proved
+//! rests on that order: an edge is put where it belongs, wherever that is.
+//!
+//! An edge is found by halving the edges of its node. The root of a real table would have 30,000 edges. So it has
+//! none: a `CharMap` says where each code point leads from there. Another one marks the code points that some key has
+//! after its first one.
 ghost use Rattle.std.specs.Prelude.{◌≡◌, ◌≢◌, ℕ, false, ◌<◌, ◌∷◌, ◌++◌, List, [], length, map, IfOk, OnOk, MatchResult, Some, None, ◌≤◌};
 ghost use Rattle.std.specs.List.Sorted.{IsPartitionPoint};
 ghost use Rattle.uca_elements.specs.Positions.{is_placed, place_at, AreDistinctKeys, AreLongKeys};

@@ -1,5 +1,6 @@
-//! The rows of a table, ready to be looked up: as a list (`RowList`), and as a tree by code points (`Trie`). Maps of keys
-//! without their rows (`KeyMap`), and what a text is matched as by such a map (`Matches`).
+//! The rows of a table, ready to be looked up: as a list (`RowList`), and as a tree by code points (`Trie`). Maps of
+//! keys without their rows (`KeyMap`), what a text is matched as by such a map (`Matches`), and the list of the keys of
+//! some rows (`key_list`).
 //!
 //! The crate passes on `uca_elements`, which reads texts by any lookup.
 #![tactic(auto)]

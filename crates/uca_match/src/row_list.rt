@@ -1,4 +1,5 @@
-//! The rows of a table in their order, for lookups that go through all of them.
+//! The rows of a table in their order, for lookups that go through all of them. `RowList` is a plain lookup with the
+//! contract of a `Trie`. It takes no memory, and the tests compare the two.
 ghost use Rattle.std.specs.Prelude.{◌≡◌, ◌↔◌, ℕ, ◌+◌, List, [], ◌∷◌, ◌++◌, length, take, IsTrue};
 ghost use Rattle.uca_elements.specs.Rows.{rows_of};
 ghost use Rattle.uca_match.specs.RowLists.{node_text};

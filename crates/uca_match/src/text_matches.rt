@@ -1,4 +1,4 @@
-//! What a text is matched as by the keys of a map, part by part.
+//! `Matches`: what a text is matched as by the keys of a map, part by part, as positions of keys.
 ghost use Rattle.std.specs.Prelude.{◌≡◌};
 ghost use Rattle.std.specs.Iterator.{YieldsFirst, item_count};
 ghost use Rattle.uca_text.specs.Texts.{classed};

@@ -1,4 +1,7 @@
-//! The rows of a table as a tree of code points, for lookups by a few steps.
+//! The rows of a table as a tree of code points, for lookups by a few steps: a `KeyMap` of their keys, and the rows
+//! themselves (`PackedRows`).
+//!
+//! A run builds it once both files are read, before anything else is read.
 ghost use Rattle.std.specs.Prelude.{◌≡◌, ℕ, List, option_map, slice_index_or, [], Some, IfOk};
 ghost use Rattle.uca_values.specs.Content.{AreRows, keys_of};
 ghost use Rattle.uca_elements.specs.Rows.{rows_of};

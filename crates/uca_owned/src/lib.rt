@@ -1,5 +1,8 @@
-//! A collator that owns all that it needs, so that a program can keep it. It has a table's header and rows, a data file, and
-//! memory for texts and keys that is used again.
+//! A collator that owns all that it needs, so that a program can keep it (`OwnedCollator`). It has a table's header and
+//! rows, a data file, and memory for texts and keys that is used again. Its texts are bytes.
+//!
+//! `OwnedKeyWriter` is a key writer that owns what it reads texts by. `fingerprint_of` is the fingerprint of what a
+//! collator keys texts by.
 #![tactic(auto)]
 
 mod calls;

@@ -1,5 +1,9 @@
 //! Plans of tailorings: which weights the targets of rules get, and which weights of the base move for that. These are
-//! definitions, as functions that compute a plan or the first error, and laws about them.
+//! definitions, as functions that compute a plan or the first error, and laws about them. Weights and elements before
+//! they are numbered are here, where new weights go, and when there is room.
+//!
+//! The crate needs no tailorings and no keys, so drafts, numbers and the proof that plans are accepted are proved side
+//! by side.
 #![tactic(auto)]
 
 mod drafts;

@@ -1,4 +1,5 @@
-//! Rules to which relations are added one at a time.
+//! `RulesBuilder`: rules to which relations are added one at a time. It keeps the relations so far, and copies of the
+//! anchors and expansions in which no later target may occur.
 
 ghost use Rattle.std.specs.Prelude.{◌≡◌, ◌<◌, ◌++◌, ◌∷◌, [], ◌⊎◌, ℕ, Contains, IfErr, IsFalse, IsTrue, List, OnOk, length};
 ghost use Rattle.uca_text.specs.Occurring.{OccursInOrder};

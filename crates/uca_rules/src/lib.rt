@@ -1,5 +1,14 @@
-//! Tailoring rules (UTS #35 Part 5, section 3): a reader for a profile of their syntax, the relations that they mean, and
-//! the texts that they leave as they are.
+//! Tailoring rules (UTS #35 Part 5, section 3): a reader for a profile of their syntax, the relations that they mean,
+//! and the texts that they leave as they are.
+//!
+//! Rules are read in steps of their own:
+//!
+//! ```text
+//! rules bytes ─> UTF-8 ─> characters with positions ─> texts (pieces) ─> statements ─> RulesBuilder ─> Rules
+//! ```
+//!
+//! `read_rules` goes from left to right and stops at the first error. Each step has a definition over the whole list of
+//! characters. `specs/Reading.antt` and `proofs/Progress.antt` say how far the reader has come.
 #![tactic(auto)]
 
 mod characters;

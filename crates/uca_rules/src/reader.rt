@@ -1,4 +1,5 @@
-//! The reader of rules.
+//! Reads statements one at a time, from left to right: a reset, a relation, or a starred relation, whose targets
+//! `starred.rt` reads.
 
 ghost use Rattle.std.specs.Prelude.{◌≡◌, ◌≢◌, ◌⊎◌, ◌<◌, ◌≤◌, ◌++◌, ◌∷◌, [], ℕ, List, None, Some, IsFalse, IsTrue, length, IfOk, IfErr, IfSome, OnOk, MatchResult};
 ghost use Rattle.uca_values.specs.Content.{properties_of};

@@ -1,4 +1,4 @@
-//! Reading starred texts.
+//! Reading the targets of a starred text, each range one code point at a time.
 
 ghost use Rattle.std.specs.Prelude.{◌≡◌, ◌≢◌, ◌<◌, ◌++◌, ◌∷◌, [], ℕ, List, length, IfErr, IfNone, IfOk, IfSome, OnOk};
 ghost use Rattle.uca_rules.specs.declared.characters.Character.{Character};

@@ -1,4 +1,4 @@
-//! Reading the texts of relations that are not starred.
+//! Reading the texts of relations that are not starred. Each is brought to a `Normal`.
 
 ghost use Rattle.std.specs.Prelude.{◌≡◌, ◌∷◌, [], IfErr, IfOk, List, MatchOption, Option, false};
 ghost use Rattle.uca_values.specs.Content.{properties_of};

@@ -1,4 +1,5 @@
-//! Reading texts, starred or not.
+//! Reading texts, starred or not. A text is read as symbols: its characters, and in a starred text the hyphens of
+//! ranges.
 
 ghost use Rattle.std.specs.Prelude.{◌≡◌, ℕ, ◌<◌, ◌≤◌, ◌≢◌, ◌⊎◌, ◌∷◌, ◌++◌, [], ◌↔◌, take, IsTrue, IsFalse, Some, None, length, List, IfOk, IfErr, OnOk, MatchOption, true, false};
 ghost use Rattle.uca_values.specs.Content.{properties_of};

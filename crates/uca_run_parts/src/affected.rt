@@ -1,4 +1,8 @@
-//! The run that prints the lines that rules affect, and its part that others share: printing the lines that are affected.
+//! The run that prints the lines that rules affect, and its part that others share: printing the lines that an
+//! `Affects` affects (`print_affected`).
+//!
+//! It reads a data file and rules, and no table. It gets the texts of its lines from `InputTexts`, and writes those for
+//! which `Rules::untouched` is false.
 
 ghost use Rattle.std.specs.Prelude.{◌≡◌, ◌∷◌, [], ℕ, ◌+◌, ◌-◌, ◌*◌, ◌^◌, ◌<◌, ◌≤◌, ◌||◌, false, Bool, List, Option, IfSome, OnOk, length};
 ghost use Rattle.uca_values.specs.Content.{properties_of};

@@ -1,4 +1,5 @@
-//! The run that checks whether a table is well-formed.
+//! The run that checks whether a table is well-formed. It reads the table and the data file alone, and gives them to
+//! `uca_check`.
 
 ghost use Rattle.std.specs.Prelude.{◌≡◌, ◌++◌, ◌∷◌, [], ◌||◌, true, false, IfErr, OnOk};
 ghost use Rattle.std.specs.Io.KnownBytes.{Appends};

@@ -1,4 +1,5 @@
-//! The lines of an input, and their texts.
+//! The lines of an input, and their texts. `InputLines` goes from the input to a line as UTF-8, and `InputTexts` from
+//! the input to the `Normal` of a line.
 
 ghost use Rattle.std.specs.Prelude.{◌≡◌, ℕ, List, [], Option, false, ◌+◌, ◌<◌, ◌≤◌, ◌||◌, length, chars, IfErr, IfOk, OnOk};
 ghost use Rattle.std.specs.Bool.{OnTrue};

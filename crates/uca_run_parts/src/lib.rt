@@ -1,5 +1,9 @@
-//! What the runs of the command share: their errors, the files and the lines that they read, and what they write. The runs
-//! that make no keys are here too: that of `check`, and that of the lines that rules affect.
+//! What the runs of the command share: their errors (`RunFault`), the files and the lines that they read, and what they
+//! write. The files of all runs are read here (such as `read_tailor_files` and `read_audit_files`), and keys are
+//! printed. The runs that make no keys are here too: that of `check` (`run_check`), and that of the lines that rules
+//! affect (`run_affected`).
+//!
+//! It needs no code of keys. So the runs that have none are proved beside that code.
 #![tactic(auto)]
 
 pub mod affected;

@@ -1,6 +1,6 @@
-//! Table files: collation elements in the format of Unicode's `allkeys.txt` (UTS #10, section 9), read line
-//! by line. This crate also has the types of what was read, its check, the writer of its canonical text,
-//! and the reader of data files.
+//! Table files: collation elements in the format of Unicode's `allkeys.txt` (UTS #10, section 9), read line by line
+//! (`read_table`, `read_packed_table`). The reader of data files is here too (`read_data`), and the writer of the
+//! canonical text of a table (`write_table`). The crate passes on the types of what was read, and the check of tables.
 #![tactic(auto)]
 
 mod canonical;

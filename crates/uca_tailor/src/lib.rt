@@ -1,6 +1,12 @@
-//! The planner: a tailored table and its certificate, made from a base and rules. It works in two parts. `drafts` makes the rows
-//! before weights are numbered, relation by relation, and says where the new weights go. `numbers` puts the weights of a level in
-//! their order and gives each its number.
+//! The planner: a tailored table and its certificate, made from a base and rules (`tailor`).
+//!
+//! ```text
+//! base, rules ─> positions of all keys (a KeyMap) ─> drafts: relation by relation ─> a list of weights for each level
+//!             ─> numbers ─> rows, runs ─> Table, Certificate ─> the certificate's file, then standard output
+//! ```
+//!
+//! Three modules do this, and the first two do not know each other. `drafts` makes the drafts, `numbers` the numbers, and
+//! `plan` the table and the certificate of both. No audit runs: a law of `uca_acceptance` says that every plan is accepted.
 #![tactic(auto)]
 
 mod drafts;

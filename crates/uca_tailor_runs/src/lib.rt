@@ -1,4 +1,5 @@
-//! The runs over the files of a tailoring: tailoring a table by rules, and auditing what came of it.
+//! The runs over the files of a tailoring: tailoring a table by rules (`run_tailor`, `write_tailored`), and auditing
+//! what came of it (`run_audit`).
 #![tactic(auto)]
 
 pub mod audit;

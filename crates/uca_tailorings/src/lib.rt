@@ -1,5 +1,6 @@
 //! Tailorings of tables: when one is accepted, and what that means for its relations and for all texts. These are
-//! definitions, and the law that joins them: an accepted tailoring changes no text in which no target occurs.
+//! definitions, and the law that joins them: an accepted tailoring changes no text in which no target occurs. The crate
+//! has no code but the laws.
 #![tactic(auto)]
 
 mod conditions;

@@ -1,5 +1,5 @@
-//! Texts for collation: code points in Normalization Form D (UAX #15), each with its canonical
-//! combining class (UAX #44), within fixed limits on length and on runs of non-starters.
+//! Texts for collation: code points in Normalization Form D (UAX #15), each with its canonical combining class (UAX
+//! #44), within fixed limits on length and on runs of non-starters. `normal` makes such a text.
 #![tactic(auto)]
 
 mod decompositions;

@@ -1,4 +1,18 @@
-//! Comparison of many texts as they are: texts of plain code points are not normalized first.
+//! `TextComparer`: comparison of many texts as they are. Texts of plain code points are not normalized first.
+//!
+//! The program `uca` has no such comparer, so it does not wait for this crate.
+//!
+//! Each plain code point with which both texts begin is looked up once (`shared`). Say that at most 32 bytes of each
+//! text are left: so few bytes have no run of marks that is too long. If the first elements there differ at level 1,
+//! no more is read (`primaries`). Otherwise code points with the same weight at level 1 in both texts are passed, and
+//! the next ones are looked at in the same way.
+//!
+//! If that does not decide, the elements of both rests are walked as `compare` walks them (`plain_comparison`). A
+//! pair with a code point that is not plain is normalized first.
+//!
+//! Of two texts that are the same bytes only the elements are counted, since the result has their number. So each
+//! code point is looked up, which also judges the text. Where one is not in the cache or not plain, the text is normalized
+//! once.
 #![tactic(auto)]
 
 mod itself;

@@ -1,5 +1,5 @@
-//! Laws of upgrades of stored keys. A database has lines and their keys, and a new table comes. These laws go from the bytes
-//! of the files to the order of the keys that the database then has.
+//! What a new table means for stored keys, as laws: a database has lines and their keys, and a new table comes. The
+//! laws go from the bytes of the files to the order of the keys that the database then has.
 #![tactic(auto)]
 
 mod laws;

@@ -1,5 +1,8 @@
-//! What table files and data files mean: tables of collation elements, their header, and the
-//! properties of code points. `uca_table` reads them from bytes.
+//! What table files and data files mean: tables of collation elements (`Table`, `Row`, `Header`), and the properties of
+//! code points (`Data`). `TableFault` says why a file is rejected, and `PackedTable` has the rows of a table in a few
+//! lists. `uca_table` reads all of them from bytes.
+//!
+//! The values are apart from the readers. What reads texts needs the values alone, so it is proved beside the readers.
 #![tactic(auto)]
 
 pub mod characters;

@@ -1,5 +1,9 @@
 //! Tables whose rows are kept in three lists, however many rows there are: for programs that look keys up, and need no
 //! list for each row.
+//!
+//! A table of 33,000 rows has 66,000 lists, a key and elements for each row. Where rows are only looked up they are
+//! packed (`PackedRows`). One list has the code points of all keys, one has all elements, and a third one says where
+//! each row has its part of both. Reading packs the rows, and a `Trie` takes them over. `read_table` unpacks them.
 ghost use Rattle.std.specs.Prelude.{◌≡◌, ◌<◌, ℕ, List, [], ◌∷◌, ◌++◌, length, take, slice_index_or, IfOk, IfErr, OnOk, OnErr};
 ghost use Rattle.uca_weights.specs.declared.Element.{Element};
 ghost use Rattle.uca_values.specs.Content.{Entry};

@@ -1,7 +1,8 @@
 //! Where bytes come from and where they go: a reader and a writer that know whether they have failed.
 //!
-//! The readers and writers of the standard library try again where a call was interrupted. These do
-//! not: an error of any kind ends the call, and is remembered.
+//! Bytes come in through a `Source` and go out through a `Sink`. These are thin wrappers, which remember whether the
+//! reader or the writer has failed. Everything between them is a function of those bytes, and the contracts of the runs
+//! say which.
 
 pub mod sink;
 pub mod source;

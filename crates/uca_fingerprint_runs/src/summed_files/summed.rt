@@ -1,4 +1,5 @@
-//! A parser of a file of lines that sums the bytes of the lines.
+//! A parser of a file of lines that sums the bytes of the lines. It hashes each line before the file's own parser takes
+//! it. So the bytes are read once, and are not kept.
 
 ghost use Rattle.uca_fingerprint_runs.specs.Sums.{HoldsLines};
 

@@ -1,4 +1,10 @@
 //! Files that are written under another name, and get their own once they are whole.
+//!
+//! The other name is `uca-certificate-N.tmp` in the same folder, with the first N from 0 to 99 that no file has. Once
+//! all bytes are on the disk (`fsync`), the file gets its own name in one step (`rename`). Where a step fails, it is
+//! removed. A run that is killed may leave it.
+//!
+//! Two names are of one file where the system gives one device number and one inode for both.
 
 use std::fs::{File, Metadata, OpenOptions};
 use std::io::{ErrorKind, Write};

@@ -1,4 +1,8 @@
 //! Texts of relations, read over the rows so far.
+//!
+//! One map of keys to their positions (`KeyMap`) serves the texts of all relations. It gives what a text is matched
+//! as (`Matches`): positions, and code points that no key covers. The law `relations_read_over_all_keys` of
+//! `uca_plans` allows for keys that have no row yet.
 
 ghost use Rattle.std.specs.Prelude.{◌≡◌, ◌++◌, ℕ, List, OnOk, map, true};
 ghost use Rattle.uca_values.specs.Content.{properties_of};
