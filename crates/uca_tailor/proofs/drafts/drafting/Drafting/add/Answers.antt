@@ -12,7 +12,7 @@ use Rattle.uca_rules.specs.declared.relations.Relation.{Relation}
 use Rattle.uca_tailor.specs.inside.Ready.{basis_in, ArePositionsWith, IsReady, IsRejected, ReadsAlike, TakesRow}
 use Rattle.uca_tailor.specs.declared.drafts.targets.TargetDraft.{TargetDraft}
 use Rattle.uca_tailor.specs.inside.Targets.{drafted_with}
-use Rattle.uca_tailor.proofs.drafts.DraftingSteps.{drafted_by_rows}
+use Rattle.uca_tailor.proofs.DraftLemmas.DraftingSteps.{drafted_by_rows}
 use Rattle.uca_tailor.proofs.drafts.drafting.Drafting.add.Goals as goal
 
 -- The same rows have the same positions.

@@ -8,7 +8,7 @@ use Rattle.uca_plans.specs.declared.drafts.DraftWeight.{DraftWeight}
 use Rattle.uca_plans.specs.declared.drafts.DraftWeight.TheVariants.{Base, New}
 use Rattle.uca_plans.specs.Lists.{IsNamedBelow}
 use Rattle.uca_tailor.specs.inside.NumberTables.{AreTables}
-use Rattle.uca_tailor.proofs.numbers.RunLaws.{rest_from}
+use Rattle.uca_tailor.proofs.NumberLemmas.RunLaws.{rest_from}
 
 -- what is written back over a whole list is what was written
 pub as_far : {A : Type 0} (xs rest : List A) (n : ℕ) → length xs ≡ n → take n (xs ++ rest) ≡ xs

@@ -27,8 +27,8 @@ use Rattle.uca_plans.proofs.PlanSteps.{target_row, step_of}
 use Rattle.uca_tailor.specs.inside.KeyRows.{IsRowOf}
 use Rattle.uca_tailor.specs.inside.Ready.{IsReady, IsRejected}
 use Rattle.uca_plans.proofs.PlanKeys.{keys_of_drafts}
-use Rattle.uca_tailor.proofs.drafts.ListedKeys.{targets_more, relations_more}
-use Rattle.uca_tailor.proofs.drafts.KeyLookups.{not_in_front, row_in_front, front_is}
+use Rattle.uca_tailor.proofs.DraftLemmas.ListedKeys.{targets_more, relations_more}
+use Rattle.uca_tailor.proofs.DraftLemmas.KeyLookups.{not_in_front, row_in_front, front_is}
 
 -- ---- One relation
 

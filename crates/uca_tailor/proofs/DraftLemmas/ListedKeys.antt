@@ -14,7 +14,7 @@ use Rattle.uca_plans.proofs.KeyPlaces.{with_key_is}
 use Rattle.uca_plans.proofs.SameReading.{among_kept, target_of_among, targets_append}
 use Rattle.uca_plans.proofs.PlanKeys.{AreApart, among_contained, apart_of_distinct, apart_with_key}
 use Rattle.uca_tailor.specs.inside.KeyRows.{AreListed}
-use Rattle.uca_tailor.proofs.drafts.MatchReadings.{placed_among}
+use Rattle.uca_tailor.proofs.DraftLemmas.MatchReadings.{placed_among}
 
 -- ---- Base keys and targets
 
