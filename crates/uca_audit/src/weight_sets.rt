@@ -17,9 +17,9 @@ const WEIGHT_COUNT: usize = 0x1_0000;
 pub(crate) struct WeightSet<A: Allocator> {
     /// Whether each weight of level 1 is in it.
     primary: Vec<bool, A>,
-    /// The same for level 2.
+    /// Whether each weight of level 2 is in it.
     secondary: Vec<bool, A>,
-    /// The same for level 3.
+    /// Whether each weight of level 3 is in it.
     tertiary: Vec<bool, A>,
 }
 

@@ -34,7 +34,7 @@ pub(crate) fn changes<O: Opens, W: Write>(
     }
 }
 
-// The same, where the certificate is none of the files that are read.
+// `changes`, where the certificate is none of the files that are read.
 fn change_files<O: Opens, W: Write>(
     alloc: Global,
     opener: &mut O,

@@ -191,7 +191,7 @@ fn tailor<O: Opens, W: Write>(
     }
 }
 
-// The same, where the certificate is none of the files that are read.
+// `tailor`, where the certificate is none of the files that are read.
 fn tailor_files<O: Opens, W: Write>(
     alloc: Global,
     opener: &mut O,

@@ -226,7 +226,7 @@ impl<A: Allocator> KeyBuffer<A> {
         self.levels.key()
     }
 
-    /// The same key, for the caller to keep.
+    /// The key that was written last, for the caller to keep.
     pub fn into_bytes(self) -> Vec<u8, A>
         ensures { result.items ≡ self.key }
     {

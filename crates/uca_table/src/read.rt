@@ -106,7 +106,7 @@ fn read_counted<A: Allocator + Copy, R: Read>(
     read_to_end(alloc, source)
 }
 
-// The same, without the claim that nothing else is returned.
+// As `read_counted`, without the claim that nothing else is returned.
 fn read_to_end<A: Allocator + Copy, R: Read>(
     alloc: A,
     source: &mut Source<R>,

@@ -55,7 +55,7 @@ fn hexadecimal(word: &[u8]) -> Option<u32>
     Some(number as u32)
 }
 
-// The same number, or `NO` or more if a byte is no digit.
+// The number that four to six digits stand for, or `NO` or more if a byte is no digit.
 fn number_or_more(word: &[u8]) -> u64
     requires least { 4 ≤ length word.now }
     requires most { length word.now ≤ 6 }
