@@ -1,4 +1,4 @@
--- Conditions in turn.
+-- The conditions of an audit by their numbers: what is met after each one, and how an error of a part is passed on.
 use Rattle.std.proofs.Common.{◌≡◌, ◌⊎◌, ⊎_elim, inl, inr, ℕ, ◌+◌, ◌<◌, ◌==◌, if◌then◌else◌, Result, Ok, Err, refl, ap, sym, subst, ◌∙◌, arith}
 use Rattle.std.specs.Result.{IsErrAnd}
 use Rattle.std.proofs.lemmas.Bool.{cases_lt}

@@ -1,4 +1,4 @@
--- New weights that are fresh: which weights are new twice.
+-- Condition 10, that new weights are fresh: which weights are new twice, and what the pass over all placements finds.
 use Rattle.std.proofs.Common.{◌≡◌, ◌⊎◌, inl, inr, ⊎_elim, ◌↔◌, ℕ, suc, ◌+◌, ◌<◌, ◌≤◌, Bool, IsTrue, length, take, drop, get_or, List, [], ◌∷◌, ◌++◌}
 use Rattle.std.proofs.Common.{Option, Some, None, MatchOption, cond, true, false, refl, sym, ap, subst, ◌∙◌, arith, add-one}
 use Rattle.std.specs.Prelude.{⊤}

@@ -1,4 +1,4 @@
-//! Sets of weights.
+//! `WeightSet`: which weights of each level are in a set, and whether one of them is between two others.
 
 ghost use Rattle.std.specs.Prelude.{◌≡◌, ◌↔◌, ◌⊎◌, ℕ, length, vec_len, IfOk, IsTrue, false, slice_index_or};
 ghost use Rattle.uca_weights.specs.declared.Level.{Level};

@@ -1,4 +1,4 @@
--- Runs that are made from the last member to the first.
+-- The runs of a level's map, made from the last member to the first: a weight continues the last run or begins a new one.
 use Rattle.std.proofs.Common.{◌≡◌, ℕ, suc, ◌+◌, ◌<◌, Bool, true, false, ◌&&◌, List, [], ◌∷◌, ◌++◌, length, get_or, take, drop, reverse, nat_eq, if◌then◌else◌, refl, sym, ap, ◌∙◌, arith, subst, drop-cons}
 use Rattle.std.proofs.Math.ListN.{set}
 use Rattle.std.proofs.Math.Seq.{set-append_seam}

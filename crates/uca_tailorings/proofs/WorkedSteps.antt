@@ -1,4 +1,4 @@
--- What the conditions ask of a tailoring whose rows, relations and maps are given one by one.
+-- Lemmas for the worked tailorings: what the conditions ask where rows, relations and maps are listed one by one.
 use Rattle.std.proofs.Common.{◌≡◌, ◌⊎◌, ℕ, ◌+◌, List, [], ◌∷◌, ◌++◌, Option, None, Some, IfSome, inl, inr, ⊎_elim}
 use Rattle.std.proofs.Common.{refl, sym, ap, subst, subst₂, ◌∙◌, arith, append_assoc, append-nil}
 use Rattle.std.specs.List.{AllByRecursion}

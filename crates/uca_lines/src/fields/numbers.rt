@@ -1,4 +1,4 @@
-//! Numbers in a text.
+//! Reads numbers of a file, such as `1C47`, from their digits, and gives the digits of a number.
 
 ghost use Rattle.std.specs.Prelude.{◌≡◌, ◌*◌, ◌≤◌, ◌<◌, ◌^◌, ◌%◌, length, IfSome, [], ◌∷◌};
 ghost use Rattle.uca_lines.specs.DigitValues.{value_or_more, number_or_more};
