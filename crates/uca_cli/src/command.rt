@@ -30,7 +30,6 @@ use uca_words::{
     TailorWords, Words, read_words,
 };
 
-// `check`.
 fn check<O: Opens, W: Write>(
     alloc: Global,
     opener: &mut O,
@@ -48,7 +47,6 @@ fn check<O: Opens, W: Write>(
     }
 }
 
-// `keys`.
 fn keys<O: Opens, I: Read, W: Write>(
     alloc: Global,
     opener: &mut O,
@@ -95,7 +93,6 @@ fn print<T: Read, D: Read, I: Read, W: Write>(
     }
 }
 
-// `sort`.
 fn sort<O: Opens, I: Read, W: Write>(
     alloc: Global,
     opener: &mut O,
@@ -121,7 +118,6 @@ fn sort<O: Opens, I: Read, W: Write>(
     }
 }
 
-// `compare`.
 fn compare<O: Opens, W: Write>(
     alloc: Global,
     opener: &mut O,
@@ -146,7 +142,6 @@ fn compare<O: Opens, W: Write>(
     }
 }
 
-// `fingerprint`.
 fn fingerprint<O: Opens, W: Write>(
     alloc: Global,
     opener: &mut O,
@@ -169,7 +164,6 @@ fn fingerprint<O: Opens, W: Write>(
     }
 }
 
-// `tailor`.
 fn tailor<O: Opens, W: Write>(
     alloc: Global,
     opener: &mut O,
@@ -255,7 +249,6 @@ fn keep_tailored<O: Opens, W: Write>(
     print_table(table, out)
 }
 
-// `audit`.
 fn audit<O: Opens, W: Write>(
     alloc: Global,
     opener: &mut O,
@@ -290,7 +283,6 @@ fn audit<O: Opens, W: Write>(
     }
 }
 
-// `affected`.
 fn affected<O: Opens, I: Read, W: Write>(
     alloc: Global,
     opener: &mut O,
