@@ -1,4 +1,4 @@
-//! What comes of a call.
+//! `Answer`: what comes of a call, its end, what went out and which streams failed; and `Wanted`, what should come of it.
 
 use crate::cases::Case;
 use crate::libraries::{makes, reads, writes};

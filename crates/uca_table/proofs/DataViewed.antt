@@ -1,4 +1,4 @@
--- What a reader of lines says of its taker, as what it says of a view of it.
+-- A reader of lines says something of the state of a taker of lines: it is so of each view of that state too.
 use Rattle.std.proofs.Common.{ℕ, List, Option, Some, None, IfSome, inl, inr}
 use Rattle.std.specs.Option.{IsSomeAnd}
 use Rattle.uca_lines.specs.declared.files.FileForm.{FileForm}
