@@ -34,7 +34,7 @@ pub record NamedFile : Type 0 where
   pub role : Role
   pub name : List ℕ
 
--- the same from its parts
+-- a file that is to be opened, from its parts
 abbrev pub file_for : Role → List ℕ → NamedFile
 file_for role name = record { role = role; name = name }
 

@@ -140,7 +140,7 @@ written {S} steps s start t u es (Ok v) key weighting same begins ran ends under
     (run steps s es true (to_end steps s es (u, (t, from, ends))), refl, refl, is ∙ ap (λ w. key_bytes w es) under)
 written steps s start t u es (Err e) key weighting same begins ran ends under is = tt
 
--- the same for a key that was taken out of its buffer
+-- a key that was taken out of its buffer is the key of a whole run
 pub taken : {S : Type 0} (steps : S → Option Element → S → Type 0) (s : S) (held key : List ℕ) (weighting : Weighting)
     → key ≡ held → WholeRun steps s (λ p. held ≡ key_bytes weighting p.items) → WholeRun steps s (λ p. key ≡ key_bytes weighting p.items)
 taken steps s held key weighting is (p, from, whole, holds) = (p, from, whole, is ∙ holds)

@@ -1,4 +1,4 @@
--- Relation after relation.
+-- What each relation in turn adds to the drafts, or why it is rejected.
 use Rattle.std.proofs.Common.{◌≡◌, ℕ, ◌+◌, ◌<◌, ◌≤◌, List, [], ◌∷◌, ◌++◌, length, take, drop, map, get_or, set, true, false, ltb, Option, Some}
 use Rattle.std.proofs.Common.{None, Ok, Err, ◌⊎◌, inl, inr, refl, sym, ap, ap₂, ◌∙◌, ⊎_elim, arith, length-append, length-set}
 use Rattle.std.proofs.lemmas.Bool.{or_left, or_right, or_from, or_parts, lt-ltb, le-ltb, ltb-false, cond-true, cond-false, cases_lt}

@@ -1,4 +1,4 @@
--- The keys that have positions.
+-- The keys of a base and the targets of relations, each once: the list that gives keys their positions.
 use Rattle.std.proofs.Common.{◌≡◌, ℕ, ◌+◌, ◌<◌, ◌≤◌, List, [], ◌∷◌, ◌++◌, length, take, drop, get_or, true, false, is_some, Option, Result, Ok, Err, IfOk}
 use Rattle.std.proofs.Common.{Bor, refl, sym, ap, ap₂, subst, ◌∙◌, ⊎_elim, arith, length-append, append_assoc, append-nil, take-append-drop}
 use Rattle.std.proofs.lemmas.List.{take_more, take_all, length-map, map-append}

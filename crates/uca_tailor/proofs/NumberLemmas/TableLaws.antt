@@ -46,7 +46,7 @@ new_first ms ns bs vs p n low are = record {
   new = λ q. grind (arith, common_steps, are.new q);
 }
 
--- the same from a position on
+-- from a position on, with the number of one more base weight
 pub base_more : (ms : List DraftWeight) (ns bs vs : List ℕ) (i next w : ℕ) (d : DraftWeight) → next ≡ i + 1 → i < length ms → length ns ≡ length ms
     → get_or ms i d ≡ Base w → w < 0x1_0000 → AreTables (drop next ms) (drop next ns) bs vs
     → AreTables (drop i ms) (drop i ns) (set bs w (get_or ns i 0)) vs
