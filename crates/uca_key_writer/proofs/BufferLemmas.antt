@@ -96,7 +96,7 @@ pub less_room : (more less : ℕ) (counts : Counts) (primary secondary tertiary 
 less_room more less counts primary secondary tertiary quaternary fewer room =
     record { primary = omega arith; secondary = omega arith; tertiary = omega arith; quaternary = omega arith }
 
--- the same slots have the same room
+-- equal slots have equal room
 pub room_in : (more : ℕ) (counts : Counts) (p s t q primary secondary tertiary quaternary : List (List ℕ))
     → primary ≡ p → secondary ≡ s → tertiary ≡ t → quaternary ≡ q → HasRoom more counts p s t q → HasRoom more counts primary secondary tertiary quaternary
 room_in more counts p s t q primary secondary tertiary quaternary same_primary same_secondary same_tertiary same_quaternary room = record {

@@ -1,4 +1,4 @@
--- What a table in the making keeps.
+-- The set of the keys of a table in the making, by which duplicate keys are found.
 use Rattle.std.specs.Prelude.{◌≡◌, ℕ, ◌/◌, ◌%◌, ◌==◌, ◌↔◌, Bool, true, List, [], ◌∷◌, Some, Contains, slice_index}
 use Rattle.std.specs.Int.{bit_at}
 use Rattle.uca_values.specs.Content.{Entry, is_version_name, keys_of}

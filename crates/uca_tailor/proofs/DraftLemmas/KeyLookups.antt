@@ -1,4 +1,4 @@
--- The positions of keys among others.
+-- At which position a key is found in a list of keys, and in two lists in turn.
 use Rattle.std.proofs.Common.{◌≡◌, ℕ, suc, ◌+◌, List, [], ◌∷◌, ◌++◌, length, Bool, true, false, cond, ltb, ◌||◌, is_some, Option, Some, None, Result, Ok, Err, IfOk}
 use Rattle.std.proofs.Common.{MatchOption, refl, sym, ap, ◌∙◌, arith}
 use Rattle.std.proofs.lemmas.Bool.{false≢true, cond-false, or_parts, lt-ltb, le-ltb}
