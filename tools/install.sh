@@ -46,7 +46,8 @@ put 644 "$top/completions/uca.bash" "$to/share/bash-completion/completions/uca"
 put 644 "$top/completions/_uca" "$to/share/zsh/site-functions/_uca"
 put 644 "$top/completions/uca.fish" "$to/share/fish/vendor_completions.d/uca.fish"
 put_documents 644 LICENSE LICENSE-MIT LICENSE-APACHE NOTICE
-put_documents 644 README.md CHANGELOG.md CONTRIBUTING.md SECURITY.md bench/README.md
+put_documents 644 README.md CHANGELOG.md CONTRIBUTING.md SECURITY.md
+put_documents 644 bench/README.md bench/time.svg bench/key_bytes.svg
 for page in "$top"/docs/*.md "$top"/examples/* "$top"/examples/*/*; do
     put_documents 644 "${page#"$top"/}"
 done
