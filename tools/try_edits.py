@@ -1,12 +1,12 @@
 #!/usr/bin/env python3
-"""Tries by hand the wrong bodies that are not part of the gate: tools/edits/CRATE/*.edit.
+"""Tries by hand the wrong bodies that are not part of the gate: edits/CRATE/*.edit.
 
     tools/try_edits.py [CRATE | FILE.edit ..]          all crates that have some, unless crates or single edits are named
 
 They have the format of the must-fail edits of `rt ci`, which tries only those under crates/*/must-fail/. For each it says
 that the prover rejects it, as it must, that it no longer applies, or NOT REJECTED: it was proved. Then the status is 1.
 
-The folders tools/edits/CRATE/by_tests have bugs that a test rejects, and maybe no contract: out of memory where memory is there. The first line of each
+The folders edits/CRATE/by_tests have bugs that a test rejects, and maybe no contract: out of memory where memory is there. The first line of each
 names the test that rejects it. This script tries those only if they are named, and the prover may accept them.
 
 Each edit is tried over a copy of what `tools/check.py CRATE` keeps, which runs first: so only what the edit changes is proved.
@@ -21,14 +21,14 @@ import check
 
 
 def edits_of(crate):
-    folder = f"{build.kit.TOP}/tools/edits/{crate}"
+    folder = f"{build.kit.TOP}/edits/{crate}"
     return sorted(f"{folder}/{it}" for it in os.listdir(folder) if it.endswith(".edit"))
 
 
 def named(names):
     """The edits that the arguments name, by their crates."""
     found = {}
-    for name in names or sorted(os.listdir(f"{build.kit.TOP}/tools/edits")):
+    for name in names or sorted(os.listdir(f"{build.kit.TOP}/edits")):
         if name.endswith(".edit"):
             path = os.path.realpath(name)
             folder = os.path.dirname(path)
