@@ -7,22 +7,31 @@ The libraries below it are proved first if they have changed, as `tools/build.py
 earlier checks kept in its folder out/: so after an edit mostly what changed is checked again. With --test as the first flag
 its tests are checked too. Only `rt ci` is the gate.
 """
-import os
-import subprocess
 import sys
 
 import build
+import kit
+
+
+def check(rt, name, flags):
+    """Proves the libraries below a crate, checks it with these flags, and returns the status."""
+    crate = rt.crates[name]
+    if crate.below() and not build.build(rt, crate.below()):
+        return 1
+    jobs = [] if any(it.startswith("--jobs") for it in flags) else ["--jobs", "1"]
+    return crate.check([*jobs, *(it for it in flags if it != "--test")], tests="--test" in flags)
+
+
+def opened(*purposes, instead="`rt check` goes over the libraries below, one at a time"):
+    """The kit, for checks and for these purposes."""
+    return kit.opened("crates", "lanes", "machine", *purposes, instead=instead)
 
 
 def main(name, flags):
-    rt, every = build.open_repository()
-    crate = every.get(name) or sys.exit(f"crates.txt names no crate {name}")
-    if crate.below() and not build.build(rt, crate.below()):
-        return 1
-    os.makedirs(f"{crate.folder}/out", exist_ok=True)
-    jobs = [] if any(it.startswith("--jobs") for it in flags) else ["--jobs", "1"]
-    words = crate.words([*jobs, *(it for it in flags if it != "--test")], tests="--test" in flags, keeps=False)
-    return subprocess.run([*rt.rtlib.guarded(), rt.rtlib.RATTLE, "check", *words, *rt.rtlib.KEPT], cwd=crate.folder).returncode
+    if name not in kit.uses():
+        sys.exit(f"crates.txt names no crate {name}")
+    rt = opened()
+    return check(rt, name, flags) if rt else kit.plain("check", *flags, folder=kit.folder_of(name))
 
 
 if __name__ == "__main__":
