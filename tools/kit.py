@@ -39,7 +39,6 @@ USED = {
     "lanes": {"in_lanes": (1,), "rtlib.ThreadPoolExecutor": (0,)},
     "edits": {"read_edit": (2,)},
     "tries": {"must_fail": (4,)},
-    "layout": {"rtlib.RATTLE": None, "rtlib.files_of": (1,)},
 }
 
 # The lanes of `rt` count a task with this word as one processor. A task with another one counts as its share of those that are idle.
@@ -205,7 +204,7 @@ class Kit:
         in_lanes = self.rt.in_lanes
         self.rt.in_lanes = lambda tasks: in_lanes({key: (*task[:3], times.task(key, idle, task[3])) for key, task in tasks.items()})
 
-    # ---- Edits, and the layout of files
+    # ---- Edits, and files
 
     def edited(self, edit, folder):
         """The texts of the files that an edit changes, by their paths in the crate's folder, or None; and why it cannot be applied."""
@@ -223,11 +222,6 @@ class Kit:
     def files_of(self, folder):
         """The files of a crate that the prover reads."""
         return [*self.rtlib.files_of(folder)]
-
-    def ill_laid_out(self, files):
-        """What `rattle fmt` says of files that are not in its layout."""
-        ran = subprocess.run([self.rtlib.RATTLE, "fmt", "--check", *files], stdout=subprocess.DEVNULL, stderr=subprocess.PIPE, encoding="utf-8", errors="replace")
-        return ran.stderr.splitlines() if ran.returncode else []
 
 
 class Crate:
