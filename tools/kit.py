@@ -138,7 +138,9 @@ class Kit:
     # ---- The machine, and the gate
 
     def processors(self):
-        return self.rt.processors()
+        """How many processors there are to use: no more than RT_JOBS says, if it is set."""
+        most = os.environ.get("RT_JOBS", "")
+        return min(self.rt.processors(), int(most)) if most.isdigit() and int(most) else self.rt.processors()
 
     def free_memory(self):
         return self.rt.free()
