@@ -119,7 +119,7 @@ def prose_of(name):
 
 
 def all_files():
-    patterns = ["*.md", "docs/*.md", "bench/*.md", "examples/**/*.md", "tools/*.py", "bench/*.py", "bench/*_main.txt", "examples/**/*.py"]
+    patterns = ["*.md", "docs/*.md", "bench/*.md", "examples/**/*.md", "tools/*.py", "tests/by_hand/*.py", "bench/*.py", "bench/*_main.txt", "examples/**/*.py"]
     patterns += [f"crates/*/{it}" for it in ("src/**/*.rt", "specs/**/*.antt", "proofs/**/*.antt")]
     return sorted(os.path.relpath(it, TOP) for pattern in patterns for it in glob.glob(f"{TOP}/{pattern}", recursive=True))
 

@@ -1,7 +1,7 @@
 #!/usr/bin/env python3
 """Checks the file of a certificate that `uca tailor` makes: with real files, links, devices, permissions and full disks.
 
-    tools/certificates.py [--program PATH]        crates/uca/out/uca, unless another program is named
+    tests/by_hand/certificates.py [--uca PATH]        crates/uca/out/uca, unless another program is named
 
 Each case has a folder of its own, with the files of examples/. After a run the script compares the exit status, both outputs,
 and each file of the folder. Of a file it looks at the kind, the permission bits, the bytes, and whether it is the same file as
@@ -26,7 +26,8 @@ import subprocess
 import sys
 import tempfile
 
-TOP = os.path.dirname(os.path.dirname(os.path.realpath(__file__)))
+TOP = os.path.dirname(os.path.dirname(os.path.dirname(os.path.realpath(__file__))))
+NEEDS, WANTS = [], []
 FILES = ["table.txt", "data.txt", "rules.txt"]
 NOBODY = 65534
 OLD = b"an old certificate\n"
@@ -298,8 +299,8 @@ def others(cases):
 
 def main():
     parser = argparse.ArgumentParser(description=__doc__.split("\n", maxsplit=1)[0])
-    parser.add_argument("--program", default=f"{TOP}/crates/uca/out/uca", help="the program, crates/uca/out/uca unless named")
-    program = parser.parse_args().program
+    parser.add_argument("--uca", default=f"{TOP}/crates/uca/out/uca", help="the program, crates/uca/out/uca unless named")
+    program = parser.parse_args().uca
     if not os.path.exists(program):
         sys.exit(f"there is no {program}: run tools/build.py first")
     with tempfile.TemporaryDirectory(prefix="uca-certificates-") as folder:

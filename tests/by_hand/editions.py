@@ -2,7 +2,7 @@
 """Goes from Unicode 13.0.0 to the edition of /usr/share/unicode with `uca changes`, and checks what comes of it.
 
     tools/build.py                       # proves and builds crates/uca/out/uca
-    tools/editions.py                    # from the top of the repository
+    tests/by_hand/editions.py                    # from the top of the repository
 
 It needs Debian's packages unicode-data (the new table, and both data files) and perl-modules-5.36 (the old table, which Perl's Unicode::Collate has).
 Without them it says so and ends with status 2. The data file of 13.0.0 is that of the new edition without the code points that came later.
@@ -22,8 +22,10 @@ import tempfile
 import time
 import unicodedata
 
+import packages
+
 PROGRAM = "crates/uca/out/uca"
-OLD_KEYS = "/usr/share/perl/5.36/Unicode/Collate/allkeys.txt"
+NEEDS, WANTS = ["unicode-data", "perl-modules-5.36"], []
 AGES = "/usr/share/unicode/DerivedAge.txt"
 OLD_EDITION = (13, 0)
 LINES, PAIRS, SEED = 200_000, 1_000_000, 20_261_126
@@ -98,7 +100,7 @@ def old_data(new):
 def make(folder):
     """The tables and data files."""
     tool = [sys.executable, "tools/unicode_files.py"]
-    for name, words in (("new.txt", ["table"]), ("old.txt", ["table", OLD_KEYS]), ("new_data.txt", ["data"])):
+    for name, words in (("new.txt", ["table"]), ("old.txt", ["table", packages.OLD_KEYS]), ("new_data.txt", ["data"])):
         with open(folder.file(name), "wb") as file:
             subprocess.run([*tool, *words], stdout=file, check=True)
     with open(folder.file("new_data.txt"), encoding="utf-8") as file:
@@ -253,10 +255,7 @@ def main():
     parser.add_argument("--uca", default=PROGRAM, help="the program")
     parser.add_argument("--keep", help="the folder to make the files in")
     options = parser.parse_args()
-    for path, package in (OLD_KEYS, "perl-modules-5.36"), (AGES, "unicode-data"):
-        if not os.path.exists(path):
-            print(f"no {path}: install Debian's {package}")
-            sys.exit(2)
+    packages.stop_without(NEEDS)
     chosen = random.Random(SEED)
     with tempfile.TemporaryDirectory() as temporary:
         folder = Folder(options.uca, options.keep or temporary)

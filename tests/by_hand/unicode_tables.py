@@ -2,7 +2,7 @@
 """Runs the commands of docs/UNICODE.md, and says what it saw.
 
     tools/build.py                       # proves and builds crates/uca/out/uca
-    tools/unicode_tables.py              # from the top of the repository
+    tests/by_hand/unicode_tables.py              # from the top of the repository
 
 It needs the files of Debian's package unicode-data. Without an `allkeys.txt` it says so and ends with status 2. It runs the commands of
 docs/UNICODE.md as the page shows them. Then it checks the table as it is published, with the rows that tools/unicode_files.py adds, and with two of these
@@ -19,9 +19,12 @@ import tempfile
 import time
 import unicodedata
 
+import packages
+
 DOCUMENT, PROGRAM = "docs/UNICODE.md", "crates/uca/out/uca"
 LANGUAGES = ("danish", "spanish", "swedish")
-PUBLISHED = "/usr/share/unicode/allkeys.txt"
+NEEDS, WANTS = ["unicode-data"], []
+PUBLISHED = packages.NEW_KEYS
 MAKES_TABLE = "tools/unicode_files.py table"  # as the page has it
 LETTERS, SIGN, REVERSED = "\u0fb2\u0fb3", "\u0f71", "\u0f80"
 # Short i and long ī after the letters shr: they differ in U+0F71 alone.

@@ -2,8 +2,8 @@
 """Runs the program over files that are nearly right, random files and random arguments, and judges how each run ends.
 
     tools/build.py                       # proves and builds crates/uca/out/uca
-    tools/changed_files.py --jobs 4      # from the top of the repository
-    tools/changed_files.py --jobs 4 --random 100000 --words 100000      # a million runs and more
+    tests/by_hand/changed_files.py --jobs 4      # from the top of the repository
+    tests/by_hand/changed_files.py --jobs 4 --random 100000 --words 100000      # a million runs and more
 
 The files of examples/ are changed one at a time. At each position one byte is dropped, doubled, or changed to each of some others.
 Then come random bytes, or random changes at several positions, `--random` times. Each run has to end by itself. Either nothing is
@@ -18,7 +18,7 @@ that are not there, or a folder, and some are no UTF-8. Each has to end with a s
 
 `--jobs` says how many processes run side by side, each in a temporary folder of its own. The work is cut into parts. Each part has a seed
 of its own, made of `--seed`, its kind and its number. So what is tried is the same whatever the number of processes.
-What ends otherwise than it should is printed, with what did it, and the status is then 1. No test of the gate tries as many.
+What ends otherwise than it should is printed, with what did it, and the status is then 1. The last line is `N passed, M failed`, of runs. No test of the gate tries as many.
 """
 
 import argparse
@@ -34,6 +34,7 @@ FILES = ("table.txt", "data.txt", "rules.txt", "tailored.txt", "certificate.txt"
 BYTES = (0x00, 0x09, 0x0A, 0x0D, 0x20, 0x23, 0x26, 0x27, 0x2A, 0x2D, 0x2E, 0x2F, 0x30, 0x3B, 0x3C, 0x3D, 0x40, 0x46, 0x5B, 0x5C, 0x5D, 0x7A, 0x80, 0xC3, 0xFF)
 KINDS = "[A-Za-z0-9]+( [A-Za-z]+)*( at [0-9]+)?"
 SECONDS = 20
+NEEDS, WANTS = [], []
 
 # How many positions of a file, and how many random changes or lines of arguments, are one part of the work.
 PLACES, NUMBER = 20, 250
@@ -381,7 +382,7 @@ def main():
                 print(line, flush=True)
     for name, count in sorted(counts.items()):
         print("%s: %d runs" % (name, count))
-    print("%d runs, %d not as they should" % (sum(counts.values()), failed))
+    print("%d passed, %d failed" % (sum(counts.values()) - failed, failed))
     sys.exit(1 if failed else 0)
 
 

@@ -1,7 +1,7 @@
 #!/usr/bin/env python3
 """Builds the library for C, the module for Python and the extensions of SQLite and PostgreSQL, and tries them. It installs nothing.
 
-    tools/bindings.py [--uca PATH]        crates/uca/out/uca, unless another program is named
+    tests/by_hand/bindings.py [--uca PATH]        crates/uca/out/uca, unless another program is named
 
 First prove and build the static library: `tools/build.py uca_c`. Then this script makes bindings/c/out and runs
 
@@ -16,8 +16,7 @@ First prove and build the static library: `tools/build.py uca_c`. Then this scri
   has a folder of its own, listens on a Unix socket there, and is stopped afterwards;
 - all four over Unicode's table, and over that table tailored for Danish: 100,000 words of nine languages have the keys of `uca keys` and the order of `uca sort`.
 
-Debian's packages are gcc, g++, make, pkgconf, valgrind, python3, sqlite3, libsqlite3-dev, postgresql and postgresql-server-dev-15, and for the last checks unicode-data and the word lists of WORDS. What needs a command,
-a program or a file that is not here is not run, and a line says so. The last line is `N passed, M failed`, and how many were not run if there are any.
+It needs Debian's packages of NEEDS, and some checks those of WANTS. What needs a command, a program or a file that is not here is not run, and a line says so. The last line is `N passed, M failed`, and how many were not run if there are any.
 """
 import argparse
 import contextlib
@@ -34,9 +33,15 @@ import tempfile
 import time
 import zipfile
 
-TOP = os.path.dirname(os.path.dirname(os.path.realpath(__file__)))
+import packages
+
+TOP = os.path.dirname(os.path.dirname(os.path.dirname(os.path.realpath(__file__))))
 C, PYTHON, EXAMPLES = f"{TOP}/bindings/c", f"{TOP}/bindings/python", f"{TOP}/examples"
 ARCHIVE = f"{TOP}/crates/uca_c/out/libuca_c.a"
+
+NEEDS = ["gcc", "make"]
+WANTS = ["g++", "pkgconf", "valgrind", "sqlite3", "libsqlite3-dev", "postgresql", "postgresql-server-dev-15", "unicode-data", *packages.LISTS]
+
 FLAGS = ["-std=c11", "-Wall", "-Wextra", "-Wpedantic", "-Werror", "-D_POSIX_C_SOURCE=200809L", f"-I{C}/include"]
 LINES = ["lines.txt", "words_danish.txt", "words_spanish.txt", "words_swedish.txt"]
 SETTINGS = [[], ["non-ignorable"], ["shifted"], ["non-ignorable", "identical"], ["shifted", "identical"]]
@@ -963,9 +968,6 @@ def postgresql_like(program):
     return check
 
 
-WORDS = ("american-english-large", "ngerman", "french", "spanish", "polish", "portuguese", "swedish", "danish", "catalan")
-
-
 def list_of_words(path):
     """A list of words in UTF-8, or else in ISO 8859-1, as that of wswedish is."""
     found = content(path)
@@ -978,8 +980,8 @@ def list_of_words(path):
 def words(count):
     """So many words, as many of each language as there are, shuffled."""
     lists = []
-    for name in WORDS:
-        path = f"/usr/share/dict/{name}"
+    for name in packages.LISTS.values():
+        path = f"{packages.WORDS}/{name}"
         if not os.path.exists(path):
             raise NotHere(f"there is no {path}")
         lists.append(list_of_words(path))
@@ -992,8 +994,8 @@ def unicode_files(work, program):
     """Unicode's table and data file, and the table that is tailored for Danish."""
     if not os.path.exists(program):
         raise NotHere(f"there is no {program}")
-    if not os.path.exists("/usr/share/unicode/allkeys.txt"):
-        raise NotHere("there is no /usr/share/unicode/allkeys.txt")
+    if not os.path.exists(packages.NEW_KEYS):
+        raise NotHere(f"there is no {packages.NEW_KEYS}")
     for kind in ("table", "data"):
         made = run([sys.executable, f"{TOP}/tools/unicode_files.py", kind])
         with open(f"{work}/{kind}.txt", "wb") as it:

@@ -2,7 +2,7 @@
 """Lets each allocation, read and write of the built program fail in turn, and judges how each run ends.
 
     tools/build.py                       # proves and builds crates/uca/out/uca
-    tools/refusals.py                    # from the top of the repository
+    tests/by_hand/refusals.py                    # from the top of the repository
 
 `refusals.c`, beside this script, is loaded before the C library, and lets the call fail that it is told. It meets every allocation, also
 those that a library of the kit (`unicode_normalization`, `clap`) takes by itself. For each command line below there are these runs:
@@ -28,7 +28,7 @@ Where `keys`, `affected` or `rekey` ends at an input line, standard output has w
 early, it has nothing. A certificate is there just where the whole of it was written, and no temporary file is left. No run ends by a
 signal, or reads or writes again where it failed. Lines that CASES names must come: `memory` for sorting, after the last line of the
 input, and for the text that `clap` makes. What ends otherwise is printed, and the status is then 1. This is no part of the gate: it
-takes some minutes.
+takes some minutes. The last line is `N passed, M failed`: of runs with a failure, and of lines that must come.
 """
 
 import argparse
@@ -40,6 +40,7 @@ import subprocess
 import sys
 import tempfile
 
+NEEDS, WANTS = ["gcc"], []
 ROLES = {
     "check": ("table", "data"),
     "keys": ("table", "data", "input"),
@@ -225,7 +226,7 @@ class Case:
 class Trials:
     def __init__(self, options, folder):
         self.uca, self.verbose, self.folder = os.path.abspath(options.uca), options.verbose, folder
-        self.shim, self.runs, self.wrong = os.path.join(folder, "refusals.so"), 0, 0
+        self.shim, self.runs, self.passed, self.wrong = os.path.join(folder, "refusals.so"), 0, 0, 0
         self.failed, self.done_without = collections.Counter(), 0
         source = os.path.join(os.path.dirname(os.path.abspath(__file__)), "refusals.c")
         subprocess.run(["cc", "-O2", "-shared", "-fPIC", "-o", self.shim, source], check=True)
@@ -256,12 +257,16 @@ class Trials:
         self.runs += 1
         return Ending(done.returncode, done.stdout, done.stderr.decode("utf-8", "replace"), kept), told
 
+    def see(self, holds, said):
+        """Counts a check, and prints what is to say of it where it does not hold."""
+        self.passed, self.wrong = (self.passed + 1, self.wrong) if holds else (self.passed, self.wrong + 1)
+        if not holds:
+            print(said, flush=True)
+
     def judge(self, case, kind, number):
         """One run; returns whether something failed."""
         ending, told = self.run(case, kind + str(number))
-        if not case.is_allowed(kind, number, told, ending):
-            self.wrong += 1
-            print("%s, %s%d: %r, told %r" % (" ".join(case.words), kind, number, ending, told), flush=True)
+        self.see(case.is_allowed(kind, number, told, ending), "%s, %s%d: %r, told %r" % (" ".join(case.words), kind, number, ending, told))
         self.failed[kind] += bool(told)
         if told and kind in "aA":
             self.done_without += ending == case.plain
@@ -280,9 +285,7 @@ class Trials:
             number, case.reached = 0, (0, 0)
             while self.judge(case, kind, number) or number < last:
                 number += 1 if number < 2000 else 97
-        if case.must not in "".join(case.said):
-            self.wrong += 1
-            print("%s: nowhere %r" % (" ".join(case.words), case.must), flush=True)
+        self.see(case.must in "".join(case.said), "%s: nowhere %r" % (" ".join(case.words), case.must))
         print("%s: status %d" % (" ".join(case.words), case.plain.status), flush=True)
         for (status, said), count in self.endings.items() if self.verbose else ():
             print("    %4d  %d %s" % (count, status, said.split("\n")[0]), flush=True)
@@ -299,10 +302,11 @@ def main():
         trials = Trials(options, folder)
         for words, given, must in cases:
             trials.judge_all(Case(words, given, must, trials.files))
-    print("%d command lines, %d runs, %d not as they should" % (len(cases), trials.runs, trials.wrong))
+    print("%d command lines, %d runs" % (len(cases), trials.runs))
     for kind, name in FAILING.items():
         print("    %6d %s" % (trials.failed[kind], name))
     print("    %6d runs ended well though an allocation failed" % trials.done_without)
+    print("%d passed, %d failed" % (trials.passed, trials.wrong))
     sys.exit(1 if trials.wrong else 0)
 
 
