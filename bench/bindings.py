@@ -4,14 +4,14 @@
     tools/build.py uca_c && make -C bindings/c
     bench/bindings.py [TABLE DATA LINES ..]          a table, a data file, and files of lines
 
-With no arguments the table and the data file are Unicode's, and the lines are 100,000 words of nine languages, as in tools/bindings.py.
+With no arguments the table and the data file are Unicode's, and the lines are 100,000 words of nine languages, as in tests/by_hand/bindings.py.
 
 For each file it prints how many calls for keys and for comparisons there are in a second (bindings.c). The lines are sorted first. Then it
 prints the seconds of sorting without an index, and of making an index. In SQLite they are those of `uca_key` and `icu_key`, and of the
 collations `uca_..` and `icu` (sqlite_icu.c). In PostgreSQL they are those of `uca_key` and COLLATE "und-x-icu". All times are processor time, and
 each is the least of ROUNDS. The weighting is non-ignorable, but that of PostgreSQL's `uca_key` is shifted.
 
-It installs nothing. It needs Debian's packages gcc, libicu-dev and pkgconf, and for each database those of tools/bindings.py. A database that is
+It installs nothing. It needs Debian's packages gcc, libicu-dev and pkgconf, and for each database those of tests/by_hand/bindings.py. A database that is
 not here is left out, and a line says so. Compare only figures of one run.
 """
 import os
@@ -21,7 +21,7 @@ import sys
 import tempfile
 
 TOP = os.path.dirname(os.path.dirname(os.path.realpath(__file__)))
-sys.path.insert(0, f"{TOP}/tools")
+sys.path.insert(0, f"{TOP}/tests/by_hand")
 sys.dont_write_bytecode = True
 
 import bindings  # noqa: E402

@@ -4,7 +4,7 @@
     tools/build.py                 # proves and builds crates/uca/out/uca
     bench/editions.py              # from the top of the repository
 
-It needs Debian's packages unicode-data and perl-modules-5.36, as tools/editions.py does, and makes the same files. Times are processor time, user and
+It needs Debian's packages unicode-data and perl-modules-5.36, as tests/by_hand/editions.py does, and makes the same files. Times are processor time, user and
 system, the least of the runs. Reading alone is `audit-changes` with a certificate whose last line lacks its LF: it is rejected when all six files are read.
 The lines are random keys of the old table, none of them affected, and keys are made by `uca keys` and `uca keys --lines`. Their starts are taken off for lines
 and keys. Compare figures of one output alone.
@@ -18,7 +18,7 @@ import tempfile
 import unicodedata
 
 sys.dont_write_bytecode = True
-sys.path.insert(0, os.path.join(os.path.dirname(os.path.dirname(os.path.realpath(__file__))), "tools"))
+sys.path.insert(0, os.path.join(os.path.dirname(os.path.dirname(os.path.realpath(__file__))), "tests", "by_hand"))
 import editions
 
 SEED = 20_261_126

@@ -1,5 +1,5 @@
 # Completion of the command uca for bash: commands, options, the two weightings, and files.
-# tools/packaging.py checks it against the help of the program.
+# Written by tools/completions.py from the help of the program. Do not edit.
 
 _uca_files() {
     mapfile -t COMPREPLY < <(compgen -f -- "$1")
@@ -22,11 +22,17 @@ _uca_options() {
 _uca_options_of() {
     case $1 in
         '') echo "-h --help -V --version" ;;
+        check) echo "-h --help" ;;
         keys) echo "--weighting --identical --lines --header -h --help" ;;
-        rekey) echo "--weighting --identical --from --to -h --help" ;;
-        sort | compare | fingerprint) echo "--weighting --identical -h --help" ;;
+        sort) echo "--weighting --identical -h --help" ;;
+        compare) echo "--weighting --identical -h --help" ;;
+        tailor) echo "-h --help" ;;
+        audit) echo "-h --help" ;;
         affected) echo "--changes -h --help" ;;
-        check | tailor | audit | changes | audit-changes) echo "-h --help" ;;
+        changes) echo "-h --help" ;;
+        audit-changes) echo "-h --help" ;;
+        rekey) echo "--weighting --identical --from --to -h --help" ;;
+        fingerprint) echo "--weighting --identical -h --help" ;;
     esac
 }
 
@@ -62,14 +68,14 @@ _uca_read() {
 _uca() {
     local current=${COMP_WORDS[COMP_CWORD]} before=" ${COMP_WORDS[*]:0:COMP_CWORD} " command count ended
     local commands="check keys sort compare tailor audit affected changes audit-changes rekey fingerprint help"
-    local weightings="non-ignorable shifted"
     COMPREPLY=()
     _uca_read
     case $before in
         *[\<\>]' ') _uca_files "$current" ;;
-        *' --weighting ') _uca_words "${current#=}" "$weightings" ;;
-        *' --weighting = ') _uca_words "$current" "$weightings" ;;
-        *' --from ' | *' --to ' | *' --from = ' | *' --to = ') ;;
+        *' --weighting ') _uca_words "${current#=}" "non-ignorable shifted" ;;
+        *' --weighting = ') _uca_words "$current" "non-ignorable shifted" ;;
+        *' --from ' | *' --from = ') ;;
+        *' --to ' | *' --to = ') ;;
         *)
             if [[ $current == -* && ! $ended ]]; then
                 _uca_options "$command" "$current" "$before"

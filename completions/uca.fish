@@ -1,5 +1,5 @@
 # Completion of the command uca for fish: commands, options, the two weightings, and files.
-# tools/packaging.py checks it against the help of the program.
+# Written by tools/completions.py from the help of the program. Do not edit.
 
 # The command and its arguments, without options. The file of a redirection counts too, since fish does not tell it apart.
 function __uca_arguments
@@ -33,8 +33,8 @@ function __uca_wants_file
 end
 
 complete -c uca -f
-complete -c uca -n 'not __uca_has_command check keys sort compare tailor audit affected changes audit-changes rekey fingerprint help' -s V -l version -d 'Print the version'
 complete -c uca -n 'not __uca_has_command help' -s h -l help -d 'Print help'
+complete -c uca -n 'not __uca_has_command check keys sort compare tailor audit affected changes audit-changes rekey fingerprint help' -s V -l version -d 'Print version'
 
 complete -c uca -n __fish_use_subcommand -a check -d 'Say whether a weight table is well-formed'
 complete -c uca -n __fish_use_subcommand -a keys -d 'Print the sort key of each line of standard input'
@@ -47,16 +47,18 @@ complete -c uca -n __fish_use_subcommand -a changes -d 'Find what changes from a
 complete -c uca -n __fish_use_subcommand -a audit-changes -d 'Say whether changes and their certificate are right'
 complete -c uca -n __fish_use_subcommand -a rekey -d 'Mend the stored keys on standard input by a certificate'
 complete -c uca -n __fish_use_subcommand -a fingerprint -d 'Print the fingerprint of what keys are made by'
-complete -c uca -n __fish_use_subcommand -a help -d 'Print the help of a command'
+complete -c uca -n __fish_use_subcommand -a help -d 'Print this message or the help of the given subcommand(s)'
 complete -c uca -n '__uca_wants_file 1 help' -a 'check keys sort compare tailor audit affected changes audit-changes rekey fingerprint help'
 
-complete -c uca -n '__uca_has_command keys sort compare rekey fingerprint' -l weighting -x -a 'non-ignorable shifted' -d 'How spaces and punctuation count'
-complete -c uca -n '__uca_wants_option identical keys sort compare rekey fingerprint' -l identical -d 'Order texts of equal weight by their code points'
-complete -c uca -n '__uca_wants_option lines keys' -l lines -d 'Print the line after its key'
+complete -c uca -n '__uca_has_command keys sort compare fingerprint' -l weighting -x -a 'non-ignorable shifted' -d 'non-ignorable or shifted'
+complete -c uca -n '__uca_wants_option identical keys sort compare fingerprint' -l identical -d 'Compare texts that weigh the same by their code points too'
+complete -c uca -n '__uca_wants_option lines keys' -l lines -d 'Print the key without blanks, a tab and the line'
 complete -c uca -n '__uca_wants_option header keys' -l header -d 'Print a first line that says what made the keys'
+complete -c uca -n '__uca_wants_option changes affected' -l changes -d 'RULES is a file of changes, and DATA the new data file'
+complete -c uca -n '__uca_has_command rekey' -l weighting -x -a 'non-ignorable shifted' -d 'non-ignorable or shifted, as the keys were made'
+complete -c uca -n '__uca_wants_option identical rekey' -l identical -d 'The keys were made with --identical'
 complete -c uca -n '__uca_has_command rekey' -l from -x -d 'The input has a header with this fingerprint'
-complete -c uca -n '__uca_has_command rekey' -l to -x -d 'Print a header with this fingerprint'
-complete -c uca -n '__uca_wants_option changes affected' -l changes -d 'Take a file of changes in place of rules'
+complete -c uca -n '__uca_has_command rekey' -l to -x -d 'Print a header with this fingerprint, that of the new table and data file'
 
 complete -c uca -n '__uca_wants_file 1 rekey' -F
 complete -c uca -n '__uca_wants_file 2 check keys sort compare affected fingerprint' -F

@@ -63,7 +63,29 @@ class Help:
         return {word for name in self.names("Options") for word in re.findall(r"(?<![\w-])--?[a-zA-Z][\w-]*", name)}
 
 
+def helps_by(text_of):
+    """The help of the program, and that of each command except `help`, which has none. A text is that of a command, or of the program for None."""
+    whole = Help(text_of(None))
+    return whole, {name: Help(text_of(name)) for name in whole.names("Commands") if name != "help"}
+
+
 def helps_of(program):
-    """The help of the program, and that of each command except `help`, which has none."""
-    whole = Help(printed(program, "--help"))
-    return whole, {name: Help(printed(program, name, "--help")) for name in whole.names("Commands") if name != "help"}
+    """The helps that the program prints."""
+    return helps_by(lambda name: printed(program, *([name] if name else []), "--help"))
+
+
+def stored_text(command):
+    """The help of a command, or of the program, in tests/help."""
+    with open(f"{TOP}/tests/help/{command or 'uca'}.txt", encoding="utf-8") as file:
+        return file.read()
+
+
+def stored_version():
+    """The line that `uca --version` prints, as docs/FORMATS.md shows it; tools/packaging.py compares it with what the program prints."""
+    with open(f"{TOP}/docs/FORMATS.md", encoding="utf-8") as file:
+        return re.search(r"^\$ uca --version\n(.*)$", file.read(), re.M)[1]
+
+
+def stored_helps():
+    """The helps of tests/help, which tests/run.py compares with what the program prints."""
+    return helps_by(stored_text)

@@ -41,10 +41,10 @@ def counted(words):
 
 
 def main(words):
-    rt = kit.load_rt()
-    kit.check_by_one_process(rt)
-    if not kit.keeps_proofs(rt):
-        words = [it for it in words if it != kit.ANEW]
+    rt = kit.opened("machine", instead="`rt ci` gets the flags as they are, and chooses by itself how many checks run at once")
+    if rt:
+        rt.check_by_one_process()
+        words = words if rt.keeps_proofs() else [it for it in words if it != kit.ANEW]
     parts = [counted(["rt", "ci", *words])]
     if not os.access(PROGRAM, os.X_OK):
         counted([f"{kit.TOP}/tools/build.py"])

@@ -21,10 +21,10 @@ TIMES = kit.Times()
 
 
 def by_part(times):
-    """The seconds of each crate and part. Every task that is no proof, no tests and no run tries edits, or makes ready for them."""
+    """The seconds of each crate and part."""
     seconds = collections.Counter()
-    for (name, part, *_), spent in times.items():
-        seconds[name, part if part in (*PARTS, "runs") else "edits"] += spent
+    for task, spent in times.items():
+        seconds[kit.crate_and_part(task)] += spent
     return seconds
 
 
@@ -39,19 +39,20 @@ def table():
     print("| all | " + " | ".join(f"{sums[part]:.0f}" for part in PARTS) + f" | {sum(sums.values()):.0f} |")
     print(f"processor seconds, user and system; running programs and tests took {sums['runs']:.0f} of them")
     longest = sorted(TIMES.clock.items(), key=lambda it: -it[1])[:8]
-    dearest = sorted(((key, spent) for key, spent in TIMES.processor.items() if len(key) > 2), key=lambda it: -it[1])[:40]
-    print("dearest edits, by their place in the folder: " + ", ".join(f"{name} {number} {spent:.0f}" for (name, _, number), spent in dearest))
+    dearest = sorted(((task, spent) for task, spent in TIMES.processor.items() if kit.edit_of(task) is not None), key=lambda it: -it[1])[:40]
+    print("dearest edits, by their place in the folder: " + ", ".join(f"{task[0]} {kit.edit_of(task)} {spent:.0f}" for task, spent in dearest))
     print("longest on the clock: " + ", ".join(f"{' '.join(map(str, key))} {spent:.0f} s" for key, spent in longest))
 
 
 def main():
-    rt = kit.load_rt()
-    kit.check_by_one_process(rt)
+    rt = kit.opened("machine", "lanes", instead="`rt ci` runs alone, and no times are taken")
+    if not rt:
+        return kit.plain("ci", kit.ANEW)
+    rt.check_by_one_process()
     TIMES.count(rt, IDLE)
-    in_lanes = rt.in_lanes
-    rt.in_lanes = lambda tasks: in_lanes({key: (*task[:3], TIMES.task(key, IDLE, task[3])) for key, task in tasks.items()})
+    rt.count_tasks(TIMES, IDLE)
     begun = time.time()
-    status = rt.ci(True) if kit.keeps_proofs(rt) else rt.ci()
+    status = rt.prove_all()
     table()
     print(f"on the clock {(time.time() - begun) / 60:.0f} minutes, {os.cpu_count()} processors")
     return status

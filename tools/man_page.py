@@ -1,18 +1,19 @@
 #!/usr/bin/env python3
-"""Prints the manual page of uca, made from the program's own help.
+"""Prints the manual page of uca, made from the program's help texts.
 
     tools/man_page.py [--program PATH] > man/uca.1
+    tools/man_page.py --check        compares man/uca.1 with what it would print; the last line is `N passed, M failed`
 
-The names, usages, texts and options are those that `uca --help`, `uca COMMAND --help` and `uca --version` print. The sections
-after them come from man/sections.roff, which is written by hand. The program is crates/uca/out/uca, which tools/build.py builds.
+The names, usages, texts and options are those of tests/help, and the version is that of docs/FORMATS.md. With `--program` they are what this program prints.
+The sections after them come from man/sections.roff, which is written by hand.
 Debian's help2man makes a page of one help text; this page has a section for each command. tools/packaging.py checks that
-man/uca.1 is what this script prints.
+man/uca.1 is what this script prints for the built program.
 """
 import re
 import sys
 import textwrap
 
-from command_help import TOP, helps_of, printed, program_of
+from command_help import TOP, helps_of, printed, program_of, stored_helps, stored_version
 
 DATE = "2026-11-25"
 
@@ -73,9 +74,7 @@ def command_section(name, text, help_text):
     return made + last_words(help_text.last)
 
 
-def page(program):
-    whole, commands = helps_of(program)
-    version = printed(program, "--version").strip()
+def page(whole, commands, version):
     name, number = version.split()[:2]
     made = [
         '.\\" Written by tools/man_page.py from the help of the program. Do not edit.',
@@ -99,8 +98,25 @@ def page(program):
     return "\n".join(made) + "\n" + sections + ".SH VERSION\n" + prose(version) + "\n"
 
 
+def check():
+    with open(f"{TOP}/man/uca.1", encoding="utf-8") as file:
+        is_same = file.read() == page(*stored_helps(), stored_version())
+    print("1 passed, 0 failed" if is_same else "man/uca.1 is not what tools/man_page.py prints\n0 passed, 1 failed")
+    return 0 if is_same else 1
+
+
+def main(words):
+    if words == ["--check"]:
+        return check()
+    if words:
+        program, others = program_of(words)
+        if others:
+            sys.exit(__doc__)
+        print(page(*helps_of(program), printed(program, "--version").strip()), end="")
+    else:
+        print(page(*stored_helps(), stored_version()), end="")
+    return 0
+
+
 if __name__ == "__main__":
-    program, others = program_of(sys.argv[1:])
-    if others:
-        sys.exit(__doc__)
-    print(page(program), end="")
+    sys.exit(main(sys.argv[1:]))

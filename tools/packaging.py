@@ -3,8 +3,8 @@
 
     tools/packaging.py [--program PATH]
 
-The manual page and each completion name the commands and options that the program's help names, and no others. The page is what
-tools/man_page.py prints, and renders without a warning. Each completion is run by its shell. tools/install.sh puts all files
+The manual page and each completion name the commands and options that the program's help names, and no others. They are what
+tools/man_page.py and tools/completions.py write. The page renders without a warning. Each completion is run by its shell. tools/install.sh puts all files
 into a temporary folder, and the program there runs. `uca --version` names the logic of this machine's kit, and docs/FORMATS.md shows its line.
 
 Debian packages: man-db, mandoc, zsh and fish (bash and coreutils are always there). A check that needs a missing one is not run, and
@@ -161,6 +161,8 @@ def check_names(counts, whole, helps):
 
 def check_completions(counts, whole, helps):
     check_names(counts, whole, helps)
+    ran = subprocess.run([sys.executable, f"{TOP}/tools/completions.py", "--check"], stdout=subprocess.PIPE, text=True, check=False)
+    counts.check("completions/ is what tools/completions.py writes", ran.returncode == 0, ran.stdout)
     with tempfile.TemporaryDirectory(prefix="uca-room-") as room:
         for name in FILES - {"rules"}:
             open(f"{room}/{name}", "w", encoding="utf-8").close()

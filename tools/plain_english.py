@@ -5,11 +5,12 @@
 
 It reads Markdown pages outside of code, doc comments (`///` and `//!` of .rt files, `--` of .antt files), and docstrings of Python
 without their indented lines. A sentence has at most 30 words, where code counts as one word. A cell of a table, an item of a list and
-a heading each end a sentence. Each finding is one line, `FILE:LINE: ..`. A file passes if it has none. The last line is
-`N passed, M failed`.
+a heading each end a sentence. In .rt and .antt files no comment begins with "The same", since it says nothing alone. Their heads are more than the name
+of a thing, such as "The audit." Each finding is one line, `FILE:LINE: ..`. A file passes if it has none. The last line is `N passed, M failed`.
 """
 import ast
 import glob
+import itertools
 import os
 import re
 import sys
@@ -89,6 +90,30 @@ def findings_of(text):
                 yield number, f"`{found[0]}` ({better}): {sentence[max(0, found.start() - 30):found.end() + 30]}"
 
 
+# How a line of a comment begins, that of the head of a file too.
+MARKS = {".rt": r"\s*//[/!]?(.*)", ".antt": r"\s*--(.*)"}
+
+
+def comments_of(text, mark):
+    """Each comment that takes whole lines: the number of its first line, that line, and what it says."""
+    lines = [(number, line, re.fullmatch(mark, line)) for number, line in enumerate(text.split("\n"), 1)]
+    for is_comment, group in itertools.groupby(lines, lambda it: bool(it[2])):
+        group = list(group)
+        if is_comment:
+            yield *group[0][:2], " ".join(found[1].strip() for _, _, found in group).strip()
+
+
+def empty_comments(name, text):
+    """The line of each comment that says nothing alone, and what it is."""
+    kind = os.path.splitext(name)[1]
+    for at, (number, line, said) in enumerate(comments_of(text, MARKS[kind]) if kind in MARKS else ()):
+        is_head = line.startswith("//!") if kind == ".rt" else at == 0
+        if is_head and re.fullmatch(r"The \S+( \S+)?\.", said):
+            yield number, f"the head only names a thing: {said}"
+        elif re.match(r"The same\b", said):
+            yield number, f"it begins with `The same`: {said[:60]}"
+
+
 COMMENTS = {".rt": r"\s*//[/!] ?(.*)", ".txt": r"\s*//[/!] ?(.*)", ".antt": r"\s*-- ?(.*)"}
 
 
@@ -105,11 +130,14 @@ def docstrings_of(text):
     return "\n".join(lines)
 
 
+def text_of(name):
+    with open(f"{TOP}/{name}", encoding="utf-8") as file:
+        return file.read()
+
+
 def prose_of(name):
     """What a file says to a reader, with as many lines."""
-    with open(f"{TOP}/{name}", encoding="utf-8") as file:
-        text = file.read()
-    kind = os.path.splitext(name)[1]
+    text, kind = text_of(name), os.path.splitext(name)[1]
     if kind == ".py":
         return docstrings_of(text)
     if kind not in COMMENTS:
@@ -119,7 +147,7 @@ def prose_of(name):
 
 
 def all_files():
-    patterns = ["*.md", "docs/*.md", "bench/*.md", "examples/**/*.md", "tools/*.py", "bench/*.py", "bench/*_main.txt", "examples/**/*.py"]
+    patterns = ["*.md", "docs/*.md", "bench/*.md", "examples/**/*.md", "tools/*.py", "tests/by_hand/*.py", "bench/*.py", "bench/*_main.txt", "examples/**/*.py"]
     patterns += [f"crates/*/{it}" for it in ("src/**/*.rt", "specs/**/*.antt", "proofs/**/*.antt")]
     return sorted(os.path.relpath(it, TOP) for pattern in patterns for it in glob.glob(f"{TOP}/{pattern}", recursive=True))
 
@@ -127,7 +155,7 @@ def all_files():
 def main(names):
     passed = failed = 0
     for name in [os.path.relpath(it, TOP) for it in names] or all_files():
-        found = list(findings_of(prose_of(name)))
+        found = [*findings_of(prose_of(name)), *empty_comments(name, text_of(name))]
         for number, what in found:
             print(f"{name}:{number}: {what}")
         passed, failed = (passed, failed + 1) if found else (passed + 1, failed)

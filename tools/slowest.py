@@ -12,28 +12,16 @@ searches for, and `Answers` those with a proof in a file. `Tie` is the code agai
 own lines.
 """
 import collections
-import os
 import sys
 
 import kit
 
-PARTS = "Lts Tie Proof Answers Code Reads Layout Kinds Named Goals Statement Met TheLink Symbol Given Carried Invariants".split()
-
 
 def main(crate, count):
-    kept = f"{kit.TOP}/crates/{crate}/out/incremental"
-    folders = [f"{kept}/{it}" for it in os.listdir(kept)] if os.path.isdir(kept) else []
-    if not folders:
-        sys.exit(f"{kept} is empty: run tools/check.py {crate} first")
-    folder = max(folders, key=os.path.getmtime)
-    files = sorted((os.stat(f"{folder}/{it}").st_mtime, it) for it in os.listdir(folder) if it.endswith(".oantt"))
     seconds, parts = collections.Counter(), collections.defaultdict(collections.Counter)
-    for (begun, _), (ended, name) in zip(files, files[1:]):
-        words = name.removesuffix(".oantt").split(".")
-        at = next((i for i, it in enumerate(words) if it.partition("-")[0] in PARTS), len(words))
-        function = ".".join(words[:at]).partition("-proofs.")[2] or ".".join(words[:at])
-        seconds[function] += ended - begun
-        parts[function][words[-1].partition("-")[0]] += ended - begun
+    for function, part, spent in kit.checked_modules(crate):
+        seconds[function] += spent
+        parts[function][part] += spent
     for function, spent in seconds.most_common(count):
         print(f"{spent:6.1f}  {function}  " + ", ".join(f"{part} {of:.1f}" for part, of in parts[function].most_common(3)))
 

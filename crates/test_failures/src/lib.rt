@@ -3,7 +3,7 @@
 //!
 //! Each public call that takes memory of any allocator is in the table. Normalization Form D, the arguments of
 //! the command line and their errors take memory only from the global allocator. So their allocations are not among
-//! those that fail here: `tools/refusals.py` lets these fail in the whole program. Comparing without keys and checking
+//! those that fail here: `tests/by_hand/refusals.py` lets these fail in the whole program. Comparing without keys and checking
 //! a table take no memory, and printing a key takes none beyond the key: they get no allocator.
 #![tactic(auto)]
 

@@ -1,0 +1,1081 @@
+#!/usr/bin/env python3
+"""Builds the library for C, the module for Python and the extensions of SQLite and PostgreSQL, and tries them. It installs nothing.
+
+    tests/by_hand/bindings.py [--uca PATH]        crates/uca/out/uca, unless another program is named
+
+First prove and build the static library: `tools/build.py uca_c`. Then this script makes bindings/c/out and runs
+
+- `calls`, which calls everything in uca.h with good and bad input: as it is, under valgrind, and with the sanitizers of gcc;
+- `memory`, in which each allocation fails in turn: as it is, and under valgrind;
+- `keys` and the module over files of examples/, whose keys and orders have to be those of `uca keys` and `uca sort`;
+- the names that libuca.so.1 exports, which have to be those of uca.h, and the header as C++;
+- a program that is compiled by what pkg-config says of a temporary installation, and the programs of docs/BINDINGS.md;
+- the tests of the module for Python, as it is and from a wheel with the library inside, and those of keys, threads, signals and forks under valgrind;
+- statements of SQLite with the extension, over files that are the same or others, and those of docs/BINDINGS.md; also in threads, and where each allocation fails in turn;
+- statements, dumps and replication of PostgreSQL with its extension, which is installed to a copy of the server's programs in a temporary folder. Each server
+  has a folder of its own, listens on a Unix socket there, and is stopped afterwards;
+- all four over Unicode's table, and over that table tailored for Danish: 100,000 words of nine languages have the keys of `uca keys` and the order of `uca sort`.
+
+It needs Debian's packages of NEEDS, and some checks those of WANTS. What needs a command, a program or a file that is not here is not run, and a line says so. The last line is `N passed, M failed`, and how many were not run if there are any.
+"""
+import argparse
+import contextlib
+import hashlib
+import os
+import random
+import re
+import shlex
+import shutil
+import sqlite3
+import subprocess
+import sys
+import tempfile
+import time
+import zipfile
+
+import packages
+
+TOP = os.path.dirname(os.path.dirname(os.path.dirname(os.path.realpath(__file__))))
+C, PYTHON, EXAMPLES = f"{TOP}/bindings/c", f"{TOP}/bindings/python", f"{TOP}/examples"
+ARCHIVE = f"{TOP}/crates/uca_c/out/libuca_c.a"
+
+NEEDS = ["gcc", "make"]
+WANTS = ["g++", "pkgconf", "valgrind", "sqlite3", "libsqlite3-dev", "postgresql", "postgresql-server-dev-15", "unicode-data", *packages.LISTS]
+
+FLAGS = ["-std=c11", "-Wall", "-Wextra", "-Wpedantic", "-Werror", "-D_POSIX_C_SOURCE=200809L", f"-I{C}/include"]
+LINES = ["lines.txt", "words_danish.txt", "words_spanish.txt", "words_swedish.txt"]
+SETTINGS = [[], ["non-ignorable"], ["shifted"], ["non-ignorable", "identical"], ["shifted", "identical"]]
+SORTER = """
+import sys, uca
+weighting, identical = {None: None, **{it: it for it in ("non-ignorable", "shifted")}}[sys.argv[3] or None], sys.argv[4] == "identical"
+with uca.Collator(sys.argv[1], sys.argv[2], weighting, identical, fingerprint=sys.argv[5]) as collator:
+    lines = sys.stdin.buffer.read().removesuffix(b"\\n").split(b"\\n")
+    sys.stdout.buffer.write(b"".join(it + b"\\n" for it in sorted(lines, key=collator.key)))
+"""
+
+
+class NotHere(Exception):
+    """Something that a check needs is not here."""
+
+
+def need(*commands):
+    for it in commands:
+        if not shutil.which(it):
+            raise NotHere(f"there is no {it}")
+
+
+def run(words, **named):
+    """What a command prints. It fails if its status is not 0."""
+    ran = subprocess.run(words, stdout=subprocess.PIPE, stderr=subprocess.PIPE, **named)
+    if ran.returncode:
+        raise AssertionError(f"{' '.join(words)}: status {ran.returncode}\n{(ran.stdout + ran.stderr).decode(errors='replace')[-2000:]}")
+    return ran.stdout
+
+
+def same(found, wanted, what):
+    if found != wanted:
+        raise AssertionError(f"{what}: {found!r:.300}\n  in place of {wanted!r:.300}")
+
+
+def content(path):
+    with open(path, "rb") as it:
+        return it.read()
+
+
+def make(work):
+    need("make", "gcc")
+    run(["make", "-s", "-C", C, "all", "check"])
+
+
+def valgrind(work):
+    need("valgrind")
+    for program in ("calls", "memory"):
+        run(["valgrind", "-q", "--error-exitcode=9", "--leak-check=full", "--show-leak-kinds=all", "--errors-for-leak-kinds=all", f"{C}/out/{program}"])
+
+
+def sanitizers(work):
+    need("gcc")
+    run(["gcc", *FLAGS, "-pthread", "-g", "-fsanitize=address,undefined", "-fno-sanitize-recover=all", "-o", f"{work}/calls", f"{C}/calls.c", f"{C}/out/libuca.a"])
+    run([f"{work}/calls"])
+
+
+def header(work):
+    need("g++")
+    with open(f"{work}/header.cpp", "w", encoding="utf-8") as it:
+        it.write('#include "uca.h"\nint main() { uca_collator c = UCA_CLOSED_COLLATOR; uca_close(&c); return uca_abi() == UCA_ABI ? 0 : 1; }\n')
+    run(["g++", "-Wall", "-Wextra", "-Werror", f"-I{C}/include", "-o", f"{work}/header", f"{work}/header.cpp", f"{C}/out/libuca.a"])
+    run([f"{work}/header"])
+
+
+def exports(work):
+    need("nm")
+    declared = re.findall(r"^(?:uint32_t|size_t|void) (uca_\w+)\(", content(f"{C}/include/uca.h").decode(), re.M)
+    found = [it.split()[-1].split("@")[0] for it in run(["nm", "-D", "--defined-only", f"{C}/out/libuca.so.1"]).decode().splitlines()]
+    same(sorted(it for it in found if it != "UCA_1"), sorted(declared), "exported names")
+
+
+# Names that make, the shell, pkg-config or LD_LIBRARY_PATH takes for others.
+NAMES = ["plain$x", "plain$$", "plain$(x)", "plain`true`", 'plain"x', "plain\\x", "plain#x", "plain:x", "plain;x"]
+
+
+def installed(work):
+    """What make made is installed where there is no rt, in folders with blanks in their names, and taken away again."""
+    need("make", "gcc", "pkg-config")
+    prefix, stage = f"{work}/a prefix", f"{work}/a stage"
+    path = os.pathsep.join(it for it in os.environ["PATH"].split(os.pathsep) if not os.path.exists(f"{it}/rt"))
+    make_it = ["env", f"PATH={path}", "make", "-s", "-C", C]
+    run([*make_it, "install", f"PREFIX={prefix}"])
+    environment = {**os.environ, "PKG_CONFIG_PATH": f"{prefix}/lib/pkgconfig:{stage}{prefix}/lib 64/pkgconfig"}
+    said = shlex.split(run(["pkg-config", "--cflags", "--libs", "uca"], env=environment).decode())
+    run(["gcc", "-std=c11", "-D_POSIX_C_SOURCE=200809L", "-pthread", "-o", f"{work}/shared", f"{C}/calls.c", *said])
+    run([f"{work}/shared"], env={**os.environ, "LD_LIBRARY_PATH": f"{prefix}/lib"})
+    run([*make_it, "uninstall", f"PREFIX={prefix}"])
+    places = [f"PREFIX={prefix}", f"LIBDIR={prefix}/lib 64", f"DESTDIR={stage}"]
+    run([*make_it, "install", *places])
+    said = shlex.split(run(["pkg-config", "--cflags", "--libs", "uca"], env=environment).decode())
+    same(said, [f"-I{prefix}/include", f"-L{prefix}/lib 64", "-luca"], "what pkg-config says of another LIBDIR")
+    run([*make_it, "uninstall", *places])
+    same([it for folder in (prefix, stage) for _, _, files in os.walk(folder) for it in files], [], "files after uninstall")
+    for wrong in (["PREFIX=usr"], [f"PREFIX={prefix}", "LIBDIR=lib"], [f"PREFIX={prefix}", f"OUT={work}/nothing"]):
+        if not subprocess.run([*make_it, "install", *wrong], stderr=subprocess.DEVNULL).returncode:
+            raise AssertionError(f"make install {wrong} has no error")
+    for name in NAMES:
+        for place in ("PREFIX", "LIBDIR", "DESTDIR"):
+            for goal in ("install", "uninstall"):
+                places = {"PREFIX": f"{work}/plain", place: f"{work}/{name}"}
+                ran = subprocess.run([*make_it, goal, *(f"{it}={at}" for it, at in places.items())], capture_output=True, text=True)
+                if not ran.returncode or "PREFIX, LIBDIR and DESTDIR may have none of" not in ran.stderr:
+                    raise AssertionError(f"make {goal} {places}: status {ran.returncode}: {ran.stderr}")
+    same([it for it in os.listdir(work) if it.startswith("plain")], [], "folders of names that are rejected")
+
+
+def stored_run(work):
+    """The stored run of the program `uca`, by the program `keys`."""
+    data = f"{TOP}/crates/uca/data"
+    found = run([f"{C}/out/keys", f"{data}/table.txt", f"{data}/data.txt", "non-ignorable"], input=content(f"{TOP}/crates/uca/stdin"))
+    same(found, content(f"{TOP}/crates/uca/stdout"), "keys")
+
+
+def page(work):
+    """The programs of docs/BINDINGS.md, which show what they print in their comments."""
+    need("gcc")
+    text = content(f"{TOP}/docs/BINDINGS.md").decode()
+    with open(f"{work}/page.c", "w", encoding="utf-8") as it:
+        it.write(re.search(r"```c\n(.*?)```", text, re.S).group(1))
+    run(["gcc", *FLAGS, "-o", f"{work}/page", f"{work}/page.c", f"{C}/out/libuca.a"])
+    same(run([f"{work}/page"]).decode(), re.search(r"/\* ([0-9A-F]+) \*/", text).group(1), "the page's program in C")
+    program = re.search(r"```python\n(.*?)```", text, re.S).group(1)
+    said = run([sys.executable, "-c", program], env=python_environment(), cwd=TOP).decode()
+    same(said.splitlines(), re.findall(r"# (\S.*)", program), "the page's program in Python")
+
+
+def options(setting):
+    return [*(["--identical"] if "identical" in setting else []), *(word for it in setting if it != "identical" for word in ("--weighting", it))]
+
+
+def keys_like(program):
+    """The keys of the program `keys` are those of `uca keys`."""
+
+    def check(work):
+        if not os.path.exists(program):
+            raise NotHere(f"there is no {program}")
+        for lines in LINES:
+            for setting in SETTINGS:
+                files = [f"{EXAMPLES}/table.txt", f"{EXAMPLES}/data.txt"]
+                wanted = run([program, "keys", *options(setting), *files], input=content(f"{EXAMPLES}/{lines}"))
+                same(run([f"{C}/out/keys", *files, *setting], input=content(f"{EXAMPLES}/{lines}")), wanted, f"keys of {lines}, {setting}")
+
+    return check
+
+
+def sorted_like(program):
+    """Lines sorted by the keys of the module are in the order of `uca sort`, and the fingerprint is that of the files."""
+
+    def check(work):
+        if not os.path.exists(program):
+            raise NotHere(f"there is no {program}")
+        for lines in LINES:
+            for setting in SETTINGS:
+                files = [f"{EXAMPLES}/table.txt", f"{EXAMPLES}/data.txt"]
+                wanted = run([program, "sort", *options(setting), *files], input=content(f"{EXAMPLES}/{lines}"))
+                weighting = next((it for it in setting if it != "identical"), "")
+                depth = "identical" if "identical" in setting else "weights"
+                words = [sys.executable, "-c", SORTER, *files, weighting, depth, fingerprint_of(*files, weighting or "shifted", depth)]
+                same(run(words, input=content(f"{EXAMPLES}/{lines}"), env=python_environment()), wanted, f"order of {lines}, {setting}")
+
+    return check
+
+
+def python_environment():
+    return {**os.environ, "PYTHONPATH": PYTHON, "UCA_LIBRARY": f"{C}/out/libuca.so.1", "PYTHONDONTWRITEBYTECODE": "1"}
+
+
+def python(work):
+    run([sys.executable, "-W", "error", "-m", "unittest", "discover", "-s", f"{PYTHON}/tests"], env=python_environment())
+
+
+def python_valgrind(work):
+    """The module's tests of rooms for keys, threads, signals and forks. Each read and write outside of what malloc gave is an error."""
+    need("valgrind")
+    # Not of leaks and undefined values, since CPython itself has both when it ends.
+    words = ["valgrind", "-q", "--error-exitcode=9", "--leak-check=no", "--undef-value-errors=no", "--fair-sched=yes", sys.executable]
+    environment = {**python_environment(), "PYTHONMALLOC": "malloc", "UCA_STRESS_SECONDS": "4"}
+    run([*words, "-m", "unittest", "test_uca.Keys", "test_uca.Values", "test_uca.Sharing", "test_stress"], env=environment, cwd=f"{PYTHON}/tests")
+
+
+def python_with_wheel():
+    """A Python that can build a wheel without a network."""
+    for it in (sys.executable, "/usr/bin/python3"):
+        if os.path.exists(it) and not subprocess.run([it, "-c", "import setuptools, wheel, pip"], stderr=subprocess.DEVNULL).returncode:
+            return it
+    raise NotHere("no Python here has pip, setuptools and wheel")
+
+
+def wheel(work):
+    """A wheel has the library inside, and the module in it passes the tests."""
+    python = python_with_wheel()
+    pip = [python, "-m", "pip", "-q", "--disable-pip-version-check", "--no-cache-dir"]
+    source, wheels, folder = (f"{work}/wheel/{it}" for it in ("source", "wheels", "installed"))
+    shutil.copytree(PYTHON, source, ignore=shutil.ignore_patterns("build", "*.egg-info", "__pycache__"))
+    run([*pip, "wheel", "--no-index", "--no-deps", "--no-build-isolation", "-w", wheels, source], env=python_environment())
+    made = os.listdir(wheels)
+    same(len(made), 1, f"wheels {made}")
+    if "uca/libuca.so.1" not in zipfile.ZipFile(f"{wheels}/{made[0]}").namelist():
+        raise AssertionError(f"{made[0]} has no library inside")
+    run([*pip, "install", "--no-index", "--no-deps", "--target", folder, f"{wheels}/{made[0]}"])
+    environment = {**python_environment(), "PYTHONPATH": folder, "UCA_LIBRARY": "", "UCA_STRESS_SECONDS": "1"}
+    run([python, "-W", "error", "-m", "unittest", "discover", "-s", f"{PYTHON}/tests"], env=environment, cwd=wheels)
+
+
+def fingerprint_of(table, data, weighting="shifted", depth="weights"):
+    """The fingerprint of two files and their settings, as uca.h says."""
+    sums = [hashlib.sha256(content(it)).hexdigest() for it in (table, data)]
+    text = f"uca keys 1\nunicode 18.0.0\nweighting {weighting}\ndepth {depth}\ntable {sums[0]}\ndata {sums[1]}\n"
+    return hashlib.sha256(text.encode()).hexdigest()
+
+
+TABLE, TAILORED, DATA = (f"{EXAMPLES}/{it}.txt" for it in ("table", "tailored", "data"))
+USED, OTHER = (fingerprint_of(it, DATA) for it in (TABLE, TAILORED))
+MADE_BY_OTHERS = f"uca_key: the files of fingerprint {USED} are not loaded; loaded: {OTHER}"
+NO_COLLATION = f"no such collation sequence: uca_{USED}"
+NO_FINGERPRINT = "is no fingerprint of 64 lower-case hexadecimal digits"
+
+
+def sqlite_load(table=TABLE, data=DATA, weighting="shifted"):
+    """A statement that loads files, and prints nothing."""
+    return f"SELECT 0 WHERE uca_load('{table}', '{data}', '{weighting}') IS NULL;"
+
+
+def sqlite_says(work, *statements, load=sqlite_load(), database=":memory:", fails=False):
+    """What the statements print, or their first error, after the extension has loaded files."""
+    need("sqlite3", "make", "gcc")
+    if not os.path.exists("/usr/include/sqlite3ext.h"):
+        raise NotHere("there is no sqlite3ext.h")
+    run(["make", "-s", "-C", f"{TOP}/bindings/sqlite"])
+    words = ["sqlite3", database, f".load {TOP}/bindings/sqlite/out/uca", load, *statements]
+    try:
+        ran = subprocess.run(words, capture_output=True, text=True, cwd=TOP, timeout=300)
+    except subprocess.TimeoutExpired as it:
+        raise AssertionError(f"{load} {statements!r:.200}: it waits") from it
+    if bool(ran.returncode) != fails:
+        raise AssertionError(f"{load} {statements!r:.200}: status {ran.returncode}: {ran.stdout:.200}{ran.stderr:.200}")
+    return ran.stderr.split("\n")[0] if fails else ran.stdout
+
+
+def sqlite_fails(work, error, *statements, load=sqlite_load(), database=":memory:"):
+    """The statements end with this error."""
+    found = sqlite_says(work, *statements, load=load, database=database, fails=True)
+    if error not in found:
+        raise AssertionError(f"{load} {statements!r:.200}: {found}\n  in place of {error}")
+
+
+SQLITE = [
+    (f"SELECT hex(uca_key('a', '{USED}')), uca_key(NULL, '{USED}') IS NULL;", "1C4700000020000000020000FFFF|1\n"),
+    (f"SELECT 'á' = 'a' || char(0x301) COLLATE uca_{USED}, 'a' < 'A' COLLATE uca_{USED}, 'c-h' < 'ch' COLLATE uca_{USED};", "1|1|1\n"),
+    ("SELECT hex(x) FROM (SELECT x'FF' AS x UNION SELECT 'ch' UNION SELECT x'61FE' UNION SELECT 'c-h' UNION SELECT 'a')"
+     f" ORDER BY CAST(x AS TEXT) COLLATE uca_{USED};", "61\n632D68\n6368\n61FE\nFF\n"),
+]
+# What goes by no fingerprint, or by one that is none.
+SQLITE_ERRORS = [
+    (f"SELECT uca_key(CAST(x'FF' AS TEXT), '{USED}');", "uca_key: Utf8"),
+    (f"SELECT uca_key(x'61', '{USED}');", "uca_key: the first argument is a blob, not a text"),
+    ("SELECT uca_key('a');", "wrong number of arguments to function uca_key()"),
+    ("CREATE INDEX i ON words(uca_key(word));", "wrong number of arguments to function uca_key()"),
+    ("SELECT word FROM words ORDER BY word COLLATE uca;", "no such collation sequence: uca"),
+    ("CREATE TABLE u(word TEXT COLLATE uca);", "no such collation sequence: uca"),
+    ("SELECT uca_key('a', '');", NO_FINGERPRINT),
+    ("SELECT uca_key('a', NULL);", NO_FINGERPRINT),
+    (f"SELECT uca_key('a', '{USED.upper()}');", NO_FINGERPRINT),
+    (f"SELECT uca_key('a', '{USED}' || char(0) || 'x');", NO_FINGERPRINT),
+    (f"SELECT uca_key('a', CAST('{USED}' AS BLOB));", NO_FINGERPRINT),
+    (f"SELECT uca_key('a', '{USED[:32]}');", NO_FINGERPRINT),
+    (f"SELECT uca_key(NULL, '{OTHER}');", f"uca_key: the files of fingerprint {OTHER} are not loaded; loaded: {USED}"),
+    (f"CREATE INDEX i ON words(uca_key(word, uca_load('{TABLE}', '{DATA}')));", "unsafe use of uca_load()"),
+    (f"CREATE TABLE g(word TEXT, key AS (uca_key(word, uca_load('{TABLE}', '{DATA}'))) STORED); INSERT INTO g VALUES ('a');", "unsafe use of uca_load()"),
+    (f"CREATE TABLE c(word TEXT CHECK (uca_key(word, uca_load('{TABLE}', '{DATA}')) > x'')); INSERT INTO c VALUES ('a');", "unsafe use of uca_load()"),
+    (f"CREATE VIEW v AS SELECT uca_load('{TABLE}', '{DATA}'); SELECT * FROM v;", "unsafe use of uca_load()"),
+]
+
+
+def sqlite(work):
+    for statement, wanted in SQLITE:
+        same(sqlite_says(work, statement), wanted, statement)
+    for statement, error in SQLITE_ERRORS:
+        sqlite_fails(work, error, "CREATE TABLE words(word TEXT); INSERT INTO words VALUES ('a');", statement)
+    sqlite_fails(work, "are not loaded; loaded: none", f"SELECT uca_key('a', '{USED}');", load="")
+
+
+def sqlite_loads(work):
+    """uca_load returns the fingerprint, adds to what is loaded, and says what is wrong with its arguments."""
+    for setting in SETTINGS[1:]:
+        arguments = ", ".join(f"'{it}'" for it in (TABLE, DATA, *setting))
+        same(sqlite_says(work, f"SELECT uca_load({arguments});"), fingerprint_of(TABLE, DATA, *setting) + "\n", f"fingerprint of {setting}")
+    same(sqlite_says(work, f"SELECT uca_load('{TABLE}', '{DATA}', NULL, '', '{USED}');", load=""), USED + "\n", "no weighting")
+    with open(f"{work}/variable.txt", "wb") as it:
+        it.write(content(TABLE).replace(b"\n", b"\n@variable non-ignorable\n", 1))
+    wanted = fingerprint_of(it.name, DATA, "non-ignorable") + "\n"
+    same(sqlite_says(work, f"SELECT uca_load('{it.name}', '{DATA}');", load=""), wanted, "the weighting of the table")
+    again = "".join(f"SELECT uca_load('{it}', '{DATA}', substr(word, 1, 0)) FROM words ORDER BY word COLLATE uca_{USED};" for it in (TABLE, TAILORED, TAILORED))
+    orders = "".join(f"SELECT group_concat(word, ' ') FROM (SELECT * FROM words ORDER BY word COLLATE uca_{it});" for it in (USED, OTHER))
+    orders += "".join(f"SELECT group_concat(word, ' ') FROM (SELECT * FROM words ORDER BY uca_key(word, '{it}'));" for it in (USED, OTHER))
+    twice = [f".load {TOP}/bindings/sqlite/out/uca", "CREATE TABLE words(word TEXT); INSERT INTO words VALUES ('bz'), ('bh'), ('b');"]
+    wanted = f"{USED}\n" * 3 + f"{OTHER}\n" * 6 + "b bh bz\nb bz bh\n" * 2
+    same(sqlite_says(work, *twice, again, orders), wanted, "files that are loaded one more time, while a statement runs")
+    for arguments, error in (
+        ("'none'", "uca_load: the table 'none': it is not found"),
+        (f"'{TABLE}', 'none'", "uca_load: the data file 'none': it is not found"),
+        ("NULL", "uca_load: the table '': it is not found"),
+        (f"'{DATA}'", "uca_load: the table: line 1: Line"),
+        (f"'{TABLE}', '{TABLE}'", "uca_load: the data file: line 1: Order"),
+        (f"'{TABLE}', '{DATA}', 'SHIFTED'", "uca_load: the weighting is 'SHIFTED', not 'shifted' or 'non-ignorable'"),
+        (f"'{TABLE}', '{DATA}', '', 'deep'", "uca_load: the depth is 'deep', not 'weights' or 'identical'"),
+        (f"'{TABLE}', '{DATA}', 'shifted', '', ''", f"uca_load: the fifth argument {NO_FINGERPRINT}"),
+        (f"'{TABLE}', '{DATA}', 'shifted', '', NULL", f"uca_load: the fifth argument {NO_FINGERPRINT}"),
+        (f"'{TABLE}', '{DATA}', 'shifted', '', '{USED[:32]}'", f"uca_load: the fifth argument {NO_FINGERPRINT}"),
+        (f"'{TAILORED}', '{DATA}', 'shifted', '', '{USED}'", f"uca_load: the files and settings have the fingerprint {OTHER}, and {USED} is wanted"),
+        (f"'{TABLE}', '{DATA}', 'shifted' || char(0)", "uca_load: argument 3 has a zero byte"),
+    ):
+        arguments += f", '{DATA}'" if "," not in arguments else ""
+        sqlite_fails(work, error, f"SELECT uca_load({arguments});", load="")
+    shared = f"file:{work}/shared.db?cache=shared"
+    sqlite_fails(work, "uca_load: the database has a shared cache", f"SELECT uca_load('{TABLE}', '{DATA}');", load="", database=shared)
+    private = shared.replace("shared", "private")
+    same(sqlite_says(work, f"SELECT uca_load('{TABLE}', '{DATA}', '', '', '{USED}');", load="", database=private), USED + "\n", "a private cache")
+
+
+def sqlite_files(work):
+    """What is not a file that can be read to its end is rejected without being read."""
+    os.mkfifo(f"{work}/pipe")
+    limit = 64 << 20
+    for name, size in (("large", limit + 1), ("limit", limit)):
+        with open(f"{work}/{name}", "wb") as it:
+            it.truncate(size)
+    for path, why in ((f"{work}/pipe", "it is not a regular file"), ("/dev/zero", "it is not a regular file"), (work, "it is not a regular file"),
+                      (f"{work}/large", "it is too large: more than 64 MiB")):
+        sqlite_fails(work, f"uca_load: the table '{path}': {why}", f"SELECT uca_load('{path}', '{DATA}');", load="")
+        sqlite_fails(work, f"uca_load: the data file '{path}': {why}", f"SELECT uca_load('{TABLE}', '{path}');", load="")
+    sqlite_fails(work, "uca_load: the table: line 1: ", f"SELECT uca_load('{work}/limit', '{DATA}');", load="")
+
+
+# Each makes a table `words` whose schema names the files, and the error of a new row where other files are loaded.
+SQLITE_SCHEMAS = [
+    (f"CREATE TABLE words(word TEXT); CREATE INDEX i ON words(uca_key(word, '{USED}'));", MADE_BY_OTHERS),
+    (f"CREATE TABLE words(word TEXT); CREATE INDEX i ON words(word) WHERE uca_key(word, '{USED}') > x'1C';", MADE_BY_OTHERS),
+    (f"CREATE TABLE words(word TEXT, key BLOB AS (uca_key(word, '{USED}')) STORED); CREATE INDEX i ON words(key);", MADE_BY_OTHERS),
+    (f"CREATE TABLE words(word TEXT, key BLOB AS (uca_key(word, '{USED}')) VIRTUAL); CREATE INDEX i ON words(key);", MADE_BY_OTHERS),
+    (f"CREATE TABLE words(word TEXT CHECK (uca_key(word, '{USED}') > x'1C'));", MADE_BY_OTHERS),
+    (f"CREATE TABLE words(word TEXT, key BLOB); CREATE TRIGGER t AFTER INSERT ON words BEGIN UPDATE words SET key = uca_key(word, '{USED}'); END;", MADE_BY_OTHERS),
+    (f"CREATE TABLE words(word TEXT); CREATE INDEX i ON words(word COLLATE uca_{USED});", NO_COLLATION),
+    (f"CREATE TABLE words(word TEXT COLLATE uca_{USED} UNIQUE);", NO_COLLATION),
+    (f"CREATE TABLE words(word TEXT CHECK (word > 'A' COLLATE uca_{USED}));", NO_COLLATION),
+]
+ROW = "INSERT INTO words(word) VALUES ('ch');"
+THREE = "INSERT INTO words(word) VALUES ('bz'), ('bh'), ('b');"
+IN_ORDER = f"SELECT group_concat(word, ' ') FROM (SELECT word FROM words ORDER BY uca_key(word, '{USED}'));"
+
+
+NEW_TABLE = f"""
+DROP INDEX IF EXISTS i;
+CREATE TABLE new_words(word TEXT COLLATE uca_{OTHER}, key BLOB AS (uca_key(word, '{OTHER}')) STORED UNIQUE);
+INSERT INTO new_words(word) SELECT word FROM words;
+DROP TABLE words;
+ALTER TABLE new_words RENAME TO words;
+SELECT group_concat(word, ' ') FROM (SELECT word FROM words ORDER BY key);
+PRAGMA integrity_check;
+"""
+
+
+def sqlite_schemas(work):
+    """Where other files are loaded, no row goes in, and a dump with rows is not restored. A new table needs the other files alone."""
+    for number, (made, error) in enumerate(SQLITE_SCHEMAS):
+        database, restored = f"{work}/schema{number}.db", f"{work}/restored{number}.db"
+        sqlite_says(work, made, THREE, database=database)
+        sqlite_fails(work, error, ROW, load=sqlite_load(TAILORED), database=database)
+        sqlite_fails(work, NO_COLLATION, f"SELECT word FROM words ORDER BY word COLLATE uca_{USED};", load=sqlite_load(TAILORED), database=database)
+        sqlite_fails(work, "uca_", ROW, load="", database=database)
+        same(sqlite_says(work, IN_ORDER, "PRAGMA integrity_check;", database=database), "b bh bz\nok\n", made)
+        dump = sqlite_says(work, ".dump", database=database)
+        if "TRIGGER" not in made:  # a dump makes triggers after the rows
+            sqlite_fails(work, error, dump, load=sqlite_load(TAILORED), database=restored)
+            os.remove(restored)
+        same(sqlite_says(work, dump, IN_ORDER, "PRAGMA integrity_check;", database=restored), "b bh bz\nok\n", f"a dump of {made}")
+        same(sqlite_says(work, NEW_TABLE, load=sqlite_load(TAILORED), database=database), "b bz bh\nok\n", f"{made}: a new table")
+
+
+def sqlite_restore(work):
+    """A dump is restored under other files, and nobody looks at the errors. Then the index is not there, and the order is right."""
+    database, restored, dump = (f"{work}/restore.{it}" for it in ("db", "new.db", "sql"))
+    sqlite_says(work, f"CREATE TABLE words(word TEXT); CREATE INDEX by_key ON words(uca_key(word, '{USED}'));", THREE, database=database)
+    same(sqlite_says(work, IN_ORDER, load=sqlite_load(TAILORED), database=database), "b bh bz\n", "an index of keys that are there")
+    with open(dump, "w", encoding="utf-8") as it:
+        it.write(sqlite_says(work, ".dump", database=database))
+    commands = f".load {TOP}/bindings/sqlite/out/uca\n{sqlite_load(TAILORED)}\n.read {dump}\n"
+    ran = subprocess.run(["sqlite3", restored], input=commands, capture_output=True, text=True)
+    if MADE_BY_OTHERS not in ran.stderr:
+        raise AssertionError(f"a dump restored under other files: {ran.stderr}")
+    indexes = "SELECT count(*) FROM sqlite_schema WHERE type = 'index';"
+    same(sqlite_says(work, IN_ORDER, indexes, "PRAGMA integrity_check;", database=restored), "b bh bz\n0\nok\n", "the old files")
+    sqlite_fails(work, MADE_BY_OTHERS, IN_ORDER, load=sqlite_load(TAILORED), database=restored)
+
+
+def sqlite_attached(work):
+    """Two databases of two editions on one connection, each in its own order, by its index and without it."""
+    for table, name, fingerprint in ((TABLE, "first", USED), (TAILORED, "second", OTHER)):
+        made = f"CREATE TABLE words(word TEXT COLLATE uca_{fingerprint}, key BLOB AS (uca_key(word, '{fingerprint}')) STORED);"
+        indexes = "CREATE INDEX by_key ON words(key); CREATE INDEX by_word ON words(word);"
+        sqlite_says(work, made, indexes, THREE, load=sqlite_load(table), database=f"{work}/{name}.db")
+    attach, second = f"ATTACH '{work}/second.db' AS second;", ROW.replace("words", "second.words")
+    for statement in (second, "SELECT word FROM second.words ORDER BY word;"):
+        sqlite_fails(work, f"no such collation sequence: uca_{OTHER}", attach, statement, database=f"{work}/first.db")
+    orders = [f"SELECT group_concat(word, ' ') FROM (SELECT word FROM {name}.words ORDER BY {by});" for name in ("main", "second") for by in ("key", "word", "+key")]
+    found = sqlite_says(work, attach, sqlite_load(TAILORED), ROW, second, *orders, "PRAGMA integrity_check;", database=f"{work}/first.db")
+    same(found, "b bh bz ch\n" * 3 + "b bz bh ch\n" * 3 + "ok\n", "two editions")
+
+
+def sqlite_threads(work):
+    """SQLite sorts in several threads, while keys are made."""
+    made = ["PRAGMA threads = 4; PRAGMA cache_size = -200; CREATE TABLE words(word TEXT);",
+            "WITH RECURSIVE n(i) AS (SELECT 1 UNION ALL SELECT i + 1 FROM n WHERE i < 100000)"
+            "INSERT INTO words SELECT char(97 + i * 7919 % 26, 97 + i * 104729 % 26, 256 + i * 31 % 20000) || i FROM n;"]
+    keys = f"CREATE TABLE keys AS SELECT uca_key(word, '{USED}') AS key FROM words ORDER BY word COLLATE uca_{USED};"
+    wrong = "SELECT count(*), sum(is_wrong) FROM (SELECT key < lag(key) OVER (ORDER BY rowid) AS is_wrong FROM keys);"
+    index = f"CREATE INDEX i ON words(word COLLATE uca_{USED}); PRAGMA integrity_check;"
+    same(sqlite_says(work, *made, keys, wrong, index, database=f"{work}/threads.db"), "4\n100000|0\nok\n", "threads of SQLite")
+
+
+def sqlite_memory(work):
+    """Each allocation fails in turn."""
+    sqlite_says(work, "SELECT 1;")
+    run(["gcc", "-O2", "-std=c11", "-Wall", "-Wextra", "-Werror", "-o", f"{work}/memory", f"{TOP}/bindings/sqlite/memory.c", "-lsqlite3", "-ldl"])
+    run([f"{work}/memory", f"{TOP}/bindings/sqlite/out/uca", TABLE, DATA, USED])
+
+
+SQLITE_PAGE = re.compile(r"^### In SQLite\n(.*?)^### ", re.S | re.M)
+# What the extension was before: a function of one argument and a collation, which name no files.
+MADE_BEFORE = """
+CREATE TABLE words(word TEXT);
+CREATE INDEX by_key ON words(uca_key(word));
+CREATE TABLE names(name TEXT COLLATE uca, key BLOB AS (uca_key(name)) STORED);
+CREATE TABLE uca_files AS SELECT 'd92b' AS fingerprint;
+INSERT INTO words VALUES ('bz'), ('bh'), ('b');
+INSERT INTO names(name) VALUES ('bz'), ('bh'), ('b');
+"""
+
+
+def database_made_before(path):
+    with contextlib.closing(sqlite3.connect(path)) as made:
+        made.create_function("uca_key", 1, lambda text: text.encode(), deterministic=True)
+        made.create_collation("uca", lambda left, right: (left > right) - (left < right))
+        made.executescript(MADE_BEFORE)
+
+
+def page_statements(work, database, block):
+    """Statements of docs/BINDINGS.md print what their comments show."""
+    ran = subprocess.run(["sqlite3", "-bail", f"{work}/{database}"], input=block, capture_output=True, text=True, cwd=TOP)
+    same(ran.stderr, "", f"errors of {block}")
+    same(ran.stdout.splitlines(), re.findall(r"^-- (.*)", block, re.M), f"the page's statements {block}")
+    same(sqlite_says(work, sqlite_load(TAILORED), "PRAGMA integrity_check;", database=f"{work}/{database}"), "ok\n", database)
+
+
+def sqlite_page(work):
+    """The statements of docs/BINDINGS.md: the first ones, those after a change of files, and those for a database that was made before."""
+    text = SQLITE_PAGE.search(content(f"{TOP}/docs/BINDINGS.md").decode()).group(1)
+    first, changed, before = re.findall(r"```sql\n(.*?)```", text, re.S)
+    sqlite_says(work, "SELECT 1;")
+    page_statements(work, "page.db", first)
+    page_statements(work, "page.db", changed)
+    database_made_before(f"{work}/before.db")
+    sqlite_fails(work, "wrong number of arguments to function uca_key()", "SELECT word FROM words;", database=f"{work}/before.db")
+    page_statements(work, "before.db", before)
+    constraint = re.search(r"`(CHECK \(.*?\))`", text).group(1).replace("e7f5..", USED)
+    made = f"CREATE TABLE plain(word TEXT, key BLOB {constraint}); INSERT INTO plain VALUES ('a', uca_key('a', '{USED}')), (NULL, NULL);"
+    sqlite_says(work, made)
+    for key in ("NULL", "''", "x'1C47'"):
+        sqlite_fails(work, "CHECK constraint failed", made, f"INSERT INTO plain VALUES ('a', {key});")
+
+
+def sqlite_like(program):
+    """Lines ordered by the collation, by the key and by an index are in the order of `uca sort`."""
+
+    def check(work):
+        if not os.path.exists(program):
+            raise NotHere(f"there is no {program}")
+        for lines in LINES:
+            text = content(f"{EXAMPLES}/{lines}")
+            wanted = run([program, "sort", "--weighting", "shifted", f"{EXAMPLES}/table.txt", f"{EXAMPLES}/data.txt"], input=text).decode()
+            values = ", ".join("('" + it.replace("'", "''") + "')" for it in text.decode().removesuffix("\n").split("\n"))
+            made = f"CREATE TABLE lines(line TEXT); INSERT INTO lines VALUES {values};"
+            for after in (f"ORDER BY line COLLATE uca_{USED}, rowid", f"ORDER BY uca_key(line, '{USED}'), rowid"):
+                same(sqlite_says(work, made, f"SELECT line FROM lines {after};"), wanted, f"order of {lines}, {after}")
+            index = f"CREATE INDEX by_order ON lines(line COLLATE uca_{USED});"
+            same(sqlite_says(work, made, index, f"SELECT line FROM lines ORDER BY line COLLATE uca_{USED};"), wanted, f"order of {lines} by an index")
+
+    return check
+
+
+def link_into(folder, source):
+    """Links in a folder to what another folder has and this one has not."""
+    for name in os.listdir(source):
+        if os.path.isdir(f"{folder}/{name}") and not os.path.islink(f"{folder}/{name}"):
+            link_into(f"{folder}/{name}", f"{source}/{name}")
+        elif not os.path.lexists(f"{folder}/{name}"):
+            os.symlink(f"{source}/{name}", f"{folder}/{name}")
+
+
+def postgresql_programs(work):
+    """The folder of a server's programs to which the extension is installed. They are copies in a tree in this folder, since a server
+    looks for its files by where its program is. The other files of the tree are links."""
+    need("make", "gcc", "pg_config", "psql")
+    config = os.environ.get("PG_CONFIG", "pg_config")
+    headers, programs, library, shared = (run([config, f"--{it}"]).decode().strip() for it in ("includedir-server", "bindir", "pkglibdir", "sharedir"))
+    if not os.path.exists(f"{headers}/postgres.h"):
+        raise NotHere("there is no postgres.h")
+    made = ["make", "-s", "-C", f"{TOP}/bindings/postgresql", f"PG_CONFIG={config}"]
+    run(made)
+    tree = f"{work}/server"
+    if not os.path.exists(tree):
+        run([*made, "install", f"DESTDIR={tree}"])
+        shutil.copytree(programs, tree + programs)
+        for it in (library, shared):
+            link_into(tree + it, it)
+    return tree + programs
+
+
+@contextlib.contextmanager
+def postgresql_server(work, table=f"{EXAMPLES}/table.txt", data=f"{EXAMPLES}/data.txt", more=""):
+    """A server with the extension over these files, what runs statements in it, and its settings."""
+    programs = postgresql_programs(work)
+    sys.path.insert(0, f"{EXAMPLES}/databases")
+    sys.dont_write_bytecode = True
+    from local_servers import PostgreSQL
+
+    room = tempfile.mkdtemp(dir=work)
+    for folder in (work, room):
+        os.chmod(folder, 0o755)
+    for file, name in ((table, "table.txt"), (f"{EXAMPLES}/tailored.txt", "tailored.txt"), (data, "data.txt")):
+        shutil.copy(file, f"{room}/{name}")
+    files = "".join(f"uca.{it}_file = '{room}/{it}.txt'\n" for it in ("table", "data"))
+    settings = f"shared_preload_libraries = 'uca'\n{files}uca.weighting = shifted\n{more}"
+    with PostgreSQL(room, settings, programs) as server:
+
+        def says(statements, fails=False, database="postgres"):
+            """What the statements print, or the first line of their error."""
+            words = ["psql", "-XAtq", "-v", "ON_ERROR_STOP=1", "-d", database]
+            environment = {**os.environ, **server.environment, "PGOPTIONS": "-c client_min_messages=error"}
+            ran = subprocess.run(words, input=statements, capture_output=True, text=True, env=environment)
+            if bool(ran.returncode) != fails:
+                raise AssertionError(f"{statements:.200}: {ran.stdout}{ran.stderr}")
+            return ran.stderr.split("\n")[0] if fails else ran.stdout
+
+        says("CREATE EXTENSION uca;")
+        yield server, says, settings
+
+
+OTHER_FILES = "ERROR:  uca: the server has other files or settings than those by which this database's keys were made"
+OTHERS_NAMED = "ERROR:  uca: the server has other files or settings than those that are named"
+KEYS_ARE_KEPT = "ERROR:  uca: this database keeps keys of other files or settings than the server's"
+MADE = "CREATE TABLE words(word text); INSERT INTO words VALUES ('ch'), ('c-h'), ('a'), ('á'); CREATE INDEX by_key ON words(uca_key(word));"
+LONG = "repeat(repeat('a', 10000), 18000)"
+RUN_OF_65 = "'a' || repeat(U&'\\0301', 65)"
+
+
+def postgresql(work):
+    with postgresql_server(work) as (server, says, settings):
+        same(says("SELECT encode(uca_key('a'), 'hex'), uca_key(NULL) IS NULL, encode(uca_any_key('a'), 'hex');"),
+             "1c4700000020000000020000ffff|t|001c4700000020000000020000ffff\n", "keys")
+        same(says(f"SELECT uca_key({RUN_OF_65});", fails=True), "ERROR:  uca: the text is rejected: LongRun", "a text that is rejected")
+        same(says(f"SELECT substring(uca_any_key({RUN_OF_65}) for 4);"), "\\x0161cc81\n", "any key of a text that is rejected")
+        same(says(f"SELECT length(uca_any_key({LONG}));"), "180000001\n", "any key of a text of 180 MB")
+        same(says(f"SELECT uca_key({LONG});", fails=True), "ERROR:  uca: the text is rejected: TooLong", "a text of 180 MB")
+        same(says(MADE + "SET enable_seqscan = off; EXPLAIN (costs off) SELECT word FROM words ORDER BY uca_key(word); SELECT word FROM words ORDER BY uca_key(word);"),
+             "Index Scan using by_key on words\na\ná\nc-h\nch\n", "an index")
+        parallel = "SET max_parallel_workers_per_gather = 4; SET parallel_setup_cost = 0; SET parallel_tuple_cost = 0; SET min_parallel_table_scan_size = 0;"
+        counted = f"{parallel} SELECT count(*) FROM numbers WHERE uca_key(n) > '\\x00';"
+        same(says(f"CREATE TABLE numbers AS SELECT i::text AS n FROM generate_series(1, 100000) i; {counted}"), "100000\n", "parallel workers")
+        says("SET uca.weighting = 'non-ignorable';", fails=True)
+        meanwhile = "BEGIN; INSERT INTO words VALUES ('b');\n\\! psql -XAtqc \"INSERT INTO uca_files VALUES ('another')\"\nINSERT INTO words VALUES ('b');"
+        same(says(meanwhile, fails=True), OTHER_FILES, "another fingerprint of another session")
+        says("DELETE FROM uca_files WHERE fingerprint = 'another';")
+        server.restart(settings.replace("/table.txt", "/tailored.txt"))
+        for statement in ("SELECT uca_key('a');", "INSERT INTO words VALUES ('b');", "SELECT word FROM words WHERE uca_key(word) > '\\x00';"):
+            same(says(statement, fails=True), OTHER_FILES, f"{statement} with another table")
+        used = "BEGIN; DO 'BEGIN PERFORM uca_use_files(again => true); END';"
+        same(says(f"{used} SELECT uca_key('a'); ROLLBACK; SELECT uca_key('a');", fails=True), OTHER_FILES, "files that are not used after all")
+        inside = f"{used.replace('BEGIN;', 'BEGIN; SAVEPOINT s;')} SELECT uca_key('a'); ROLLBACK TO s; SELECT uca_key('a');"
+        same(says(inside, fails=True), OTHER_FILES, "the same inside a transaction")
+        same(says(f"{used} {counted} ROLLBACK;"), "100000\n", "parallel workers of a transaction that uses other files")
+        written = "INSERT INTO words SELECT 'a' WHERE uca_key('a') IS NULL; INSERT INTO uca_files VALUES (''); SELECT uca_key('a');"
+        same(says(f"{used} {written}", fails=True), OTHER_FILES, "another fingerprint in the same transaction")
+        same(says(f"{used} COMMIT; INSERT INTO words VALUES ('b'); SELECT word FROM words ORDER BY uca_key(word);"),
+             "a\ná\nb\nc-h\nch\n", "files that are used from now on")
+        says("ALTER EXTENSION uca DROP FUNCTION uca_use_files(boolean); DROP FUNCTION uca_use_files(boolean);"
+             "ALTER TABLE uca_files ALTER fingerprint TYPE bytea USING decode(fingerprint, 'hex');")
+        same(says("SELECT uca_key('a');", fails=True), "ERROR:  uca: this database has the extension of an earlier version", "a table that was made before")
+
+
+def postgresql_settings(work):
+    """The settings and their files, and the fingerprint of each."""
+    table, data = f"{EXAMPLES}/table.txt", f"{EXAMPLES}/data.txt"
+    with postgresql_server(work) as (server, says, settings):
+        for weighting, depth in (("shifted", "identical"), ("non-ignorable", "weights"), ("table", "weights")):
+            server.restart(settings.replace("weighting = shifted", f"weighting = '{weighting}'") + f"uca.identical = {depth == 'identical'}\n")
+            wanted = fingerprint_of(table, data, weighting.replace("table", "shifted"), depth)
+            key = "1c470000002000000002" + ("0000ffff" if weighting != "non-ignorable" else "") + ("0000000061" if depth == "identical" else "")
+            same(says(f"SELECT uca_fingerprint(), encode(uca_key('a', '{wanted}'), 'hex');"), f"{wanted}|{key}\n", f"{weighting}, {depth}")
+            is_same = wanted == fingerprint_of(table, data, "shifted", "weights")
+            same(says("SELECT uca_key('a');", fails=not is_same).strip(), f"\\x{key}" if is_same else OTHER_FILES, f"{weighting}, {depth}, in this database")
+        for name in ("uca.table_file", "uca.data_file"):
+            same(says(f"ALTER SYSTEM SET {name} = '/none'; SHOW {name};"), f"{server.folder.removesuffix('postgresql')}{name[4:-5]}.txt\n", name)
+            if "pg_read_all_settings" not in says(f"CREATE ROLE {name[4:]}; SET ROLE {name[4:]}; SHOW uca.weighting; SHOW {name};", fails=True):
+                raise AssertionError(f"a role without rights reads {name}")
+        room = os.path.dirname(server.folder)
+        os.mkfifo(f"{room}/pipe")
+        with open(f"{room}/long", "wb") as it:
+            it.truncate(64 * 1024 * 1024 + 1)
+        for file, error in (("none", "the file of uca.table_file cannot be read: No such file or directory"), ("pipe", "uca.table_file does not name a regular file"),
+                            ("", "uca.table_file does not name a regular file"), ("long", "the file of uca.table_file has more than 67108864 bytes"),
+                            ("data.txt", "table line 1: Line")):
+            server.restart(settings.replace("/table.txt", f"/{file}"))
+            same(says("SELECT uca_key('a');", fails=True), f"ERROR:  uca: {error}", f"the file {file}")
+        server.restart(settings.replace("_file", ""))
+        same(says("SELECT uca_key('a');", fails=True), "ERROR:  uca: the settings uca.table and uca.data are now uca.table_file and uca.data_file", "the old names")
+
+
+# The word bh is before bz by the one table, and after it by the other.
+KEPT = """
+CREATE TABLE words(word text, key bytea GENERATED ALWAYS AS (uca_key(word)) STORED, CONSTRAINT "is a word" CHECK (uca_key(word) > '\\x00'));
+INSERT INTO words VALUES ('b'), ('bh'), ('bz'), ('c');
+CREATE INDEX by_key ON words(uca_key(word));
+CREATE FUNCTION any_key(text) RETURNS bytea LANGUAGE sql IMMUTABLE AS 'SELECT public.UCA_ANY_KEY($1)';
+CREATE FUNCTION key_of(text) RETURNS bytea LANGUAGE sql IMMUTABLE RETURN uca_key($1);
+CREATE INDEX by_any_key ON words(any_key(word)) WHERE key_of(word) > '\\x00';
+CREATE FUNCTION order_of(text, text) RETURNS integer LANGUAGE sql IMMUTABLE AS 'SELECT byteacmp(public.uca_key($1), public.uca_key($2))';
+CREATE OPERATOR CLASS its_order FOR TYPE text USING btree AS FUNCTION 1 order_of(text, text);
+CREATE TABLE ordered(word text);
+CREATE INDEX by_order ON ordered(word its_order);
+CREATE TABLE plain AS SELECT word, key FROM words;
+CREATE VIEW keys AS SELECT word, uca_key(word) AS key FROM words;
+CREATE MATERIALIZED VIEW "Kept" AS SELECT * FROM keys;
+CREATE MATERIALIZED VIEW again AS SELECT * FROM "Kept" ORDER BY key;
+CREATE DOMAIN short AS text CONSTRAINT is_short CHECK (length(uca_key(VALUE)) < 100);
+CREATE TABLE parts(word text) PARTITION BY RANGE (uca_key(word));
+SELECT format('CREATE TABLE part1 PARTITION OF parts FOR VALUES FROM (MINVALUE) TO (%L)', uca_key('bi')) \\gexec
+SELECT format('CREATE TABLE part2 PARTITION OF parts FOR VALUES FROM (%L) TO (MAXVALUE)', uca_key('bi')) \\gexec
+INSERT INTO parts SELECT word FROM words;
+"""
+DEPENDENTS = """index|public.by_any_key|REINDEX INDEX public.by_any_key
+index|public.by_key|REINDEX INDEX public.by_key
+index|public.by_order|REINDEX INDEX public.by_order
+generated column|public.words.key|UPDATE ONLY public.words SET word = word
+check|"is a word" on public.words|ALTER TABLE public.words DROP CONSTRAINT "is a word", ADD CONSTRAINT "is a word" CHECK ((public.uca_key(word) > '\\x00'::bytea))
+check|is_short on public.short|ALTER DOMAIN public.short DROP CONSTRAINT is_short; ALTER DOMAIN public.short ADD CONSTRAINT is_short CHECK ((length(public.uca_key(VALUE)) < 100))
+partitioned table|public.parts|
+materialized view|public."Kept"|REFRESH MATERIALIZED VIEW public."Kept"
+materialized view|public.again|REFRESH MATERIALIZED VIEW public.again
+"""
+WRONG_KEYS = "".join(f"SELECT count(*) FROM {it} WHERE key <> uca_key(word);" for it in ("words", "plain", '"Kept"', "again"))
+BY_INDEX = "SET enable_seqscan = off; SELECT string_agg(word, ' ') FROM (SELECT word FROM words ORDER BY uca_key(word)) it;"
+USES = ("SELECT uca_key('a');", "INSERT INTO words VALUES ('d');", "SELECT FROM plain WHERE key = uca_key(word);", "INSERT INTO parts VALUES ('bh');")
+
+
+def named(fingerprint):
+    """Tables whose keys name their files."""
+    key = f"uca_key(word, '{fingerprint}')"
+    return (f"CREATE TABLE named(word text, key bytea CHECK (key = {key})); INSERT INTO named VALUES ('bh', uca_key('bh'));"
+            f"CREATE TABLE named2(word text, key bytea GENERATED ALWAYS AS ({key}) STORED); INSERT INTO named2 VALUES ('bh');"
+            f"CREATE TABLE named3(word text); INSERT INTO named3 VALUES ('bh'); CREATE INDEX by_name ON named3 ({key});"
+            f"CREATE TABLE named4(key bytea, CHECK (uca_key('', '{fingerprint}') IS NOT NULL)); INSERT INTO named4 SELECT key FROM named;")
+
+
+def restored(server, database, *words, given=None):
+    """The errors of a restore into a new database."""
+    environment = {**os.environ, **server.environment, "PGDATABASE": database}
+    run([f"{server.programs}/createdb", "-T", "template0", database], env=environment)
+    ran = subprocess.run([f"{server.programs}/{words[0]}", *words[1:], "-d", database], input=given, capture_output=True, env=environment)
+    return ran.stderr.decode()
+
+
+def postgresql_dumps(work):
+    """Dumps that are restored where the server has the same files, and where it has others."""
+    with postgresql_server(work) as (server, says, _), postgresql_server(work, f"{EXAMPLES}/tailored.txt") as (other, says_other, _):
+        fingerprint = says("SELECT uca_fingerprint();").strip()
+        says(KEPT)
+        dump = [f"{server.programs}/pg_dump", "-h", server.folder, "-U", "postgres"]
+        plain = run([*dump, "postgres"])
+        run([*dump, "-Fc", "-f", f"{work}/dump", "postgres"])
+        restores = {"plain": (["psql", "-X"], plain), "parallel": (["pg_restore", "-j", "4", f"{work}/dump"], None)}
+        for name, (words, given) in restores.items():
+            same(restored(server, name, *words, given=given), "", f"a {name} restore under the same files")
+            same(says(WRONG_KEYS + BY_INDEX + "SELECT string_agg(word, ' ') FROM part1;", database=name), "0\n" * 4 + "b bh bz c\nb bh\n", f"its keys, {name}")
+            restored(other, name, *words, given=given)
+            same(says_other("SELECT count(*) FROM plain;", database=name), "4\n", "keys that came from the dump")
+            for it in USES:
+                same(says_other(it, fails=True, database=name), OTHER_FILES, f"{it} after a {name} restore under other files")
+            same(says_other("SELECT uca_use_files();", fails=True, database=name), KEYS_ARE_KEPT, f"uca_use_files() after a {name} restore")
+        says("CREATE DATABASE named;")
+        says("CREATE EXTENSION uca;" + named(fingerprint) + "CREATE TABLE plain AS SELECT * FROM named;", database="named")
+        same(says("SELECT * FROM uca_dependents();", database="named"), "", "what names its files does not depend on uca_files")
+        alone = run([*dump, "-t", "named*", "named"])
+        for its_server, its_says, count in ((server, says, "1\n" * 4), (other, says_other, "0\n0\n1\n0\n")):
+            its_says("CREATE DATABASE alone;")
+            its_says("CREATE EXTENSION uca;", database="alone")
+            environment = {**os.environ, **its_server.environment, "PGDATABASE": "alone"}
+            ran = subprocess.run(["psql", "-XAtq"], input=alone, capture_output=True, env=environment)
+            same(ran.stderr.decode().count(OTHERS_NAMED.partition(":")[2]), 0 if its_server is server else 4, "errors of tables that name their files")
+            counts = "".join(f"SELECT count(*) FROM {it};" for it in ("named", "named2", "named3", "named4"))
+            same(its_says(counts, database="alone"), count, "their rows")
+        ordered = f"SET enable_seqscan = off; EXPLAIN (costs off) SELECT word FROM named3 ORDER BY uca_key(word, '{fingerprint}');"
+        same(says(ordered, database="named"), "Index Scan using by_name on named3\n", "an index that names its files")
+        same(says(f"SELECT uca_any_key(NULL, '{fingerprint}') IS NULL;"), "t\n", "the key of NULL")
+        same(says("SELECT uca_key(NULL, NULL);", fails=True), "ERROR:  uca: the fingerprint is NULL", "no fingerprint")
+        same(says("DROP EXTENSION uca;", fails=True, database="named"), "ERROR:  cannot drop extension uca because other objects depend on it", "DROP EXTENSION")
+        says("DROP EXTENSION uca CASCADE; CREATE EXTENSION uca;", database="named")
+        same(says("SELECT key = uca_key(word) FROM plain;", fails=True, database="named"), OTHER_FILES, "bytes that were there before the extension")
+        same(says("SELECT uca_use_files(); SELECT key = uca_key(word) FROM plain;", database="named"), "0\nt\n", "an administrator who knows these bytes")
+
+
+def until(found, wanted, what):
+    """Waits until a call returns this, 30 seconds at most."""
+    for _ in range(300):
+        if found() == wanted:
+            return
+        time.sleep(0.1)
+    same(found(), wanted, what)
+
+
+def postgresql_replication(work):
+    """Keys of another server, which logical replication copies as bytes."""
+    more = "wal_level = logical\n"
+    with postgresql_server(work, more=more) as (server, says, _), postgresql_server(work, f"{EXAMPLES}/tailored.txt", more=more) as (other, says_other, _):
+        fingerprint = says("SELECT uca_fingerprint();").strip()
+        tables = ("CREATE TABLE plain(word text, key bytea); CREATE TABLE copies(word text); CREATE INDEX by_key ON copies(uca_key(word));"
+                  f"CREATE TABLE named(word text, key bytea CHECK (key = uca_key(word, '{fingerprint}')));")
+        says(tables + "INSERT INTO plain VALUES ('bh', uca_key('bh')); INSERT INTO named SELECT * FROM plain; INSERT INTO copies SELECT word FROM plain;")
+        says("CREATE PUBLICATION everything FOR ALL TABLES;")
+        says("CREATE DATABASE copy;")
+        says("CREATE EXTENSION uca;" + tables, database="copy")
+        says("SELECT FROM pg_create_logical_replication_slot('here', 'pgoutput');")
+        connection = f"CREATE SUBSCRIPTION {{}} CONNECTION 'host={server.folder} user=postgres dbname=postgres' PUBLICATION everything"
+        says(f"{connection.format('here')} WITH (create_slot = false);", database="copy")
+        counts = "SELECT count(*) FROM uca_files; SELECT count(*) FROM plain; SELECT count(*) FROM copies; SELECT count(*) FROM named;"
+        until(lambda: says(counts, database="copy"), "2\n1\n1\n1\n", "rows of a server with the same files")
+        same(says("SELECT key = uca_key(word) FROM plain;", database="copy"), "t\n", "keys of a server with the same files")
+        says("ALTER SUBSCRIPTION here DISABLE;", database="copy")
+        says_other(tables)
+        says_other(f"{connection.format('there')};")
+        until(lambda: says_other(counts)[:4], "2\n1\n", "rows of a server with other files")
+        same(says_other("SELECT key = uca_key(word) FROM plain;", fails=True), OTHER_FILES, "keys of a server with other files")
+        same(says_other("INSERT INTO copies VALUES ('b');", fails=True), OTHER_FILES, "an index beside them")
+        until(lambda: OTHERS_NAMED in content(f"{other.folder}/log").decode(), True, "an error for a column that names its files")
+        same(says_other("SELECT count(*) FROM named;"), "0\n", "rows of a table that names its files")
+        says("UPDATE uca_files SET fingerprint = 'another';")
+        until(lambda: says_other("SELECT count(*) FROM uca_files WHERE fingerprint = 'another';"), "1\n", "a later fingerprint")
+
+
+def postgresql_changes(work):
+    """What an administrator does where the server has other files."""
+    with postgresql_server(work, more="max_prepared_transactions = 1\n") as (server, says, settings):
+        fingerprint = says("SELECT uca_fingerprint();").strip()
+        same(says("SELECT * FROM uca_dependents();"), "", "no dependents")
+        says(KEPT + named(fingerprint))
+        same(says("SELECT kind, object, statement FROM uca_dependents();"), DEPENDENTS, "the dependents")
+        same(says("SELECT uca_use_files();"), "0\n", "files that are used already")
+        says("CREATE DATABASE empty;")
+        says("CREATE EXTENSION uca; BEGIN; CREATE TABLE it(); PREPARE TRANSACTION 'one';", database="empty")
+        server.restart(settings.replace("/table.txt", "/tailored.txt"))
+        same(says("SELECT uca_use_files();", fails=True, database="empty"), KEYS_ARE_KEPT, "a prepared transaction")
+        same(says("ROLLBACK PREPARED 'one'; SELECT uca_use_files(); SELECT uca_key('bh') > uca_key('bz');", database="empty"), "0\nt\n", "a database without keys")
+        same(says("SELECT uca_use_files();", fails=True), KEYS_ARE_KEPT, "uca_use_files()")
+        same(says("SELECT uca_key('a');", fails=True), OTHER_FILES, "a key after it")
+        again = "SELECT uca_use_files(again => true);"
+        same(says(again, fails=True), KEYS_ARE_KEPT, "a partitioned table, which has no statement")
+        skips = "CREATE TRIGGER skips BEFORE UPDATE ON words FOR EACH ROW EXECUTE FUNCTION suppress_redundant_updates_trigger();"
+        for it in (skips, "CREATE RULE skips AS ON UPDATE TO words DO INSTEAD NOTHING;"):
+            same(says(f"BEGIN; DROP TABLE parts; {it} {again}", fails=True), KEYS_ARE_KEPT, f"a column that {it} could leave as it is")
+        same(says(f"BEGIN; DROP TABLE parts; {again} UPDATE plain SET key = uca_key(word); COMMIT;"), f"{DEPENDENTS.count(chr(10)) - 1}\n", "statements that were run")
+        same(says(WRONG_KEYS + BY_INDEX), "0\n" * 4 + "b bz bh c\n", "the keys after them")
+        same(says("INSERT INTO named3 VALUES ('b');", fails=True), OTHERS_NAMED, "an index that names the old files")
+        server.restart(settings)
+        dropped = ["BEGIN; DROP INDEX by_key, by_any_key, by_order; ALTER TABLE words DROP key, DROP CONSTRAINT \"is a word\"; DROP VIEW keys CASCADE; DROP DOMAIN short;",
+                   "SELECT uca_use_files(); CREATE INDEX by_key ON words(uca_key(word)); COMMIT;", BY_INDEX]
+        for without in ("DROP INDEX by_key, by_any_key, by_order;", "DROP VIEW keys CASCADE;", "DROP DOMAIN short;"):
+            same(says("\n".join(dropped).replace(without, ""), fails=True), KEYS_ARE_KEPT, f"without {without}")
+        same(says("\n".join(dropped).replace(", by_order", ""), fails=True), KEYS_ARE_KEPT, "without an index by an operator class")
+        same(says("\n".join(dropped)), "0\nb bh bz c\n", "dropped, and made again")
+        same(says("INSERT INTO named3 VALUES ('b'); SELECT count(*) FROM named3;"), "2\n", "an index that names these files")
+
+
+def postgresql_roles(work):
+    """Roles without rights, and schemas that are renamed."""
+    with postgresql_server(work) as (_, says, _):
+        says("DROP EXTENSION uca; CREATE SCHEMA ext; CREATE EXTENSION uca SCHEMA ext; CREATE ROLE joe;"
+             "CREATE TABLE words(word text); CREATE INDEX by_key ON words(ext.uca_key(word)); GRANT ALL ON words TO joe;")
+        says("SET ROLE joe; INSERT INTO words VALUES ('a');")
+        says("REVOKE SELECT ON ext.uca_files FROM PUBLIC; SET ROLE joe; INSERT INTO words VALUES ('b');")
+        says("GRANT USAGE ON SCHEMA ext TO joe;")
+        for it in ("SELECT ext.uca_use_files()", "SELECT ext.uca_run('SELECT 1', 'joe')", "DELETE FROM ext.uca_files", "INSERT INTO ext.uca_files VALUES ('')"):
+            if "permission denied" not in says(f"SET ROLE joe; {it};", fails=True):
+                raise AssertionError(f"{it} by a role without rights")
+        says("CREATE INDEX CONCURRENTLY again ON words(ext.uca_key(word)); REINDEX INDEX CONCURRENTLY again; VACUUM FULL words; ANALYZE words;")
+        for schema in ("ext2", "public"):
+            says(f"ALTER SCHEMA ext RENAME TO {schema};" if schema == "ext2" else f"ALTER EXTENSION uca SET SCHEMA {schema};")
+            same(says(f"SELECT count(*) FROM {schema}.uca_dependents(); SELECT {schema}.uca_use_files(again => true); SELECT {schema}.uca_key('a') IS NULL;"), "2\n2\nf\n", schema)
+        taken_back = "BEGIN; DROP EXTENSION uca CASCADE; CREATE EXTENSION uca; SELECT uca_key('a') IS NULL; ROLLBACK; SELECT uca_key('a') IS NULL;"
+        same(says(taken_back), "f\nf\n", "an extension that is made again")
+        says("CREATE SCHEMA other; ALTER TABLE uca_files SET SCHEMA other; CREATE TABLE uca_files AS SELECT * FROM other.uca_files;")
+        same(says("DELETE FROM uca_files; SELECT uca_key('a') IS NULL;"), "f\n", "another table uca_files")
+        same(says("UPDATE other.uca_files SET fingerprint = ''; SELECT uca_key('a');", fails=True), OTHER_FILES, "the extension's table")
+        says("ALTER EXTENSION uca DROP TABLE other.uca_files;")
+        same(says("SELECT uca_key('a');", fails=True), "ERROR:  uca: the extension has no table uca_files", "no table of the extension")
+
+
+# Each kind of what keeps keys, and no statement may run the function of its owner as another role.
+OF_EVE = """
+CREATE ROLE eve; CREATE SCHEMA eve AUTHORIZATION eve; SET ROLE eve; SET search_path = eve, public;
+CREATE FUNCTION key_of(text) RETURNS bytea LANGUAGE plpgsql IMMUTABLE AS $$ BEGIN
+    IF current_user <> 'eve' THEN RAISE EXCEPTION 'run as %', current_user; END IF;
+    PERFORM set_config('search_path', 'eve', false);
+    RETURN public.uca_key($1);
+END $$;
+CREATE TABLE words(word text CHECK (key_of(word) > '\\x00'), key bytea GENERATED ALWAYS AS (key_of(word)) STORED);
+CREATE INDEX by_key ON words(key_of(word));
+CREATE DOMAIN short AS text CHECK (length(key_of(VALUE)) < 100);
+CREATE TABLE shorts(word short);
+INSERT INTO words VALUES ('bh'); INSERT INTO shorts VALUES ('bh');
+CREATE MATERIALIZED VIEW keys AS SELECT key_of(word) AS key FROM words;
+"""
+
+
+def postgresql_owners(work):
+    """uca_use_files(again => true) runs functions of other roles as these roles. Afterwards, the role and the settings are the caller's."""
+    with postgresql_server(work) as (server, says, settings):
+        says(OF_EVE)
+        server.restart(settings.replace("/table.txt", "/tailored.txt"))
+        same(says("SELECT uca_use_files(again => true); SHOW search_path; SELECT current_user;"), '5\n"$user", public\npostgres\n', "statements of another role")
+        same(says("SELECT count(*) FROM eve.words JOIN eve.keys USING (key) WHERE key = uca_key(word);"), "1\n", "the keys after them")
+        says("GRANT EXECUTE ON FUNCTION uca_run(text, regrole) TO eve;")
+        same(says("SET ROLE eve; SELECT uca_run('SELECT 1', 'eve'), current_user;"), "SELECT 1|eve\n", "a statement of one's own")
+        same(says("SET ROLE eve; SELECT uca_run('SELECT 1', 'postgres');", fails=True), 'ERROR:  must be member of role "postgres"', "a statement of a role that one is no member of")
+        fails = "DO $$ BEGIN PERFORM uca_run('SELECT 1 / 0', 'eve'); EXCEPTION WHEN division_by_zero THEN END $$; SELECT current_user;"
+        same(says(fails), "postgres\n", "after an error of a statement")
+        same(says("SELECT uca_run('SET ROLE postgres', 'eve');", fails=True), 'ERROR:  cannot set parameter "role" within security-restricted operation', "a statement that takes a role")
+
+
+# Thirty layers, where each view reads both of the layer before it. Then a materialized view that calls a function, and one that reads it.
+VIEWS = f"""
+CREATE TABLE words(word text);
+CREATE VIEW left0 AS SELECT uca_key(word) AS key, {", ".join(f"word AS word{it}" for it in range(9))} FROM words; CREATE VIEW right0 AS SELECT * FROM left0;
+{"".join(f"CREATE VIEW {side}{it + 1} AS SELECT {side}{it}.* FROM left{it}, right{it};" for it in range(30) for side in ("left", "right"))}
+CREATE FUNCTION rows() RETURNS bigint LANGUAGE sql RETURN 0;
+CREATE MATERIALIZED VIEW z AS SELECT key, rows() AS rows FROM right0;
+CREATE MATERIALIZED VIEW "A" AS SELECT key FROM z;
+"""
+
+
+def postgresql_dependents(work):
+    """Objects that no one statement makes again, and views over views."""
+    key = "key bytea GENERATED ALWAYS AS (uca_key({})) STORED"
+    with postgresql_server(work) as (server, says, settings):
+        says(f"CREATE TABLE numbered(id integer GENERATED ALWAYS AS IDENTITY, {key.format('id::text')});"
+             f"CREATE TABLE both_kinds(id integer GENERATED ALWAYS AS IDENTITY, word text, {key.format('id::text || word')});"
+             "CREATE FOREIGN DATA WRAPPER none; CREATE SERVER none FOREIGN DATA WRAPPER none;"
+             f"CREATE FOREIGN TABLE far(word text, {key.format('word')}) SERVER none;")
+        same(says("SELECT object, statement FROM uca_dependents();"),
+             "public.both_kinds.key|UPDATE ONLY public.both_kinds SET word = word\npublic.far.key|\npublic.numbered.key|\n", "columns that no UPDATE makes again")
+        says("DROP TABLE numbered, both_kinds; DROP FOREIGN TABLE far;")
+        says(VIEWS)
+        listed = "SET statement_timeout = '20s'; SELECT object, statement IS NULL FROM uca_dependents() WHERE kind = 'materialized view';"
+        same(says(listed), 'public.z|f\npublic."A"|f\n', "views over views")
+        says("CREATE OR REPLACE FUNCTION rows() RETURNS bigint LANGUAGE sql RETURN (SELECT count(*) FROM z);")
+        same(says(listed), 'public."A"|t\npublic.z|t\n', "a view that reads itself")
+        says("DROP TABLE words CASCADE; CREATE TABLE one(word text, key bytea, CONSTRAINT it CHECK (key = uca_key(word))); CREATE TABLE two(LIKE one INCLUDING ALL);"
+             "CREATE TABLE own(LIKE one INCLUDING ALL); INSERT INTO own VALUES ('bh', uca_key('bh')); ALTER TABLE own INHERIT one;"
+             "CREATE TABLE of_two() INHERITS (one, two); CREATE TABLE of_one() INHERITS (one);")
+        same(says("SELECT object, statement IS NULL FROM uca_dependents();"),
+             "it on public.of_two|t\nit on public.one|f\nit on public.own|t\nit on public.two|f\n", "a CHECK that several tables have")
+        server.restart(settings.replace("/table.txt", "/tailored.txt"))
+        again = "SELECT uca_use_files(again => true);"
+        same(says(again, fails=True), KEYS_ARE_KEPT, "a CHECK that is not tested again")
+        dropped = "BEGIN; ALTER TABLE one DROP CONSTRAINT it; ALTER TABLE two DROP CONSTRAINT it;"
+        same(says(dropped + again, fails=True), 'ERROR:  check constraint "it" of relation "own" is violated by some row', "a CHECK that is tested again")
+        same(says(f"{dropped} DELETE FROM own; {again} COMMIT;"), "1\n", "a CHECK after it")
+
+
+HOLDERS = """
+CREATE DOMAIN a_key AS bytea; CREATE DOMAIN "that key" AS a_key; CREATE TYPE a_row AS (word text, key "that key"); CREATE TYPE a_range AS RANGE (subtype = bytea);
+"""
+
+
+def postgresql_columns(work):
+    """Columns whose keys nothing knows about."""
+    with postgresql_server(work) as (server, says, settings):
+        fingerprint = says(f"DROP EXTENSION uca; {HOLDERS} CREATE EXTENSION uca; SELECT fingerprint FROM uca_files;").strip()
+        same(fingerprint, USED, "types without columns")
+        for it in ("bytea", "a_key", '"that key"', "a_row", "a_range", "a_multirange", "bytea[]", '"that key"[]', "a_row[]"):
+            counted = f"DROP EXTENSION uca; CREATE TABLE its(it {it}); CREATE EXTENSION uca; SELECT count(*) FROM uca_files; DROP TABLE its;"
+            same(says(counted), "2\n", f"a column of type {it} before the extension")
+        page = re.search(r"CREATE TABLE stored .*", content(f"{TOP}/docs/BINDINGS.md").decode()).group()
+        says("DELETE FROM uca_files WHERE fingerprint LIKE 'unknown%';" + page.replace("2c26..7ae3", fingerprint))
+        says("INSERT INTO stored VALUES ('a', uca_key('a')), (NULL, NULL);")
+        for it in ("(NULL, '\\x1c')", "('a', NULL)", "('a', '\\x1c')"):
+            same(says(f"INSERT INTO stored VALUES {it};", fails=True), 'ERROR:  new row for relation "stored" violates check constraint "stored_check"', it)
+        says("CREATE TABLE words(word text); INSERT INTO words VALUES ('bh'); CREATE INDEX by_key ON words(uca_key(word), word); VACUUM words;")
+        key = says("SELECT uca_key('bh');")
+        server.restart(settings.replace("/table.txt", "/tailored.txt"))
+        from_index = "SET enable_seqscan = off; SELECT uca_key(word) FROM words WHERE uca_key(word) > '\\x00';"
+        same(says(from_index), key, "an index-only scan, which makes no key")
+        says("SELECT uca_use_files(again => true);")
+        same(says(from_index), says("SELECT uca_key('bh');"), "an index-only scan of an index that is made again")
+
+
+def postgresql_like(program):
+    """Lines ordered by the key and by an index on it are in the order of `uca sort`, and the keys are those of `uca keys`."""
+
+    def check(work):
+        if not os.path.exists(program):
+            raise NotHere(f"there is no {program}")
+        with postgresql_server(work) as (_, says, _):
+            for number, lines in enumerate(LINES):
+                files = ["--weighting", "shifted", f"{EXAMPLES}/table.txt", f"{EXAMPLES}/data.txt"]
+                text = content(f"{EXAMPLES}/{lines}")
+                values = ", ".join("('" + it.replace("'", "''") + "')" for it in text.decode().removesuffix("\n").split("\n"))
+                says(f"CREATE TABLE lines{number}(id serial, line text); INSERT INTO lines{number}(line) VALUES {values};")
+                wanted = run([program, "sort", *files], input=text).decode()
+                same(says(f"SELECT line FROM lines{number} ORDER BY uca_key(line), id;"), wanted, f"order of {lines}")
+                wanted = run([program, "keys", *files], input=text).decode().replace(" ", "")
+                same(says(f"SELECT upper(encode(uca_key(line), 'hex')) FROM lines{number} ORDER BY id;"), wanted, f"keys of {lines}")
+
+    return check
+
+
+def list_of_words(path):
+    """A list of words in UTF-8, or else in ISO 8859-1, as that of wswedish is."""
+    found = content(path)
+    try:
+        return found.decode().split()
+    except UnicodeDecodeError:
+        return found.decode("iso-8859-1").split()
+
+
+def words(count):
+    """So many words, as many of each language as there are, shuffled."""
+    lists = []
+    for name in packages.LISTS.values():
+        path = f"{packages.WORDS}/{name}"
+        if not os.path.exists(path):
+            raise NotHere(f"there is no {path}")
+        lists.append(list_of_words(path))
+    chosen = random.Random(1)
+    found = {word for it in lists for word in chosen.sample(it, min(len(it), count // len(lists) + 1000))}
+    return chosen.sample(sorted(found), count)
+
+
+def unicode_files(work, program):
+    """Unicode's table and data file, and the table that is tailored for Danish."""
+    if not os.path.exists(program):
+        raise NotHere(f"there is no {program}")
+    if not os.path.exists(packages.NEW_KEYS):
+        raise NotHere(f"there is no {packages.NEW_KEYS}")
+    for kind in ("table", "data"):
+        made = run([sys.executable, f"{TOP}/tools/unicode_files.py", kind])
+        with open(f"{work}/{kind}.txt", "wb") as it:
+            it.write(made)
+    made = run([program, "tailor", f"{work}/table.txt", f"{work}/data.txt", f"{EXAMPLES}/rules_danish.txt", f"{work}/certificate.txt"])
+    with open(f"{work}/tailored.txt", "wb") as it:
+        it.write(made)
+    return f"{work}/data.txt", [f"{work}/table.txt", f"{work}/tailored.txt"]
+
+
+def over_unicode(program, tried):
+    """One of the four over Unicode's table and over a tailored one, with 100,000 words."""
+
+    def check(work):
+        data, tables = unicode_files(work, program)
+        text = "".join(it + "\n" for it in words(100_000)).encode()
+        with open(f"{work}/words.txt", "wb") as it:
+            it.write(text)
+        for table in tables:
+            keys, order = (run([program, command, "--weighting", "shifted", table, data], input=text) for command in ("keys", "sort"))
+            tried(work, table, data, keys, order)
+
+    return check
+
+
+def c_words(work, table, data, keys, order):
+    same(run([f"{C}/out/keys", table, data, "shifted"], input=content(f"{work}/words.txt")), keys, f"keys over {table}")
+
+
+def python_words(work, table, data, keys, order):
+    said = run([sys.executable, "-c", SORTER, table, data, "shifted", "weights", fingerprint_of(table, data)], input=content(f"{work}/words.txt"), env=python_environment())
+    same(said, order, f"order over {table}")
+
+
+def sqlite_words(work, table, data, keys, order):
+    load, fingerprint = sqlite_load(table, data), fingerprint_of(table, data)
+    key = f"uca_key(word, '{fingerprint}')"
+    made = ["CREATE TABLE words(word TEXT);", ".mode tabs", f".import {work}/words.txt words", ".mode list", f"CREATE INDEX by_key ON words({key});"]
+    for after in (f"{key}, rowid", f"word COLLATE uca_{fingerprint}, rowid"):
+        same(sqlite_says(work, *made, f"SELECT word FROM words ORDER BY {after};", load=load), order.decode(), f"order by {after} over {table}")
+    same(sqlite_says(work, *made, f"SELECT hex({key}) FROM words ORDER BY rowid;", load=load), keys.decode().replace(" ", ""), f"keys over {table}")
+
+
+def postgresql_words(work, table, data, keys, order):
+    with postgresql_server(work, table, data) as (_, says, _):
+        says(f"CREATE TABLE words(id serial, word text); COPY words(word) FROM STDIN;\n{content(f'{work}/words.txt').decode()}\\.\nCREATE INDEX by_key ON words(uca_key(word), id);")
+        same(says("SELECT word FROM words ORDER BY uca_key(word), id;"), order.decode(), f"order over {table}")
+        same(says("SELECT upper(encode(uca_key(word), 'hex')) FROM words ORDER BY id;"), keys.decode().replace(" ", ""), f"keys over {table}")
+
+
+def main():
+    parser = argparse.ArgumentParser(description=__doc__, formatter_class=argparse.RawDescriptionHelpFormatter)
+    parser.add_argument("--uca", default=f"{TOP}/crates/uca/out/uca")
+    program = os.path.realpath(parser.parse_args().uca)
+    if not os.path.exists(ARCHIVE):
+        sys.exit(f"there is no {ARCHIVE}: run `tools/build.py uca_c` first")
+    checks = [("make", make), ("valgrind", valgrind), ("sanitizers", sanitizers), ("header in C++", header), ("exported names", exports),
+              ("installation", installed), ("stored run", stored_run), ("docs/BINDINGS.md", page), ("keys", keys_like(program)), ("Python", python), ("Python under valgrind", python_valgrind), ("wheel", wheel), ("sort", sorted_like(program)), ("SQLite", sqlite),
+              ("SQLite's loads", sqlite_loads), ("SQLite's files", sqlite_files), ("SQLite's schemas", sqlite_schemas), ("SQLite's restores", sqlite_restore),
+              ("SQLite's attached databases", sqlite_attached), ("SQLite's threads", sqlite_threads), ("SQLite's memory", sqlite_memory), ("SQLite on the page", sqlite_page), ("SQLite's orders", sqlite_like(program)),
+              ("PostgreSQL", postgresql), ("PostgreSQL's settings", postgresql_settings), ("PostgreSQL's dumps", postgresql_dumps),
+              ("PostgreSQL's replication", postgresql_replication), ("PostgreSQL's changes", postgresql_changes), ("PostgreSQL's roles", postgresql_roles),
+              ("PostgreSQL's owners", postgresql_owners), ("PostgreSQL's dependents", postgresql_dependents), ("PostgreSQL's columns", postgresql_columns), ("PostgreSQL's orders", postgresql_like(program))]
+    tried = {"C": c_words, "Python": python_words, "SQLite": sqlite_words, "PostgreSQL": postgresql_words}
+    checks += [(f"100,000 words in {name}", over_unicode(program, it)) for name, it in tried.items()]
+    passed = failed = skipped = 0
+    with tempfile.TemporaryDirectory() as work:
+        for name, check in checks:
+            try:
+                check(work)
+                passed += 1
+            except NotHere as it:
+                skipped += 1
+                print(f"{name}: not run, since {it}")
+            except AssertionError as it:
+                failed += 1
+                print(f"{name}: {it}")
+    print(f"{passed} passed, {failed} failed" + (f", {skipped} not run" if skipped else ""))
+    return 1 if failed else 0
+
+
+if __name__ == "__main__":
+    sys.exit(main())

@@ -1,0 +1,92 @@
+#!/usr/bin/env python3
+"""Tests what has to be right before a commit and needs no proof. It takes less than a minute.
+
+    tools/tidy.py [CHECK ..]        all checks, unless some are named
+
+- layout: `rattle fmt --check` over all files of all crates;
+- edits: each `old:` text of an edit is in its file exactly once, in crates/*/must-fail and in edits/;
+- english: tools/plain_english.py;
+- library: tools/library_page.py;
+- man, completions, crates, charts: the page of the manual, the completions, the list of crates and the charts are as their scripts would write them.
+
+The checks run side by side. Each has a line, and what it finds comes after that line. A check whose script is not there is left out. The last line is
+`N passed, M failed`, of checks.
+"""
+import glob
+import os
+import subprocess
+import sys
+import time
+from concurrent.futures import ThreadPoolExecutor
+
+import kit
+
+
+def layout():
+    """How many files there are, and what is not in the layout of `rattle fmt`."""
+    parts = [f"{kit.TOP}/crates/*/{it}" for it in ("src/**/*.rt", "specs/**/*.antt", "proofs/**/*.antt")]
+    files = sorted(os.path.relpath(it, kit.TOP) for part in parts for it in glob.glob(part, recursive=True))
+    # what it prints to standard output are the changes, line by line
+    ran = subprocess.run(["rattle", "fmt", "--check", *files], cwd=kit.TOP, stdout=subprocess.DEVNULL, stderr=subprocess.PIPE, encoding="utf-8")
+    return f"{len(files)} files", ran.stderr.splitlines() or ([f"status {ran.returncode}"] if ran.returncode else [])
+
+
+def edits():
+    """How many edits there are, and which cannot be applied."""
+    rt = kit.opened("edits", instead="no edit is looked at")
+    if not rt:
+        return "not run", ["the edits were not read"]
+    parts = ("crates/*/must-fail/*.edit", "edits/*/*.edit", "edits/*/by_tests/*.edit")
+    files = sorted(it for part in parts for it in glob.glob(part, root_dir=kit.TOP))
+    causes = [(it, rt.edited(f"{kit.TOP}/{it}", kit.folder_of(it.split("/")[1]))[1]) for it in files]
+    return f"{len(files)} edits", [f"{name}: {why}" for name, why in causes if why]
+
+
+def by_script(path, *words):
+    """A check by a script of the repository: its last line, and what it prints before that where it fails."""
+
+    def run():
+        ran = subprocess.run([sys.executable, f"{kit.TOP}/{path}", *words], cwd=kit.TOP, stdout=subprocess.PIPE, stderr=subprocess.STDOUT, encoding="utf-8")
+        said = ran.stdout.splitlines() or [f"status {ran.returncode}"]
+        return said[-1], said[:-1] or said if ran.returncode else []
+
+    return run if os.path.exists(f"{kit.TOP}/{path}") else None
+
+
+CHECKS = {
+    "layout": layout,
+    "edits": edits,
+    "english": by_script("tools/plain_english.py"),
+    "library": by_script("tools/library_page.py"),
+    "man": by_script("tools/man_page.py", "--check"),
+    "completions": by_script("tools/completions.py", "--check"),
+    "crates": by_script("tools/crates_page.py", "--check"),
+    "charts": by_script("bench/charts.py", "--check"),
+}
+
+
+def timed(check):
+    begun = time.time()
+    return *check(), time.time() - begun
+
+
+def main(names):
+    if unknown := {*names} - {*CHECKS}:
+        sys.exit(f"no check is named {', '.join(sorted(unknown))}: they are {', '.join(CHECKS)}")
+    chosen = {name: CHECKS[name] for name in names or CHECKS if CHECKS[name] or names}
+    failed = 0
+    with ThreadPoolExecutor(max(2, os.cpu_count())) as pool:
+        runs = {name: pool.submit(timed, check or (lambda: ("", ["there is no such script"]))) for name, check in chosen.items()}
+        for name, run in runs.items():
+            said, found, seconds = run.result()
+            print(f"{name}: {'FAILED' if found else 'passed'}, {said}, {seconds:.1f} s", flush=True)
+            print("".join(f"    {it}\n" for it in found), end="", flush=True)
+            failed += bool(found)
+    print(f"{len(chosen) - failed} passed, {failed} failed")
+    return 1 if failed else 0
+
+
+if __name__ == "__main__":
+    if any(it.startswith("-") for it in sys.argv[1:]):
+        sys.exit(__doc__)
+    sys.exit(main(sys.argv[1:]))
