@@ -6,6 +6,7 @@
 - layout: `rattle fmt --check` over all files of all crates;
 - edits: each `old:` text of an edit is in its file exactly once, in crates/*/must-fail and in edits/;
 - english: tools/plain_english.py;
+- definitions: tools/definitions.py;
 - library: tools/library_page.py;
 - man, completions, crates, charts: the page of the manual, the completions, the list of crates and the charts are as their scripts would write them.
 
@@ -61,6 +62,7 @@ CHECKS = {
     "man": by_script("tools/man_page.py", "--check"),
     "completions": by_script("tools/completions.py", "--check"),
     "crates": by_script("tools/crates_page.py", "--check"),
+    "definitions": by_script("tools/definitions.py"),
     "charts": by_script("bench/charts.py", "--check"),
 }
 
