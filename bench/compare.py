@@ -56,7 +56,7 @@ def copied(folder):
     """A copy of the repository without what its version control keeps; of what is proved, the libraries alone."""
     for name in ("crates.txt", "HANDLES"):
         shutil.copy(os.path.join(TOP, name), folder)
-    for crate in sorted(os.listdir(os.path.join(TOP, "crates"))):
+    for crate in sorted(it.name for it in os.scandir(os.path.join(TOP, "crates")) if it.is_dir()):
         source, target = os.path.join(TOP, "crates", crate), os.path.join(folder, "crates", crate)
         shutil.copytree(source, target, ignore=shutil.ignore_patterns("out"))
         library = os.path.join(source, "out", "rlib")

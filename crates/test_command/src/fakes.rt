@@ -85,7 +85,7 @@ impl Disk {
         })
     }
 
-    /// The same, and making a file fails there.
+    /// A file of this name and this text, where making a file fails as `fails` says.
     pub fn failing(
         alloc: Global,
         name: &str,
@@ -97,7 +97,7 @@ impl Disk {
         Ok(disk)
     }
 
-    /// The same, and a file that is made takes this many bytes.
+    /// A file of this name and this text, where a file that is made takes this many bytes.
     pub fn with_room(
         alloc: Global,
         name: &str,

@@ -49,7 +49,7 @@ fn check_tailor(
     check_around(alloc, &files, words, &around, end)
 }
 
-// The same. Afterwards the disk has this file.
+// A tailoring of these texts ends so, and makes a file exactly if this is said. Afterwards the disk has this file.
 fn check_disk(
     alloc: Global,
     texts: Texts,

@@ -1,4 +1,4 @@
-//! What is said of rules.
+//! `Answer`: what is said of damaged rules, that they are accepted or at which byte and why not, and whether that is true.
 
 use crate::rules::{judge_rules, rules_answer};
 use std::alloc::Global;

@@ -1,4 +1,4 @@
-//! Counts of what was judged.
+//! `Counts`: how many files were judged, and which of them were accepted.
 
 use std::test::Fail;
 

@@ -1,4 +1,4 @@
-//! What comes of a call.
+//! `Answer`: what comes of a call, its end, what went out and which streams failed; and `Wanted`, what should come of it.
 
 use crate::cases::Case;
 use crate::libraries::{makes, reads, writes};
@@ -66,7 +66,7 @@ fn end_of(memory: Memory, streams: &mut Streams, name: &str) -> Result<String, F
     }
 }
 
-// The same, with what went out.
+// What is said of the end of a call, and what went out.
 fn answer_over(
     memory: Memory,
     mut streams: Streams,

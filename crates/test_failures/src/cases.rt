@@ -8,6 +8,14 @@
 //! - `asks`: how many allocations it asks for if none fails.
 //! - `memory`: what is said of the end where an allocation is rejected, in the order of the allocations. `; ` parts
 //!   these; numbers after ` @ ` are the lines or the bytes of one role.
+//!
+//! Some words have one meaning here. Take the line `memory table line @ 1 2; memory` of a run:
+//!
+//! - end: what is said of how a call has ended. The line has three ends, and the second is `table line 2: Memory, status 4`.
+//! - group: a part between two `; `. The line has two: `table line @ 1 2` stands for two ends, and `memory` for one.
+//! - head: what a group has before ` @ `, here `table line`. With each number after it the head makes an end.
+//! - `ample`: memory in which no allocation is rejected. What the test itself makes is there.
+//! - `good`: how many bytes a stream gives or takes before it fails.
 
 use std::alloc::{AllocError, Global};
 use std::test::Fail;

@@ -1,4 +1,4 @@
-//! Calls of the libraries.
+//! The calls of the libraries that the cases name: each reads, writes or makes something, and shows what it has made.
 
 use crate::answers::Memory;
 use crate::streams::Streams;

@@ -1,4 +1,4 @@
-//! What is documented of failures.
+//! Tests what the documents say of failures, by a case for each row that they have.
 
 use crate::answers::{Answer, Memory, Wanted, answered};
 use crate::calls::ROWS;

@@ -1,4 +1,4 @@
-//! The calls after the commands.
+//! The calls that are runs of the subcommands, and what is said of the end of each.
 
 use crate::answers::Memory;
 use crate::streams::Streams;

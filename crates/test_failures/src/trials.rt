@@ -77,7 +77,7 @@ impl<'a> Trial<'a> {
         }
     }
 
-    // The same if this stream fails with this end, and this has gone out.
+    // What comes of the call if this stream fails with this end, and this has gone out.
     fn failing(self, end: &'a str, stream: usize, out: &'a [u8], file: &'a [u8]) -> Wanted<'a> {
         Wanted {
             end,
@@ -204,7 +204,7 @@ fn check_broken(trial: Trial, trouble: Trouble, wanted: Wanted) -> Result<(), Fa
     checked
 }
 
-/// The same in each way in which a stream fails after this many bytes. Afterwards the call returns as if nothing
+/// A stream fails after this many bytes, in each way, and this is wanted. Afterwards the call returns as if nothing
 /// had happened.
 pub fn check_each_way(trial: Trial, good: usize, wanted: Wanted) -> Result<(), Fail> {
     let stream = wanted.stream;
@@ -246,7 +246,7 @@ fn check_reader(trial: Trial, stream: usize, role: &str) -> Result<(), Fail> {
     Ok(())
 }
 
-// The same for each reader in turn.
+// Each reader in turn fails after each number of the bytes of its file.
 fn check_readers(trial: Trial) -> Result<(), Fail> {
     if trial.case.roles.is_empty() {
         return Ok(());

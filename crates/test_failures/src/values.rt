@@ -121,7 +121,7 @@ fn text_of(ample: Global, text: &str, properties: &Data) -> Result<Normal, Fail>
 /// A text with a variable element and an accent.
 pub const ACCENTED: &str = "a b\u{301}";
 
-/// The same in Normalization Form D.
+/// `ACCENTED` in Normalization Form D.
 pub fn accented_text(ample: Global, properties: &Data) -> Result<Normal, Fail> {
     text_of(ample, ACCENTED, properties)
 }

@@ -1,4 +1,4 @@
-//! Lines of a source.
+//! Tests how a source is read line by line: where a line ends, and which error comes where.
 
 use crate::streams::{LONGEST, STEPS, many_bytes};
 use std::alloc::{AllocError, Allocator, Global};

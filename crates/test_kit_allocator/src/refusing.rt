@@ -1,4 +1,4 @@
-//! An allocator over another.
+//! `Refusing`: an allocator over another one, which rejects the allocation that a test chooses.
 
 use crate::counts::Counts;
 use std::alloc::{AllocError, Allocator, Global};

@@ -116,7 +116,7 @@ fn check_at(
     checked
 }
 
-// The same where a call gives or takes few bytes, or all.
+// A run ends so, and this went out, where a call gives or takes few bytes, and where it gives or takes all.
 fn check_steps(alloc: Global, texts: Texts, ended: (&[u8], &str)) -> Result<(), Fail> {
     for step in [1, 3, usize::MAX] {
         check_at(alloc, texts, [Pace::steps(step); 4], ended)?;

@@ -1,4 +1,4 @@
-//! The runs, over small files.
+//! Runs over the small files of a change: they find it, audit it, print affected lines or rekey lines.
 
 use std::alloc::{Allocator, Global};
 use std::io::{Read, Write};

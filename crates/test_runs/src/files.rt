@@ -43,7 +43,7 @@ pub struct Files<'a> {
 }
 
 impl<'a> Files<'a> {
-    /// The same with other lines.
+    /// These files with other lines.
     pub fn with_input(self, input: &'a [u8]) -> Files<'a> {
         Files { input, ..self }
     }

@@ -99,7 +99,7 @@ pub const IDENTICAL_KEYS: Case = Case {
     end: "done",
 };
 
-/// The same lines after keys with an identical level.
+/// The three lines of `LINES`, each after its key with an identical level.
 pub const KEYED_LINES: Case = Case {
     run: Run::KeyedLines(Some(NonIgnorable), Identical),
     files: LINES,

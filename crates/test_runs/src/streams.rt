@@ -74,7 +74,7 @@ fn check_read_kind(
     Ok(())
 }
 
-// The same in each way. What is said comes without the status.
+// A run where one reader fails after this many bytes, in each way. What is said comes without the status.
 fn check_read_fault(
     alloc: Global,
     case: &Case,
@@ -131,7 +131,7 @@ fn readers_of_keys_that_fail(rt: HostRuntime) -> Result<(), Fail> {
     Ok(())
 }
 
-/// The same for the run of lines with their keys.
+/// After how many bytes a reader of the run of lines with their keys fails. Then what was printed, and what is said.
 const KEYED_READ_FAULTS: &str = r"10 |  | table line 1: Read
 8 |  | data line 2: Read
 1 |  | input line 1: Read
@@ -159,7 +159,7 @@ fn check_byte(alloc: Global, case: &Case, from: (Stream, usize), line: u32) -> R
     check_read_fault(alloc, case, from, &end, b"")
 }
 
-// The same after any number of the bytes of a text.
+// A run that prints nothing where a reader fails after each number of the bytes of a text.
 fn check_bytes(alloc: Global, case: &Case, which: Stream, text: &[u8]) -> Result<(), Fail> {
     let mut line = 1;
     for good in 0..text.len() + 1 {
@@ -224,7 +224,7 @@ fn check_write_fault(alloc: Global, case: &Case, good: usize, input: Pace) -> Re
     Ok(())
 }
 
-// The same after any number of the bytes of the output.
+// Runs over a writer that fails in each way after each number of bytes, up to all but one of the output.
 fn check_write_faults(alloc: Global, case: &Case, input: Pace) -> Result<(), Fail> {
     for good in 0..case.printed.len() {
         check_write_fault(alloc, case, good, input)?;
@@ -232,7 +232,7 @@ fn check_write_faults(alloc: Global, case: &Case, input: Pace) -> Result<(), Fai
     Ok(())
 }
 
-// The same for a case with these lines, for which this is printed.
+// As `check_write_faults`, for a case with these lines, for which this is printed.
 fn check_lines(
     alloc: Global,
     case: &Case,
@@ -243,7 +243,7 @@ fn check_lines(
     check_write_faults(alloc, &case, input)
 }
 
-// The same after the first lines of an output. This is the output as far as it goes.
+// A run over a writer that fails after the first lines of an output. This is the output as far as it goes.
 fn check_begun(
     alloc: Global,
     case: &Case,

@@ -53,7 +53,7 @@ fn check_pair<L: Lookup>(
     )
 }
 
-/// The same at either depth.
+/// How two texts compare at either depth, and how many of their elements are fetched.
 fn check_depths<L: Lookup>(
     alloc: Global,
     comparers: &mut Comparers<L>,

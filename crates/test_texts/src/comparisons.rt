@@ -119,7 +119,7 @@ pub const PLAINLY: &str = r"0041 0061 | 0061 0062 | Less 1 | Less 1 | 2 2
 00E1 | 0061 0301 | Equal 0 | Equal 0 | 2 2
  |  | Equal 0 | Equal 0 | 0 0";
 
-/// The same under `Shifted`.
+/// Pairs under `Shifted`, and what is returned.
 pub const SHIFTED: &str = r"0061 0020 0062 | 0061 0062 | Less 4 | Less 4 | 3 2
 0020 0061 | 0062 | Less 1 | Less 1 | 2 1
 0020 0301 | 0020 | Equal 0 | Greater 5 | 2 1

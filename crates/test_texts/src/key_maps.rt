@@ -29,7 +29,7 @@ fn check_position(alloc: Global, keys: &KeyMap, case: &str) -> Result<(), Fail> 
     same(&said(alloc, keys, &points)?, wanted, case)
 }
 
-/// The same, a case a line.
+/// Some code points and their position, in each line of the cases.
 fn check_positions(alloc: Global, keys: &KeyMap, cases: &str) -> Result<(), Fail> {
     for case in cases.lines() {
         check_position(alloc, keys, case)?;

@@ -1,4 +1,4 @@
--- Plans meet each condition.
+-- The table and the certificate of a plan meet each condition of an audit.
 use Rattle.uca_tailorings.specs.declared.conditions.Condition.TheVariants.{BaseIllFormed, TailoredIllFormed, Header, Uncovered, RowChanged, RowMissing}
 use Rattle.uca_tailorings.specs.declared.conditions.Condition.TheVariants.{RowExtra, Anchor, NotPlaced, NotFresh, NotNearest}
 use Rattle.uca_acceptance.specs.Accepted.{PlansAreAccepted}

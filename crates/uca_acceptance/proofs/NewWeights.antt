@@ -1,4 +1,4 @@
--- The conditions on new weights.
+-- Plans meet the conditions of an audit on new weights: they are fresh (10) and nearest (11).
 use Rattle.std.proofs.Common.{◌≡◌, inl, inr, ℕ, List, [], ◌∷◌, ◌++◌, length, refl, sym, ap, subst, ◌∙◌, arith}
 use Rattle.std.proofs.lemmas.List.{append-nil, append_assoc, length-append}
 use Rattle.uca_weights.specs.declared.Level.{Level}

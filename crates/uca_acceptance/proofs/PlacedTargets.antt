@@ -1,4 +1,4 @@
--- The conditions on anchors and on where targets are placed.
+-- Plans meet the conditions of an audit on anchors and on where targets are placed: 8 and 9.
 use Rattle.std.proofs.Common.{◌≡◌, ℕ, ◌+◌, List, [], ◌++◌, ◌∷◌, length, map, Option, Some, None}
 use Rattle.std.proofs.Common.{inl, inr, refl, sym, ap, ap₂, ◌∙◌, subst, arith}
 use Rattle.std.proofs.lemmas.List.{map-append}

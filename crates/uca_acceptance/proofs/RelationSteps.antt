@@ -46,7 +46,7 @@ module _ (basis : Basis) where
     pub step : IsStep basis (length before) r here next
     pub behind : AreSteps basis (length before + 1) after next final
 
-  -- the same where n relations come before all these
+  -- the drafts before and after one relation, which comes after n relations and after those of `before`
   record IsCutAt (n : ℕ) (before : List Relation) (r : Relation) (after : List Relation) (start final : Drafting) : Type 0 where
     pub here : Drafting
     pub next : Drafting

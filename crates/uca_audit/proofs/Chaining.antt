@@ -1,4 +1,4 @@
--- Conditions in turn.
+-- The conditions of an audit by their numbers: what is met after each one, and how an error of a part is passed on.
 use Rattle.std.proofs.Common.{◌≡◌, ◌⊎◌, ⊎_elim, inl, inr, ℕ, ◌+◌, ◌<◌, ◌==◌, if◌then◌else◌, Result, Ok, Err, refl, ap, sym, subst, ◌∙◌, arith}
 use Rattle.std.specs.Result.{IsErrAnd}
 use Rattle.std.proofs.lemmas.Bool.{cases_lt}
@@ -92,7 +92,7 @@ pub refused_at : (tailoring : Tailoring) (condition : Condition) (fault : AuditF
 refused_at tailoring condition fault so_far (inl fails) = inl (record { condition = condition; number = fails.number; lower = so_far; fails = fails.place })
 refused_at tailoring condition fault so_far (inr memory) = inr memory
 
--- the same, where the error is passed on
+-- a condition fails after those that are met, or an allocation failed, and this error is passed on
 pub passes_refused : {A : Type 0} (tailoring : Tailoring) (n : ℕ) (condition : Condition) (result : Result A AuditFault) (given : AuditFault)
     → IsErrAnd result (λ fault. fault ≡ given)
     → MeetsBelow tailoring (number_of condition) → Fails tailoring condition given ⊎ IsMemory given → Passes tailoring n result

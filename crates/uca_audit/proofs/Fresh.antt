@@ -1,4 +1,4 @@
--- New weights that are fresh: which weights are new twice.
+-- Condition 10, that new weights are fresh: which weights are new twice, and what the pass over all placements finds.
 use Rattle.std.proofs.Common.{◌≡◌, ◌⊎◌, inl, inr, ⊎_elim, ◌↔◌, ℕ, suc, ◌+◌, ◌<◌, ◌≤◌, Bool, IsTrue, length, take, drop, get_or, List, [], ◌∷◌, ◌++◌}
 use Rattle.std.proofs.Common.{Option, Some, None, MatchOption, cond, true, false, refl, sym, ap, subst, ◌∙◌, arith, add-one}
 use Rattle.std.specs.Prelude.{⊤}
@@ -49,7 +49,7 @@ shared_same placements p level seen old there once twice was_not l w = ⊎_elim
     (λ has. let two = (twice l w).0 has in omega arith, λ two. (twice l w).1 (omega arith)))
     (puts_cases p level l w there)
 
--- the same for those that are new at least once
+-- with one more placement, the weights that are new at least once are those before and its own new weight
 pub seen_more : (placements : List Placement) (p : Placement) (level : Level) (old new : Flags) → p.level ≡ Some level →
     HoldsNew 1 placements old → AddsWeight old new level p.new → HoldsNew 1 (placements ++ p ∷ []) new
 seen_more placements p level old new there once adds l w = ⊎_elim

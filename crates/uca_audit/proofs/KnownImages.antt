@@ -1,4 +1,4 @@
--- The images of the weights of elements.
+-- The set of the images of all weights of the base, filled element by element: these are the known weights.
 use Rattle.std.proofs.Common.{◌≡◌, ◌⊎◌, inl, inr, ⊎_elim, ◌↔◌, ℕ, ◌+◌, ◌<◌, ◌≤◌, length, take, get_or, ◌∙◌, List, [], ◌∷◌, ◌++◌, refl, sym}
 use Rattle.std.proofs.Common.{ap, subst, arith}
 use Rattle.std.proofs.lemmas.List.{take_all, flat_map_more}

@@ -1,4 +1,4 @@
--- New weights that are nearest: the weights that are known so far.
+-- Condition 11, that new weights are nearest: which weights are known so far, and what the pass over all placements finds.
 use Rattle.std.proofs.Common.{◌≡◌, ◌⊎◌, inl, inr, ⊎_elim, ◌↔◌, ℕ, suc, ◌<◌, Bool, true, false, length, take, drop, get_or, ◌∙◌, List, [], ◌∷◌, ◌++◌}
 use Rattle.std.proofs.Common.{Option, Some, None, MatchOption, IsTrue, refl, sym, subst}
 use Rattle.std.specs.Prelude.{⊤}

@@ -76,7 +76,7 @@ by_weight t r level row (Some p) strength is at =
     let placement = placed_by_row t r level row p.old p.new strength is at.1 in
     (subst (IsPlacementBy t r p) (sym strength) (at.0, placement), subst (IsPlacedBy t r) (sym strength) (p.old, p.new, placement))
 
--- the same for the elements that were read
+-- what is found of the row of a relation with a level, by the elements that were read, is found of the relation
 pub found_by_weight : (t : Tailoring) (r : Relation) (level : Level) (anchor expansion row : List Element) (found : Option Placement) →
     level_of r.strength ≡ Some level → anchor ≡ anchor_elements t r → expansion ≡ expansion_elements t r → IsTargetRow t r row →
     MatchOption found ((old new : ℕ) → ¬ (IsRowAt level r.before anchor expansion row old new))

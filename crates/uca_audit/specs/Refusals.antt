@@ -34,7 +34,7 @@ pub record IsFirstRelationWithout (P : List RelationType → RelationType → Li
   pub earlier : (front : List RelationType) (s : RelationType) (back : List RelationType) → before ≡ front ++ s ∷ back → P front s (back ++ r ∷ after)
   pub without : ¬ (P before r after)
 
--- the same for a property of a relation alone
+-- the relation, counted from 1, is the first without the property, which is one of a relation alone
 abbrev pub IsFirstAloneWithout : (RelationType → Type 0) → List RelationType → ℕ → Type 0
 IsFirstAloneWithout P relations number = IsFirstRelationWithout (λ before r after. P r) relations number
 

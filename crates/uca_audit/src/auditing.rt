@@ -142,7 +142,7 @@ fn audit_rows<A: Allocator + Copy, T: Allocator>(
     audit_table_rows(alloc, inputs, images, tailored, &targets)
 }
 
-// The same, by a lookup of the targets.
+// Conditions 5 to 7, by a lookup of the targets.
 fn audit_table_rows<A: Allocator + Copy, T: Allocator>(
     alloc: A,
     inputs: &Inputs<T>,

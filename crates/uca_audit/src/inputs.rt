@@ -1,4 +1,4 @@
-//! What an audit is given.
+//! `Inputs`: the tables, the data file, the rules and the certificate that an audit is given.
 
 use crate::Certificate;
 use std::alloc::Allocator;

@@ -1,4 +1,4 @@
-//! Sets of weights.
+//! `WeightSet`: which weights of each level are in a set, and whether one of them is between two others.
 
 ghost use Rattle.std.specs.Prelude.{◌≡◌, ◌↔◌, ◌⊎◌, ℕ, length, vec_len, IfOk, IsTrue, false, slice_index_or};
 ghost use Rattle.uca_weights.specs.declared.Level.{Level};
@@ -17,9 +17,9 @@ const WEIGHT_COUNT: usize = 0x1_0000;
 pub(crate) struct WeightSet<A: Allocator> {
     /// Whether each weight of level 1 is in it.
     primary: Vec<bool, A>,
-    /// The same for level 2.
+    /// Whether each weight of level 2 is in it.
     secondary: Vec<bool, A>,
-    /// The same for level 3.
+    /// Whether each weight of level 3 is in it.
     tertiary: Vec<bool, A>,
 }
 

@@ -1,4 +1,4 @@
-//! The status of a call, as a number. `include/uca.h` has the same numbers.
+//! The status of a call, as a number. `bindings/c/include/uca.h` has the same numbers.
 
 ghost use Rattle.std.specs.Prelude.{◌≡◌};
 ghost use Rattle.uca_c.specs.Statuses.{key_status, compare_status};

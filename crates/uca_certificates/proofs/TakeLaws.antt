@@ -1,4 +1,4 @@
--- How a line after others is taken.
+-- How one more line of a certificate is taken after others, or leaves a cause.
 use Rattle.std.proofs.Common.{◌≡◌, ◌⊎◌, inl, inr, ℕ, ◌<◌, Bool, true, false, List, length, Option, Some, None, Result, Ok, Err, sym, subst}
 use Rattle.std.specs.Prelude.{OnOk, IfErr, IsTrue}
 use Rattle.uca_weights.specs.declared.Level.{Level}

@@ -121,7 +121,7 @@ refused_content (Some bytes) left count content fault h refuses = inr (record {
   place = refuses.place;
 })
 
--- the same for what is returned
+-- if an error is returned for runs of a level that make no map, the bytes are rejected with it
 pub fault_content : (known left : Option (List ℕ)) (count : ℕ) (content : CertificateContent) (r : Result CertificateContent CertificateFault)
     → IfSome known (λ bytes. ReadsLines CERTIFICATE_FORM Says bytes count content) → IfErr r (RefusesContent content)
     → IfSome known (λ bytes. IfErr r (Refuses bytes left))

@@ -1,4 +1,4 @@
-//! Certificates as values.
+//! `Certificate`: a certificate in memory, which is a map of weights for each level.
 
 use std::alloc::{Allocator, Global};
 use std::marker::Model;

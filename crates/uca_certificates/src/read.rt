@@ -1,4 +1,4 @@
-//! Reading of certificates.
+//! Reads a certificate line by line, and then makes a map of the runs of each level.
 
 ghost use Rattle.std.specs.Prelude.{◌≡◌, ◌||◌, IfOk, IfErr, IfSome, MatchResult};
 ghost use Rattle.uca_certificates.specs.Certificates.{CertificateContent};

@@ -1,4 +1,4 @@
-//! Writing of certificates.
+//! Writes a certificate: each run of each level as a line.
 
 ghost use Rattle.std.specs.Prelude.{◌≡◌, ◌||◌, ◌<◌, IfErr, length, is_err};
 ghost use Rattle.uca_weights.specs.Writes.{Writes};

@@ -108,7 +108,7 @@ refuses_range text r content kind a (inr (inl h)) =
     let P : Item → Type 0 = SpellsRange text in inr (inl (h.0, (h.1.0, subst P h.1.1 a, h.1.2, h.1.3)))
 refuses_range text r content kind a (inr (inr h)) = inr (inr h)
 
--- the same for what is returned
+-- an error that is returned for the items `Is` is one for `Other`, where each error for `Is` is one for `Other`
 pub refuses_here : {X : Type 0} (Is Other : Item → Type 0) (content : ChangeContent) (r : Result X FaultKind)
     → ((kind : FaultKind) → Refuses Is content kind → Refuses Other content kind)
     → IfErr r (λ kind. (kind ≡ kinds.Memory) ⊎ Refuses Is content kind) → IfErr r (λ kind. (kind ≡ kinds.Memory) ⊎ Refuses Other content kind)

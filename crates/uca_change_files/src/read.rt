@@ -1,4 +1,4 @@
-//! Reading of files of changes.
+//! Reads a file of changes line by line, up to its end or its first error.
 
 ghost use Rattle.std.specs.Prelude.{◌≡◌, ◌||◌, IfOk, IfErr, IfSome, MatchResult};
 ghost use Rattle.uca_lines.specs.FileStops.{IsStop, is_read};

@@ -1,4 +1,4 @@
-//! Writing of files of changes.
+//! Writes a list of changes: a line for each text and for each range.
 
 ghost use Rattle.std.specs.Prelude.{◌≡◌, ◌||◌, ◌<◌, ◌++◌, IfErr, OnOk, length, is_err};
 ghost use Rattle.std.specs.Char.{IsScalar};

@@ -1,4 +1,4 @@
--- Lists of borders, as they are made.
+-- A list that is made range by range has the borders of all of them.
 use Rattle.std.proofs.Common.{◌≡◌, ℕ, ◌+◌, ◌<◌, ◌≤◌, List, length, take, get_or, Contains, sym, subst}
 use Rattle.std.specs.Char.{IsScalar}
 use Rattle.std.proofs.lemmas.List.{take_all, get_or_default}

@@ -13,7 +13,7 @@ rise_more [] r rising sound after = (sound, tt, tt)
 rise_more (x ∷ xs) r rising sound after =
     (rising.0, (each_push (λ (s : CodePointRange). x.last < s.first) xs r).1 (rising.1, after.0), rise_more xs r rising.2 sound after.1)
 
--- the same, where the others are lent
+-- one more range after the others, which are lent
 pub rise_push : (xs lent ys : List CodePointRange) (r : CodePointRange) → lent ≡ xs → ys ≡ xs ++ r ∷ [] → AreRising xs → r.first ≤ r.last → IsAfter lent r → AreRising ys
 rise_push xs lent ys r same pushed rising sound after =
     subst AreRising (sym pushed) (rise_more xs r rising sound (subst (λ (l : List CodePointRange). IsAfter l r) same after))
@@ -30,7 +30,7 @@ last_told (x ∷ y ∷ xs) (suc at) r last count rising is =
     let later = last_told (y ∷ xs) at r last (omega arith) rising.2 is in
     (λ after. let all = later.0 after in (omega (arith, all.0, rising.1.0, rising.2.0), all), λ after. later.1 after.1)
 
--- the same, with the test of it
+-- the test whether a range begins after the end of the last one tells whether it begins after all
 pub last_tested : (xs : List CodePointRange) (r last : CodePointRange) → AreRising xs → Some last ≡ slice_get xs (length xs - 1)
     → (IsTrue (ltb last.last r.first) → IsAfter xs r) × (IsAfter xs r → IsTrue (ltb last.last r.first))
 last_tested [] r last rising is = absurd cc

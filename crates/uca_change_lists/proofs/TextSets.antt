@@ -54,7 +54,7 @@ inserted_iff points order same (x ∷ keys) k key = cases (order k x) refl (inse
           λ h. ⊎_elim (λ is. new.1 (inr (rest.1 (inl is)))) (λ there. ⊎_elim (λ is. new.1 (inl is)) (λ later. new.1 (inr (rest.1 (inr later)))) (old.0 there)) h,
         )
 
--- the same, by the keys that there are now, and by the texts that there were
+-- one more key is inserted, or it is there: by the keys that there are now, and by the texts that there were
 pub inserted_now : {V : Type 0} (points : V → List ℕ) (order : V → V → Ordering) → ((a b : V) → order a b ≡ Equal → points a ≡ points b)
     → (keys now : List V) (k : V) (old : List (List ℕ)) → now ≡ insert_key order keys k → map points keys ≡ old → (key : List ℕ)
     → Contains (map points now) key ↔ ((points k ≡ key) ⊎ Contains old key)

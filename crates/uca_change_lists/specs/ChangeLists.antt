@@ -1,4 +1,4 @@
--- What a change lists.
+-- The texts and ranges that a change names, and why a range may not come next.
 use Rattle.std.specs.Prelude.{ℕ, ◌<◌, ◌≤◌, List, ⊤}
 use Rattle.std.specs.List.{AllByRecursion}
 use Rattle.uca_values.specs.declared.CodePointRange.{CodePointRange}

@@ -1,4 +1,4 @@
-//! What a change lists.
+//! `Changes`: the texts and the ranges of code points that a change names.
 
 ghost use Rattle.std.specs.Prelude.{◌≡◌, ◌↔◌, ◌⊎◌, ℕ, ◌<◌, ◌≤◌, List, [], ◌∷◌, ◌++◌, length, IsTrue, OnOk, IfErr, Contains};
 ghost use Rattle.std.specs.List.Sorted.{IsPartitionPoint};

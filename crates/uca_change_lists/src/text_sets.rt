@@ -1,4 +1,4 @@
-//! Sets of texts.
+//! `TextSet`: texts that are looked up by their code points.
 
 ghost use Rattle.std.specs.Prelude.{◌≡◌, ◌↔◌, ◌⊎◌, ℕ, List, [], IsTrue, OnOk, Contains};
 

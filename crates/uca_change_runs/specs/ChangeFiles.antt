@@ -23,7 +23,7 @@ pub record DataAndChanges : Type 0 where
   pub properties : Properties
   pub list : ChangeContent
 
--- the same from its parts
+-- what a data file and a file of changes mean, from its parts
 abbrev pub changes_with : Properties → ChangeContent → DataAndChanges
 changes_with properties list = record { properties = properties; list = list }
 
@@ -40,7 +40,7 @@ pub record EditionsContent : Type 0 where
   pub old : TableAndData
   pub new : TableAndData
 
--- the same from its parts
+-- what two editions mean, from its parts
 abbrev pub editions_with : TableAndData → TableAndData → EditionsContent
 editions_with old new = record { old = old; new = new }
 

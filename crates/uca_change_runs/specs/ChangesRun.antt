@@ -30,7 +30,7 @@ RunsChanges (Err (Changes fault)) editions = IsNotFound editions fault
 RunsChanges (Err Memory) editions = ⊤
 RunsChanges (Err _) editions = ⊥
 
--- the same, or reading the files stopped
+-- what a run of changes returns for what its files mean, or reading the files stopped
 abbrev pub FindsOrStops : {A : Type 0} → Result (FoundChanges A) RunFault → EditionsContent → Type 0
 FindsOrStops (Ok found) editions = RunsChanges (Ok found) editions
 FindsOrStops (Err (File role fault)) editions = IsFileStop fault

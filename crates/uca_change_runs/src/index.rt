@@ -36,7 +36,7 @@ impl<A: Allocator> Model for ChangeIndex<A> {
 }
 
 impl<A: Allocator> ChangeIndex<A> {
-    /// The same changes, with their marks.
+    /// These changes, with their marks.
     ///
     /// # Errors
     ///

@@ -1,4 +1,4 @@
--- Elements of rows, in turn.
+-- What is true of each element of a row: one more of the first elements, and the one at a position.
 use Rattle.std.proofs.Common.{◌≡◌, ℕ, zero, suc, ◌+◌, ◌<◌, List, [], ◌∷◌, ◌++◌, length, take, get_or, ap, sym, subst, append_assoc, ◌∙◌, arith}
 use Rattle.std.specs.List.{AllByRecursion}
 use Rattle.uca_weights.specs.declared.Element.{Element}

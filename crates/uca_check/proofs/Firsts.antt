@@ -1,4 +1,4 @@
--- The first row without a property.
+-- What a pass over rows finds: the first row without a property, if there is one.
 use Rattle.std.proofs.Common.{◌≡◌, ◌≤◌, ℕ, zero, suc, ◌+◌, ◌<◌, ⊎_elim, Bool, true, false, not, IsTrue, get_or, sym, subst, List, [], ◌∷◌, length, Option, Some, None, ap, refl, MatchOption, arith, ◌↔◌}
 use Rattle.std.specs.List.{AllByRecursion, AllWithin, HoldsAt}
 use Rattle.std.proofs.lemmas.Bool.{cases_lt, false≢true}

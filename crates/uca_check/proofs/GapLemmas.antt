@@ -1,4 +1,4 @@
--- Gaps, element by element.
+-- Lists of elements in which only a continuation directly after a lead has a gap (condition 1), element by element.
 use Rattle.std.proofs.Common.{◌≡◌, ℕ, ◌+◌, ◌<◌, ⊎_elim, List, [], ◌∷◌, ◌++◌, length, take, drop, get_or, ap, sym, ◌∙◌, refl, subst, ◌↔◌, append_assoc, Bool, true, false, IsTrue}
 use Rattle.std.proofs.lemmas.Bool.{false≢true}
 use Rattle.std.proofs.lemmas.List.{same_from_push, take-append-drop, drop_more, get_or_default}

@@ -1,4 +1,4 @@
--- What is true of the elements of rows.
+-- The elements of all rows are those of each row: what is true of the ones is true of the others.
 use Rattle.std.proofs.Common.{⊎_elim, List, [], ◌∷◌, Contains, sym, subst, arith}
 use Rattle.std.proofs.lemmas.List.Elements.{Contains-push, Contains-push_cases, Contains-append_left, Contains-append_right, Contains-append_cases}
 use Rattle.std.specs.List.{AllByRecursion}

@@ -1,4 +1,4 @@
--- The range of variable elements.
+-- The least and the greatest primary of variable elements (condition 4): one element more, and elements between them.
 use Rattle.std.proofs.Common.{◌≡◌, ℕ, ◌<◌, ◌≤◌, min, max, ◌⊎◌, inl, inr, ⊎_elim, List, [], ◌∷◌, ◌++◌, Option, Some, None, true, false, sym, ◌∙◌, refl, ◌↔◌, arith}
 use Rattle.std.specs.List.{AllByRecursion}
 use Rattle.std.proofs.lemmas.Bool.{false≢true, cases_lt}

@@ -26,7 +26,7 @@ pub record IsVariableRange (all : List Element) (range : VariableRange) : Type 0
   pub least : (primary : ℕ) → (primary < range.least) ↔ AllByRecursion (λ v. IsVariable v → primary < v.primary) all
   pub greatest : (primary : ℕ) → (range.greatest < primary) ↔ AllByRecursion (λ v. IsVariable v → v.primary < primary) all
 
--- the same, or none of the elements is variable
+-- from the least primary of the variable elements to the greatest, or none of the elements is variable
 abbrev pub IsVariableRangeIfAny : List Element → Option VariableRange → Type 0
 IsVariableRangeIfAny all range = MatchOption range (AllByRecursion (λ v. IsVariable v → ⊥) all) (IsVariableRange all)
 

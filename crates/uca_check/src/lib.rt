@@ -81,7 +81,7 @@ pub fn check<A: Allocator, B: Allocator>(table: &Table<A>, data: &Data<B>) -> Re
     check_rows(&table.rows, data)
 }
 
-/// The same check over the rows alone.
+/// Tests the five conditions over the rows of a table.
 fn check_rows<A: Allocator, B: Allocator>(rows: &[Row<A>], data: &Data<B>) -> Result<(), IllFormed>
     requires { length rows.now ≤ 200000 }
     ensures well_formed { OnOk result (IsWellFormed (properties_of «data».now).class rows.now) }

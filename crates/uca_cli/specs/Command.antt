@@ -58,7 +58,7 @@ pub record Streams : Type 0 where
   pub input : SourceState
   pub out : SinkState
 
--- the same from its parts
+-- the input and the output, from their states
 abbrev pub streams : SourceState → SinkState → Streams
 streams input out = record { input = input; out = out }
 

@@ -18,7 +18,6 @@ use uca_run_parts::faults::{Role, RunFault};
 use uca_weights::{Sink, Source, Weighting};
 use uca_words::{AuditChangesWords, ChangesWords, EditionNames, RekeyWords};
 
-/// `changes`.
 pub(crate) fn changes<O: Opens, W: Write>(
     alloc: Global,
     opener: &mut O,
@@ -34,7 +33,7 @@ pub(crate) fn changes<O: Opens, W: Write>(
     }
 }
 
-// The same, where the certificate is none of the files that are read.
+// `changes`, where the certificate is none of the files that are read.
 fn change_files<O: Opens, W: Write>(
     alloc: Global,
     opener: &mut O,
@@ -96,7 +95,6 @@ fn keep_found<O: Opens, W: Write>(
     print_changes(&found.list, out)
 }
 
-/// `audit-changes`.
 pub(crate) fn audit_changes<O: Opens, W: Write>(
     alloc: Global,
     opener: &mut O,
@@ -125,7 +123,6 @@ pub(crate) fn audit_changes<O: Opens, W: Write>(
     }
 }
 
-/// `rekey`.
 pub(crate) fn rekey<O: Opens, I: Read, W: Write>(
     alloc: Global,
     opener: &mut O,

@@ -30,7 +30,6 @@ use uca_words::{
     TailorWords, Words, read_words,
 };
 
-// `check`.
 fn check<O: Opens, W: Write>(
     alloc: Global,
     opener: &mut O,
@@ -48,7 +47,6 @@ fn check<O: Opens, W: Write>(
     }
 }
 
-// `keys`.
 fn keys<O: Opens, I: Read, W: Write>(
     alloc: Global,
     opener: &mut O,
@@ -94,7 +92,6 @@ fn print<T: Read, D: Read, I: Read, W: Write>(
     }
 }
 
-// `sort`.
 fn sort<O: Opens, I: Read, W: Write>(
     alloc: Global,
     opener: &mut O,
@@ -119,7 +116,6 @@ fn sort<O: Opens, I: Read, W: Write>(
     }
 }
 
-// `compare`.
 fn compare<O: Opens, W: Write>(
     alloc: Global,
     opener: &mut O,
@@ -144,7 +140,6 @@ fn compare<O: Opens, W: Write>(
     }
 }
 
-// `fingerprint`.
 fn fingerprint<O: Opens, W: Write>(
     alloc: Global,
     opener: &mut O,
@@ -167,7 +162,6 @@ fn fingerprint<O: Opens, W: Write>(
     }
 }
 
-// `tailor`.
 fn tailor<O: Opens, W: Write>(
     alloc: Global,
     opener: &mut O,
@@ -189,7 +183,7 @@ fn tailor<O: Opens, W: Write>(
     }
 }
 
-// The same, where the certificate is none of the files that are read.
+// `tailor`, where the certificate is none of the files that are read.
 fn tailor_files<O: Opens, W: Write>(
     alloc: Global,
     opener: &mut O,
@@ -252,7 +246,6 @@ fn keep_tailored<O: Opens, W: Write>(
     print_table(table, out)
 }
 
-// `audit`.
 fn audit<O: Opens, W: Write>(
     alloc: Global,
     opener: &mut O,
@@ -287,7 +280,6 @@ fn audit<O: Opens, W: Write>(
     }
 }
 
-// `affected`.
 fn affected<O: Opens, I: Read, W: Write>(
     alloc: Global,
     opener: &mut O,

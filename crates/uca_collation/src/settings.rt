@@ -1,4 +1,4 @@
-//! The settings of a comparison.
+//! `Settings`: the weighting and the depth by which texts are compared.
 
 ghost use Rattle.std.specs.Prelude.{◌≡◌};
 ghost use Rattle.uca_order.specs.Levels.{lexicographic};

@@ -1,4 +1,4 @@
--- Counts that stay at their greatest.
+-- Counts of elements that stay at 2^64 - 1 once they are there.
 use Rattle.std.proofs.Common.{◌≡◌, ℕ, zero, suc, ◌+◌, ◌<◌, ◌≤◌, List, [], ◌∷◌, ◌++◌, length, length-append, min, refl, ap, arith}
 use Rattle.uca_weights.specs.declared.Element.{Element}
 use Rattle.uca_comparison.specs.Fronts.{counted}

@@ -128,7 +128,7 @@ pub differs_at : (x y v w : ℕ) (a b c d : Bool) (order : Ordering) → x ≡ v
 differs_at x y v w a b c d order first second left right it =
     subst (λ n. Differs n w c d order) first (subst (λ n. Differs x n c d order) second (subst (λ e. Differs x y e d order) left (subst (λ e. Differs x y a e order) right it)))
 
--- the same where they allow a step
+-- a step that is allowed by the weights and the ends that were asked for
 pub allows_at : (step : Step) (x y v w : ℕ) (a b c d : Bool) → x ≡ v → y ≡ w → a ≡ c → b ≡ d → AllowsWith step x y a b → AllowsWith step v w c d
 allows_at step x y v w a b c d first second left right it =
     subst (λ n. AllowsWith step n w c d) first

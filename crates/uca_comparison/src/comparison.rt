@@ -24,7 +24,7 @@ pub struct Compared {
     /// How many elements the left text has up to the one with the first level-1 weight that differs. If it has no such
     /// weight, or level 1 is equal, the number of all its elements.
     pub fetched_left: u64,
-    /// The same for the right text.
+    /// How many elements the right text has, counted as `fetched_left` counts those of the left one.
     pub fetched_right: u64,
 }
 

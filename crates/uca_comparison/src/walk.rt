@@ -167,7 +167,7 @@ pub struct Walked {
     pub last: u8,
     /// How many elements of the left text there are up to the weight of the first level in which the texts differ.
     pub fetched_left: u64,
-    /// The same for the right text.
+    /// How many elements of the right text there are up to the weight of the first level in which the texts differ.
     pub fetched_right: u64,
 }
 
@@ -192,7 +192,7 @@ pub fn walk<'a, L: Lookup, A: Allocator>(
     walk_fronts(weighting, first, last, left, right)
 }
 
-/// The same for two texts from the same fronts on, before which they do not differ at any of the levels.
+/// As `walk`, for two texts from these fronts on. Before the fronts they do not differ at any of the levels.
 pub fn walk_fronts<S: ElementStream>(
     weighting: Weighting,
     first: u8,

@@ -1,4 +1,4 @@
--- Conditions in turn.
+-- The conditions on a change by their numbers: what is met after each one, and what is returned where one fails.
 use Rattle.std.proofs.Common.{◌≡◌, ◌⊎◌, ⊎_elim, inl, ℕ, ◌+◌, ◌<◌, ◌==◌, if◌then◌else◌, refl, ap, sym, subst, ◌∙◌, arith}
 use Rattle.std.proofs.lemmas.Bool.{cases_lt}
 use Rattle.uca_changes.specs.declared.conditions.ChangeCondition.{ChangeCondition}

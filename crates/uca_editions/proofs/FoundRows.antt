@@ -1,4 +1,4 @@
--- What is found among rows, by the values that its test was given.
+-- What is so of rows, by texts and a lookup, is so of equal rows, by equal texts and a lookup that finds the same.
 use Rattle.std.proofs.Common.{◌≡◌, ℕ, List, subst}
 use mathlib.Core.Path.{fun_ext}
 use Rattle.uca_values.specs.Content.{Entry}

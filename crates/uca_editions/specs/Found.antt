@@ -28,7 +28,7 @@ change_with editions changes certificate = record {
   maps = maps_of certificate;
 }
 
--- the same, with what was found
+-- the change from the old table and data file to the new ones, with what was found
 abbrev pub change_by : {T : Type 0} → Editions T → FoundChanges T → Change
 change_by editions found = change_with editions (record { texts = found.list.texts; ranges = found.list.ranges }) found.certificate
 

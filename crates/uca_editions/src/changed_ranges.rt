@@ -29,7 +29,7 @@ pub(crate) fn list_ranges<A: Allocator + Copy>(
     listed
 }
 
-// The same, by the first code points before and after the surrogates. The borders of all ranges are added to them.
+// As `list_ranges`, given the first code points before and after the surrogates. The borders of all ranges are added.
 fn list_between<A: Allocator + Copy>(
     alloc: A,
     list: &mut ChangeList<A>,

@@ -1,4 +1,4 @@
-//! What the maker is given.
+//! `Editions`: the two tables and data files that `find_changes` compares.
 
 use std::alloc::{Allocator, Global};
 use uca_values::{Data, Table};

@@ -1,4 +1,4 @@
-//! What the maker finds.
+//! `FoundChanges`: what `find_changes` finds, a list of changes and a certificate.
 
 use std::alloc::{Allocator, Global};
 use uca_certificates::Certificate;

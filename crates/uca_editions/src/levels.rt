@@ -1,4 +1,4 @@
-//! The map of a level.
+//! Makes the map of a level from the moves of its weights, so that it rises.
 
 ghost use Rattle.std.specs.Prelude.{◌≡◌, IfOk};
 ghost use Rattle.uca_editions.specs.inside.LeastMaps as least_maps;

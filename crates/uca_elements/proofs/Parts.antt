@@ -91,7 +91,7 @@ portion_rest_occurs keys c t (suc n) =
     let after : Text = drop (suc n) (c ∷ t) in
     rest_occurs front after (c ∷ t) (take-append-drop (suc n) (c ∷ t)) (removed keys front [] (non_starters_at_front after))
 
--- the same keys give the same first part
+-- two sets of keys that agree on a text give an equal first part
 portion_at_same : (keys new : Keys) (c : ClassedCodePoint) (t : Text) (n : ℕ) → HaveSameKeys keys new (c ∷ t) → portion_at keys c t n ≡ portion_at new c t n
 portion_at_same keys new c t zero same = refl
 portion_at_same keys new c t (suc n) same =
@@ -140,7 +140,7 @@ same_within keys new (suc n) (c ∷ t) few same =
     ∙ ap (λ p. p.part ∷ parts new p.rest) (portion_same keys new c t same)
     ∙ sym (parts_portion new c t)
 
--- the same keys give the same parts
+-- two sets of keys that agree on a text give equal parts
 pub parts_same : (keys new : Keys) (t : Text) → HaveSameKeys keys new t → parts keys t ≡ parts new t
 parts_same keys new t same = same_within keys new (length t) t (omega arith) same
 

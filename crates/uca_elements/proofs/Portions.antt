@@ -1,4 +1,4 @@
--- One portion of a text.
+-- The next portion that is read of a text: what it gives, and what is left of the text after it.
 use Rattle.std.proofs.Common.{◌≡◌, ℕ, suc, ◌+◌, ◌<◌, ◌≤◌, List, ◌∷◌, ◌++◌, refl, [], length, take, drop, get_or, false, unwrap_or, sym, ap, ap₂}
 use Rattle.std.proofs.Common.{subst, ◌∙◌, arith, add-one}
 use Rattle.std.specs.List.{flat_map}

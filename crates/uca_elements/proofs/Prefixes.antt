@@ -1,4 +1,4 @@
--- The beginnings of keys.
+-- What the beginnings of keys say: one code point more, and a list with which no key begins.
 use Rattle.std.proofs.Common.{◌≡◌, ℕ, ◌+◌, ◌<◌, List, [], ◌∷◌, ◌++◌, length, take, drop, get_or, true, false, Option, Some, None, is_some, refl, sym, ap, subst}
 use Rattle.std.proofs.Common.{◌∙◌, take-append-drop}
 use Rattle.std.proofs.lemmas.Bool.{false_from_ne_true}

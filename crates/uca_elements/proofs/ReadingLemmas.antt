@@ -1,4 +1,4 @@
--- `read` is the one reading.
+-- A text has one reading, and `read` gives it.
 use Rattle.std.proofs.Common.{◌≡◌, ◌≢◌, ℕ, zero, suc, ◌+◌, ◌-◌, ◌<◌, ◌≤◌, List, [], ◌∷◌, ◌++◌, length, take, drop, Bool, Option, Some, None}
 use Rattle.std.proofs.Common.{unwrap_or, sym, ap, subst, refl, ◌∙◌, append_assoc, append-nil, ⊎_elim, arith, length-append, length-drop}
 use Rattle.std.proofs.Common.{length-take-le, take-append-drop, take_at, drop_at, ap₂, is_some}

@@ -43,7 +43,7 @@ impl Place {
         (self.removed >> (i - self.run)) & 1 == 1
     }
 
-    /// The same position, after the code point at `i` has been removed too.
+    /// This position, after the code point at `i` has been removed too.
     pub fn with_removed(self, i: usize) -> Place
         requires after { self.run ≤ i }
         requires near { i - self.run < 64 }

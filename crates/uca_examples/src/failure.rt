@@ -1,4 +1,4 @@
-//! Why an example fails.
+//! `Failure`: why an example fails. `?` makes it from the error of each call.
 
 use std::alloc::AllocError;
 use std::io;

@@ -1,4 +1,4 @@
-//! The key of a text.
+//! Makes the sort key of a text, to be stored.
 
 use crate::Failure;
 use std::alloc::Global;

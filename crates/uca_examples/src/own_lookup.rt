@@ -1,4 +1,4 @@
-//! A lookup of one's own.
+//! `Letters`: a lookup of one's own, which needs no table.
 
 ghost use Rattle.std.specs.Prelude.{◌≡◌, MatchOption};
 ghost use Rattle.uca_examples.specs.Letters.{letter_row, letter_rows, letters_to};

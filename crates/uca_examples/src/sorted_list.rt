@@ -1,4 +1,4 @@
-//! A sorted list.
+//! Puts the words of a list in order.
 
 use crate::Failure;
 use std::alloc::Global;

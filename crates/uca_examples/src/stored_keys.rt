@@ -1,4 +1,4 @@
-//! Two stored keys compared.
+//! Compares two texts by their stored keys alone.
 
 use crate::key_of_text::SETTINGS;
 use std::cmp::Ordering;

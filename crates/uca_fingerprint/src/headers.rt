@@ -44,7 +44,7 @@ impl KeyHeader {
         .then(&digits(fingerprint))
     }
 
-    /// The same header, with an LF at its end.
+    /// The header that `new` makes, with an LF at its end.
     pub fn ended(weighting: Weighting, depth: Depth, fingerprint: &[u8; 32]) -> KeyHeader
         ensures { result ≡ key_header weighting depth fingerprint.now ++ 10 ∷ [] }
     {

@@ -14,7 +14,7 @@ pub fn edition() -> &'static str
     "18.0.0"
 }
 
-/// The same as three numbers. It is the version of the tables that the normalization uses.
+/// The edition of Unicode of the normalization, as three numbers. It is the version of the tables that the normalization uses.
 pub fn normalization_version() -> (u8, u8, u8)
     ensures value { result ≡ UNICODE_VERSION }
     ensures edition { version_text result ≡ edition }

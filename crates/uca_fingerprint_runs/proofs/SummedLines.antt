@@ -50,7 +50,7 @@ module _ {K S P : Type 0} (form : FileForm K) (parser : S → P) (hasher : S →
     ]
   ]
 
-  -- the same for bytes that may be unknown
+  -- as `refuses`, for bytes that may be unknown
   pub refuses_known : (known left : Option (List ℕ)) (number : ℕ) (kind : K) → IfSome known (λ bytes. RefusesLine form SaysSummed CauseSummed bytes left number kind)
       → IfSome known (λ bytes. RefusesLine form Says Cause bytes left number kind)
   refuses_known None left number kind h = tt

@@ -14,7 +14,7 @@ pub record SummedContent : Type 0 where
   pub properties : Properties
   pub data_sum : List ℕ
 
--- the same from what each of them gives
+-- what both files mean, and their sums, from what each of the files gives
 abbrev pub summed_with : TableContent × List ℕ → Properties × List ℕ → SummedContent
 summed_with table properties = record { table = table.0; table_sum = table.1; properties = properties.0; data_sum = properties.1 }
 

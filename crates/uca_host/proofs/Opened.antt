@@ -1,4 +1,4 @@
--- Files that are opened after others.
+-- Two lists of files that are opened in turn: all open, or one of the first or of the others does not.
 use Rattle.std.proofs.Common.{List, [], ◌∷◌, ◌++◌, inl, inr, subst}
 use Rattle.uca_weights.specs.Streams.{SourceState}
 use Rattle.uca_run_parts.specs.declared.faults.Role.{Role}

@@ -23,7 +23,7 @@ pub record FileSystem (O F M : Type 0) : Type 1 where
   pub remaining : F → Option (List ℕ)
   pub contents : M → Option (List ℕ)
 
--- the same from its parts
+-- a file system, from its parts
 abbrev pub file_system : {O F M : Type 0} → FileCalls O F M → (F → Option (List ℕ)) → (M → Option (List ℕ)) → FileSystem O F M
 file_system calls remaining contents = record { calls = calls; remaining = remaining; contents = contents }
 
@@ -34,7 +34,7 @@ pub record NamedFile : Type 0 where
   pub role : Role
   pub name : List ℕ
 
--- the same from its parts
+-- a file that is to be opened, from its parts
 abbrev pub file_for : Role → List ℕ → NamedFile
 file_for role name = record { role = role; name = name }
 

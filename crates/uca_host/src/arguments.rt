@@ -17,7 +17,7 @@ pub fn given_words(rt: &HostRuntime) -> Result<Vec<String>, AllocError> {
     }
 }
 
-/// The same words, as texts that are lent.
+/// The arguments, as texts that are lent.
 ///
 /// # Errors
 ///

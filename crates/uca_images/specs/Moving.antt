@@ -19,7 +19,7 @@ pub record MoverState : Type 0 where
 abbrev pub HasMoved : Maps → Depth → ℕ → ℕ → ℕ → List ℕ → Option (List ℕ) → Type 0
 HasMoved maps depth level more at key moved = moved ≡ option_map (λ rest. take at key ++ rest) (moved_from maps depth level more (drop at key))
 
--- the same after a level, with this many levels of weights after it
+-- what the key put through the maps is, where a level ends so and this many levels of weights come after it
 abbrev pub EndsLevel : Maps → Depth → ℕ → ℕ → LevelEnd → List ℕ → Option (List ℕ) → Type 0
 EndsLevel maps depth level more (Next at) key moved = HasMoved maps depth (suc level) more at key moved
 EndsLevel maps depth level more Key key moved = moved ≡ option_map (λ rest. key ++ rest) (ended depth more)

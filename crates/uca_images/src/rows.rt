@@ -1,4 +1,4 @@
-//! Rows of texts that are not listed: the first that is not as it has to be.
+//! For each condition on the rows of texts that are not listed: the first row that fails it.
 
 ghost use Rattle.std.specs.Prelude.{◌↔◌, IsTrue, Contains};
 ghost use Rattle.std.specs.List.{AllByRecursion};

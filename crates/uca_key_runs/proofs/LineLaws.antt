@@ -17,7 +17,7 @@ line_keys_compare law c left right =
 pub one_key_line : CanonicallyEquivalentLinesHaveOneKeyLine
 one_key_line c left right same = ap (λ (points : List ℕ). text_line c (record { points = points; classes = map c.collation.properties.class points })) same
 
--- the same for keys with an identical level
+-- equal keys with an identical level are keys of equivalent lines
 pub identical_lines : IdenticalKeysAreOfEquivalentTexts → IdenticalLineKeysAreOfEquivalentLines
 identical_lines law c left right is same =
     let one = read_text c.collation (nfd_text c.collation.properties (chars left)) in

@@ -58,7 +58,7 @@ pub record Comparing : Type 0 where
   pub left : List ℕ
   pub right : List ℕ
 
--- the same from its parts
+-- what a run of compare uses, from its parts
 abbrev pub comparing : Option Weighting → Depth → List ℕ → List ℕ → Comparing
 comparing weighting depth left right = record { weighting = weighting; depth = depth; left = left; right = right }
 

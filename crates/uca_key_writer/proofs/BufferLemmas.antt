@@ -96,7 +96,7 @@ pub less_room : (more less : ℕ) (counts : Counts) (primary secondary tertiary 
 less_room more less counts primary secondary tertiary quaternary fewer room =
     record { primary = omega arith; secondary = omega arith; tertiary = omega arith; quaternary = omega arith }
 
--- the same slots have the same room
+-- equal slots have equal room
 pub room_in : (more : ℕ) (counts : Counts) (p s t q primary secondary tertiary quaternary : List (List ℕ))
     → primary ≡ p → secondary ≡ s → tertiary ≡ t → quaternary ≡ q → HasRoom more counts p s t q → HasRoom more counts primary secondary tertiary quaternary
 room_in more counts p s t q primary secondary tertiary quaternary same_primary same_secondary same_tertiary same_quaternary room = record {
@@ -140,7 +140,7 @@ written {S} steps s start t u es (Ok v) key weighting same begins ran ends under
     (run steps s es true (to_end steps s es (u, (t, from, ends))), refl, refl, is ∙ ap (λ w. key_bytes w es) under)
 written steps s start t u es (Err e) key weighting same begins ran ends under is = tt
 
--- the same for a key that was taken out of its buffer
+-- a key that was taken out of its buffer is the key of a whole run
 pub taken : {S : Type 0} (steps : S → Option Element → S → Type 0) (s : S) (held key : List ℕ) (weighting : Weighting)
     → key ≡ held → WholeRun steps s (λ p. held ≡ key_bytes weighting p.items) → WholeRun steps s (λ p. key ≡ key_bytes weighting p.items)
 taken steps s held key weighting is (p, from, whole, holds) = (p, from, whole, is ∙ holds)

@@ -83,7 +83,7 @@ pub(crate) fn has_short_runs<L: Lookup, T: Allocator, A: Allocator>(
     }
 }
 
-// The same, where at most so many bytes after each starter are passed over. They count as the most code points that they may be.
+// As `has_short_runs`, passing over at most `most` bytes after each starter. They count as the most code points they may be.
 fn count_runs<L: Lookup, T: Allocator, A: Allocator>(
     collator: &Collator<L, T>,
     points: &mut PointCache<A>,

@@ -321,7 +321,7 @@ impl<A: Allocator> LevelBuffers<A> {
         self.key.as_slice()
     }
 
-    /// The same, for the caller to keep.
+    /// The key that was written last, for the caller to keep.
     pub(crate) fn into_key(self) -> Vec<u8, A>
         ensures { result.items ≡ self.key }
     {

@@ -1,4 +1,4 @@
--- Numbers and their digits.
+-- The number that digits stand for, hexadecimal or decimal, and the digits of a number: each gives the other.
 use Rattle.std.proofs.Common.{◌≡◌, ℕ, zero, suc, ◌+◌, ◌*◌, ◌/◌, ◌%◌, ◌^◌, ◌<◌, ◌≤◌, Bool, true, false, List, [], ◌∷◌, ◌++◌, length, get_or, take, Some, None, refl, ap, sym, subst, ◌==◌, ◌∙◌, arith, add-one, length-append, lit≤, lit<}
 use Rattle.std.proofs.Math.Nat.{pow-suc}
 use borrow.Author.Tests.{eqb-true}

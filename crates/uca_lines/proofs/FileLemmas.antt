@@ -143,7 +143,7 @@ only_result view line kind form Says Cause IsUnfinished Gives exact once finishe
       | inr stands ↦ absurd (no_value form Says Cause IsUnfinished Gives exact finished bytes (line f) (kind f) v stands means)
     ]
 
--- the same, of bytes that may be unknown
+-- as `only_result`, of bytes that may be unknown
 pub only_known : {X F K S V : Type 0} (view : X → V) (line : F → ℕ) (kind : F → K) (form : FileForm K) (Says : List (List ℕ) → S → Type 0)
     (Cause : S → List ℕ → K → Type 0) (IsUnfinished : S → Type 0) (Gives : S → V → Type 0)
     → IsExact Says Cause → ((s : S) (v w : V) → Gives s v → Gives s w → v ≡ w) → ((s : S) (v : V) → Gives s v → IsUnfinished s → ⊥)

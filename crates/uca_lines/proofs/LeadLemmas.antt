@@ -87,7 +87,7 @@ exact_words = record {
     empty [] e k = omega arith
     empty (b ∷ bs) e k = cc
 
--- the same, by the lists before and after
+-- one more value, by the lists before it and with it
 pub leads_more : {X : Type 0} (B : List ℕ → X → List ℕ → Type 0) (text : List ℕ) (xs ys : List X) (rest : List ℕ) (x : X) (more after : List ℕ) → Leads B text xs rest → B rest x more → ys ≡ xs ++ x ∷ [] → after ≡ skip_blanks more → Leads B text ys after
 leads_more {X = X} B text xs ys rest x more after h b e a =
     let P : List X → Type 0 = λ zs. Leads B text zs after in

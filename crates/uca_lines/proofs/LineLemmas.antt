@@ -1,4 +1,4 @@
--- Where lines are cut.
+-- How a reader cuts bytes at their first LF: the line, what is left after it, and what waits for more bytes.
 use Rattle.std.proofs.Common.{◌≡◌, ◌↔◌, ℕ, suc, Bool, not, ◌+◌, ◌-◌, ◌<◌, ◌≤◌, true, false, List, [], ◌∷◌, ◌++◌, Option, None, Some, Result, Err, append-nil, refl, length, take, drop, get_or, cond, sym, ap, subst, ◌∙◌, arith, le_refl, length-take, length-drop, length-append, append_assoc, MatchOption}
 use Rattle.std.specs.Int.{from_bool}
 use Rattle.std.specs.List.{before_first, after_first, position_or_len, slice_range}

@@ -1,4 +1,4 @@
--- Parts of a text.
+-- How a text is cut: at blanks, at its first `#`, into words, and at its first `..`.
 use Rattle.std.specs.Prelude.{ℕ, Bool, ◌||◌, ◌&&◌, ◌==◌, not, List, [], ◌∷◌, if◌then◌else◌, Option, Some, None}
 use Rattle.std.specs.List.{list_all}
 use Rattle.std.specs.Option.{option_map}

@@ -9,7 +9,7 @@ pub record IsExact {K S : Type 0} (Says : List (List ℕ) → S → Type 0) (Cau
   pub excluded : (before : List (List ℕ)) (s : S) (line : List ℕ) (kind : K) (more : List (List ℕ)) (t : S) → Says before s → Cause s line kind
       → Says (before ++ line ∷ more) t → ⊥
 
--- The same, line by line: the last of some lines is taken after the others, which says one thing; a line
+-- As `IsExact`, line by line: the last of some lines is taken after the others, with one result; a line
 -- with a cause is not taken.
 pub record IsExactByLine {K S : Type 0} (Says : List (List ℕ) → S → Type 0) (Takes : S → List ℕ → S → Type 0) (Cause : S → List ℕ → K → Type 0) : Type 0 where
   pub start : (s t : S) → Says [] s → Says [] t → s ≡ t

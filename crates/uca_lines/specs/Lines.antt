@@ -1,4 +1,4 @@
--- The lines of a text.
+-- How a text is cut into lines at each LF.
 use Rattle.std.specs.Prelude.{◌≡◌, ℕ, Bool, false, ◌==◌, List, [], ◌∷◌, ◌++◌, if◌then◌else◌}
 use Rattle.std.specs.List.{AllByRecursion, onto_first}
 

@@ -1,4 +1,4 @@
--- Keys with their positions.
+-- Lemmas on a list of keys, each with its position in it: what is found at a key, and what one more key adds.
 use Rattle.std.proofs.Common.{◌≡◌, ℕ, zero, suc, ◌+◌, ◌-◌, ◌<◌, ◌≤◌, List, [], ◌∷◌, ◌++◌, length, map, take, get_or, Bool, true, false, cond, Option, Some, None, Contains, MatchOption}
 use Rattle.std.proofs.Common.{⊎_elim, is_some, option_map, append_assoc, length-take-le, sym, ap, ap₂, subst, refl, ◌∙◌, arith}
 use Rattle.std.proofs.lemmas.Bool.{cond_both, cond-true, cond-false, false_from_ne_true}

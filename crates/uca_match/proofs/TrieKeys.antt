@@ -205,7 +205,7 @@ module _ (keys : List (List ℕ)) (distinct : AreDistinctKeys keys) where
       (later r h done) in
       record { tree = tree; sound = sound; complete = complete }
 
-  -- the same nodes, where no other key is done
+  -- nodes that are built for some keys are built for a part of these keys
   pub IsBuilt-same : (Done Later : Placed → Type 0) → ((r : Placed) → Contains (placed_from 0 keys) r → Later r → Done r) → (nodes : List NodeContent) →
       IsBuilt keys Done nodes → IsBuilt keys Later nodes
   IsBuilt-same Done Later later nodes built =

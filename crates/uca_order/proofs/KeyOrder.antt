@@ -24,7 +24,7 @@ use Rattle.uca_order.specs.Laws.{KeysCompareAsElements}
 pub cmp_less : (v w : ℕ) → v < w → nat_cmp v w ≡ Less
 cmp_less v w h = grind (arith, nat_tests)
 
--- the same for equal ones
+-- how two equal numbers compare
 pub cmp_equal : (v w : ℕ) → v ≡ w → nat_cmp v w ≡ Equal
 cmp_equal v w h = grind (arith, nat_tests)
 
@@ -152,7 +152,7 @@ decided_equal Less level later f h = cc
 decided_equal Equal level later f h = f h
 decided_equal Greater level later f h = cc
 
--- the same for all levels
+-- where none of all levels decides, the difference level is 0
 pub level_zero : (n : ℕ) (left right : List (List ℕ)) → (compare_from (suc n) left right).order ≡ Equal → (compare_from (suc n) left right).level ≡ 0
 level_zero n [] right h = refl
 level_zero n (a ∷ left) [] h = refl
@@ -166,7 +166,7 @@ decided_zero Less n later f h = absurd (omega (arith, h))
 decided_zero Equal n later f h = f h
 decided_zero Greater n later f h = absurd (omega (arith, h))
 
--- the same for all levels, from 1 on
+-- where the difference level is 0, none of the levels from 1 on decides
 pub order_equal : (n : ℕ) (left right : List (List ℕ)) → (compare_from (suc n) left right).level ≡ 0 → (compare_from (suc n) left right).order ≡ Equal
 order_equal n [] right h = refl
 order_equal n (a ∷ left) [] h = refl

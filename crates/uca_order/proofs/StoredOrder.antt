@@ -180,7 +180,7 @@ fewer_step Less zeros rest levels apart same few = let e : zeros ≡ 0 = apart (
 fewer_step Equal zeros rest levels apart same few = let e : zeros ≡ suc rest = same refl in omega arith
 fewer_step Greater zeros rest levels apart same few = let e : zeros ≡ 0 = apart (λ e. cc) in omega arith
 
--- the same for lists of levels with at least one level
+-- lists of levels with at least one level share fewer separators than there are levels
 pub fewer_zeros : (a : List ℕ) (left right : List (List ℕ)) → AreLevels (a ∷ left) right → suc (zeros_joined (a ∷ left) right) ≤ length (a ∷ left)
 fewer_zeros a left [] h = absurd h
 fewer_zeros a [] (b ∷ []) h = let none : zeros_before a b ≡ 0 = zeros_none a b h.0 in omega arith

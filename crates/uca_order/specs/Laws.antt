@@ -38,7 +38,7 @@ pub record KeysCompareAsTexts : Type 0 where
   pub equal : (depth : Depth) (weighting : Weighting) (left right : ReadText) →
       (key_at depth weighting left ≡ key_at depth weighting right) ↔ ((compared_at depth weighting left right).level ≡ 0)
 
--- The same for two texts that are given as their code points before normalization.
+-- Two texts are given as code points before normalization. Their keys give their order and the level at which they differ.
 abbrev pub StoredKeysCompareAsTexts : Type 0
 StoredKeysCompareAsTexts = (c : Collation) (depth : Depth) (weighting : Weighting) (left right : List ℕ) →
     let left_key = text_key c depth weighting left in

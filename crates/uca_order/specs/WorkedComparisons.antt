@@ -9,7 +9,7 @@ use Rattle.uca_order.specs.StoredKeys.{stored_level}
 abbrev pub Compares : ℕ → List ℕ → List ℕ → Ordering → ℕ → Type 0
 Compares levels left right order level = (lexicographic left right ≡ order) × (stored_level levels left right ≡ level)
 
--- the same for the bytes of these groups
+-- the order and the level of the bytes of these groups
 abbrev pub CompareGroups : ℕ → List ℕ → List ℕ → Ordering → ℕ → Type 0
 CompareGroups levels left right order level = Compares levels (level_bytes left) (level_bytes right) order level
 

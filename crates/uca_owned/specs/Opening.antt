@@ -38,7 +38,7 @@ pub record HasFingerprint (asked : Option Weighting) (depth : Depth) (table_byte
 abbrev pub RejectsTable : List ℕ → TableFault → Type 0
 RejectsTable bytes fault = (left : Option (List ℕ)) × tables.Refuses bytes left fault
 
--- the same for a data file
+-- why the bytes of a data file are rejected, whatever is left of them
 abbrev pub RejectsData : List ℕ → TableFault → Type 0
 RejectsData bytes fault = (left : Option (List ℕ)) × data_files.Refuses bytes left fault
 

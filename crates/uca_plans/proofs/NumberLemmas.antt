@@ -139,7 +139,7 @@ less_number segment members places i m i_within m_within less = elim (cases_lt i
   ]
 ]
 
--- the same, by the members before it and after it
+-- a base member keeps its weight where there is room, by the members before it and after it
 kept_here : (segment : Segment) (before behind : List DraftWeight) (weight : ℕ)
     → HasRoomAt segment (before ++ Base weight ∷ behind) (length before + 1) weight
     → number segment (before ++ Base weight ∷ behind) (length before + 1) ≡ weight

@@ -1,4 +1,4 @@
--- Targets without their last code point.
+-- A target without its last code point, and when that has to be a key.
 use Rattle.std.proofs.Common.{◌≡◌, ℕ, ◌<◌, List, [], ◌∷◌, ◌++◌, length, ◌&&◌, not, eqb, refl, ap, ap₂, ◌∙◌}
 use Rattle.std.proofs.lemmas.Bool.{lt-ltb}
 use Rattle.uca_plans.specs.Drafts.{DraftRow, has_key}

@@ -1,4 +1,4 @@
--- Why a relation is rejected.
+-- The kinds of errors that a relation of a plan may have.
 use Rattle.std.proofs.Common.{◌≡◌, ℕ, ◌+◌, Bool, true, false, cond, List, [], ◌∷◌, ◌++◌, Option, Some, None, Result, Ok, Err, refl, subst}
 use Rattle.uca_check.specs.WellFormed.{elements_of}
 use Rattle.uca_rules.specs.declared.relations.Relation.{Relation}

@@ -140,7 +140,7 @@ pub record WorkedPlans : Type 0 where
   pub nothing : planned small [] ≡ with_rows []
   -- `&a < x`
   pub letter : planned small (set_after (0x61 ∷ []) Primary (0x78 ∷ []) ∷ []) ≡ with_rows (row (0x78 ∷ []) (plain 0x1C48 0x20 2) ∷ [])
-  -- the same if the next letter is directly after `a`: it moves up
+  -- `&a < x`, where the next letter is directly after `a`: it moves up
   pub pushed : planned (over (close_rows 0x1C48)) (set_after (0x61 ∷ []) Primary (0x78 ∷ []) ∷ [])
       ≡ Ok (record {
         rows = close_rows 0x1C49 ++ row (0x78 ∷ []) (plain 0x1C48 0x20 2) ∷ [];
@@ -168,7 +168,7 @@ pub record WorkedPlans : Type 0 where
   -- `&U+4E00 < x`, `&U+4E00 = x`
   pub implicit_anchor : planned small (set_after (0x4E00 ∷ []) Primary (0x78 ∷ []) ∷ []) ≡ refused 1 kinds.Anchor
   pub implicit_same : planned small same_as_implicit ≡ with_rows (record { key = 0x78 ∷ []; elements = plain 0xFB40 0x20 2 ∷ plain 0xCE00 0 0 ∷ [] } ∷ [])
-  -- the same where the primary FB40 of U+4E00 is between two of variable elements, and where it is above all of them
+  -- `&U+4E00 = x`, where the primary FB40 of U+4E00 is between two of variable elements, and where it is above all of them
   pub implicit_among_variables : planned (over (high_variables 0xFFFF)) same_as_implicit ≡ refused 1 kinds.ImplicitVariable
   pub implicit_above_variables : planned (over (high_variables 0xFB3F)) same_as_implicit ≡ Ok (record {
     rows = high_variables 0xFB3F ++ record { key = 0x78 ∷ []; elements = plain 0xFB40 0x20 2 ∷ plain 0xCE00 0 0 ∷ [] } ∷ [];
@@ -188,7 +188,7 @@ pub record WorkedPlans : Type 0 where
       ≡ with_rows (
       record { key = 0x64 ∷ 0x7A ∷ []; elements = plain 0xFBC0 0x20 2 ∷ plain 0x8064 0 0 ∷ plain 0xFBC0 0x20 2 ∷ plain 0x807A 0 0 ∷ [] } ∷
       row (0x64 ∷ 0x7A ∷ 0x30C ∷ []) (plain 0x1C48 0x20 2) ∷ row (0x71 ∷ []) (plain 0x1C48 0x21 2) ∷ row (0x7A ∷ 0x30C ∷ []) (plain 0x1C61 0x20 2) ∷ [])
-  -- the same without the first chain: U+0064 U+007A is no key
+  -- `&a < dz U+030C << q &b < z U+030C`, where U+0064 U+007A is no key
   pub lacks_implicit_prefix : planned small (set_after (0x61 ∷ []) Primary (0x64 ∷ 0x7A ∷ 0x30C ∷ []) ∷
       set_after (0x64 ∷ 0x7A ∷ 0x30C ∷ []) Secondary (0x71 ∷ []) ∷ set_after (0x62 ∷ []) Primary (0x7A ∷ 0x30C ∷ []) ∷ [])
       ≡ refused 1 kinds.NeedsPrefix

@@ -1,4 +1,4 @@
-//! Why there is no plan.
+//! `TailorFault`: why there is no plan of rules over a base, and for which relation.
 
 ghost use Rattle.std.specs.Prelude.{◌≡◌, ◌≤◌, length, Some};
 ghost use Rattle.uca_weights.specs.Levels as levels;

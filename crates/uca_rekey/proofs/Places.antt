@@ -1,4 +1,4 @@
--- Where lines lie in a buffer.
+-- The parts of a buffer: the line at its front, what waits after it, and where more bytes are put.
 use Rattle.std.proofs.Common.{◌≡◌, ℕ, zero, suc, ltb, ◌+◌, ◌-◌, ◌^◌, ◌<◌, ◌≤◌, List, [], ◌∷◌, ◌++◌, length, take, drop, get_or, Option, Some, None, Ok, Err, refl, ap, sym, subst, ◌∙◌, append_assoc, append-nil, length-append, arith, take-append-drop}
 use Rattle.std.specs.Bool.{MatchBool}
 use Rattle.std.specs.Io.KnownBytes.{Consumes, IsAtEnd, Keeps, prepend_known}
@@ -116,7 +116,7 @@ some_more zero pending [] later rest is many end = (is ∙ append-nil pending, e
 some_more zero pending (b ∷ part) later rest is many end = absurd (omega (arith, many))
 some_more (suc n) pending part later rest is many end = rw (lt-ltb 0 (suc n) (omega arith)) (omega (arith, ap length is, length-append pending part, many))
 
--- the same bytes wait, and none was read
+-- no byte was read, and the bytes that wait are those that waited
 pub nothing_filled : (old new : Option (List ℕ)) (pending later : List ℕ) → Keeps old new → later ≡ pending
     → Keeps (prepend_known pending old) (prepend_known later new)
 nothing_filled None new pending later keeps is = tt

@@ -41,7 +41,7 @@ with_digits (byte ∷ line) [] = byte ∷ line
 with_digits (byte ∷ line) (digit ∷ digits) =
     if byte == 9 then byte ∷ line else if byte == 32 then byte ∷ with_digits line (digit ∷ digits) else digit ∷ with_digits line digits
 
--- the same with the digits of a key
+-- the line with the digits of this key in place of those of its own
 abbrev pub with_key : List ℕ → List ℕ → List ℕ
 with_key line key = with_digits line (flat_map byte_digits key)
 

@@ -81,7 +81,7 @@ fault_stands properties bytes fault few utf8 (inl memory) =
     memory_stands properties bytes fault memory.at.0 (subst (λ (n : ℕ). n ≤ length bytes) (sym memory.at.1) (place_within bytes memory.rest utf8 (memory.front, memory.parts)))
 fault_stands properties bytes fault few utf8 (inr has) = cause_stands properties bytes fault.byte fault.kind few utf8 has
 
--- the same said of what is equal
+-- an error of reading is one for equal properties, an equal end and equal characters
 pub fault_of : (properties properties' : Properties) (end end' : ℕ) (cs cs' : List Character) (fault : RuleFault) → properties ≡ properties' → end ≡ end' → cs ≡ cs'
     → IsReadingFault properties end cs fault → IsReadingFault properties' end' cs' fault
 fault_of properties properties' end end' cs cs' fault p n c h =

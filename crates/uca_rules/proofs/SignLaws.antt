@@ -1,4 +1,4 @@
--- What signs and brackets begin with.
+-- With which character a sign and a bracket of rules begin, and how long a bracket is.
 use Rattle.std.proofs.Common.{◌≡◌, ◌≢◌, ◌⊎◌, ℕ, suc, ◌≤◌, List, [], ◌∷◌, length, take, codes, true, Option, None, Some, option_map, inl, inr, refl, ap, ◌∙◌, subst, arith}
 use Rattle.std.specs.Prelude.{if◌then◌else◌, ◌==◌, IfSome}
 use Rattle.std.specs.Str.{bytes_eq}

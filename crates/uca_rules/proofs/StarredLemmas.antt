@@ -1,4 +1,4 @@
--- The targets of a starred text in turn: what they add, their errors, and the symbols that they are written with.
+-- Lemmas on starred texts, such as `bc-f`: the targets that their symbols stand for, the relations that these add, and errors.
 use Rattle.std.proofs.Common.{◌≡◌, ◌≢◌, ◌⊎◌, ℕ, suc, ◌+◌, ◌-◌, ◌<◌, ◌≤◌, List, [], ◌∷◌, ◌++◌, length, take, drop, get_or, map, zero, Bool, true, None, refl, sym, ap, subst, ◌∙◌, inl, inr, ⊎_elim, arith, append_assoc}
 use Rattle.std.specs.List.{AllByRecursion, range_with_len}
 use Rattle.std.specs.Char.{OutOfScalarRange}

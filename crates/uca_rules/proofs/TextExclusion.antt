@@ -1,4 +1,4 @@
--- Where a text of a statement is there, no cause is.
+-- If a statement has the text that is due, no error is due at that position.
 use Rattle.std.proofs.Common.{◌≡◌, ◌⊎◌, ℕ, ◌<◌, ◌≤◌, List, [], ◌∷◌, ◌++◌, length, Bool, true, false, ◌||◌, Option, None, Some, inl, inr, refl, sym, ap, ◌∙◌, subst, arith}
 use Rattle.std.specs.Prelude.{if◌then◌else◌, ◌==◌, IfSome, IsTrue, IsFalse}
 use Rattle.std.specs.List.{AllByRecursion}

@@ -1,4 +1,4 @@
--- Texts end at one position.
+-- A text of rules, starred or not, ends at one position and gives one list of characters.
 use Rattle.std.proofs.Common.{◌≡◌, List, [], ◌∷◌, ◌++◌, Bool, true, false, ◌&&◌, ◌||◌, Option, None, Some, refl, sym, ap, ◌∙◌, subst}
 use Rattle.std.specs.Prelude.{if◌then◌else◌, ◌==◌, IsFalse}
 use Rattle.std.proofs.lemmas.List.{append-nil}

@@ -1,4 +1,4 @@
--- What bytes of rules mean.
+-- Which relations the bytes of rules mean: those of their statements in turn, each placed by the reset or relation before it.
 use Rattle.std.specs.Prelude.{◌≡◌, ℕ, ◌≤◌, Bool, false, List, [], ◌∷◌, ◌++◌, length, map, None, option_map, is_some, IfSome, IsUtf8}
 use Rattle.std.specs.List.{AllByRecursion}
 use Rattle.unicode_normalization.specs.Forms.{nfd}

@@ -1,4 +1,4 @@
-//! Why rules are rejected.
+//! `RuleFault`: at which byte rules are rejected, and why.
 
 ghost use Rattle.std.specs.Prelude.{◌≡◌, ◌≤◌, length, Some};
 ghost use Rattle.uca_rules.specs.declared.faults.RuleFaultKind.{RuleFaultKind};

@@ -1,4 +1,4 @@
-//! Signs and brackets.
+//! Reads the sign of a relation, such as `<<*`, and the bracket of a reset, such as `[before 2]`.
 
 ghost use Rattle.std.specs.Prelude.{◌≡◌, ◌<◌, ◌≤◌, bytes_eq, drop, length, option_map, take};
 ghost use Rattle.std.specs.List.{AllByRecursion};

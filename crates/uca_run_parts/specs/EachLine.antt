@@ -20,7 +20,7 @@ WritesEach properties bytes_of bytes left begun now (Err (Input number kind)) = 
 WritesEach properties bytes_of bytes left begun now (Err (Write written)) = PartWentOut begun now (flat_map bytes_of (clean_lines properties (lines_of bytes))) written
 WritesEach properties bytes_of bytes left begun now (Err _) = ⊥
 
--- The same where the bytes of the input are known: they went out, or as much of them as an error of the input or of the
+-- What is written of an input whose bytes are known: the bytes of its lines, or as many as an error of the input or of the
 -- writer leaves.
 abbrev pub RunsEach : {A : Type 0} → Properties → (List ℕ → List ℕ) → SourceState → SourceState → SinkState → SinkState → Result A RunFault → Type 0
 RunsEach properties bytes_of input input_new out out_new result = IfSome input.remaining (λ bytes. WritesEach properties bytes_of bytes input_new.remaining out.contents out_new.contents result)

@@ -176,7 +176,7 @@ pub record TableAndData : Type 0 where
   pub table : TableContent
   pub properties : Properties
 
--- the same from its parts
+-- what a table and a data file mean, from its parts
 abbrev pub table_with : TableContent → Properties → TableAndData
 table_with table properties = record { table = table; properties = properties }
 
@@ -193,7 +193,7 @@ pub record DataAndRules : Type 0 where
   pub properties : Properties
   pub relations : List Relation
 
--- the same from its parts
+-- what a data file and rules mean, from its parts
 abbrev pub data_with : Properties → List Relation → DataAndRules
 data_with properties relations = record { properties = properties; relations = relations }
 
@@ -211,7 +211,7 @@ pub record TailorContent : Type 0 where
   pub properties : Properties
   pub relations : List Relation
 
--- the same from its parts
+-- what the files mean that a tailoring is made by, from its parts
 abbrev pub tailor_content : TableContent → Properties → List Relation → TailorContent
 tailor_content base properties relations = record { base = base; properties = properties; relations = relations }
 

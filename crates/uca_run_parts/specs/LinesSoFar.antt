@@ -13,7 +13,7 @@ pub record IsAfter (properties : Properties) (bytes left : List ℕ) (is_cut : B
   pub lines : lines_of bytes ≡ before ++ lines_of left
   pub clean : clean_lines properties (lines_of bytes) ≡ before ++ clean_from properties (length before) (lines_of left)
 
--- The same when one more line was read, which may have an error.
+-- The bytes are these lines, one more line that was read and may have an error, and what is left after it.
 pub record IsNext (properties : Properties) (bytes left : List ℕ) (is_cut : Bool) (before : List (List ℕ)) (line : List ℕ) : Type 0 where
   pub parts : MatchBool is_cut (left ≡ []) (bytes ≡ flat_map ended (before ++ line ∷ []) ++ left)
   pub lines : lines_of bytes ≡ before ++ line ∷ lines_of left

@@ -89,7 +89,7 @@ pub record OutcomeContent : Type 0 where
   pub tailored : TableContent
   pub certificate : CertificateContent
 
--- the same from its parts
+-- what the files mean that a tailoring gave, from its parts
 abbrev pub outcome_of : TableContent → CertificateContent → OutcomeContent
 outcome_of tailored certificate = record { tailored = tailored; certificate = certificate }
 

@@ -73,7 +73,7 @@ impl<A: Allocator> InputLines<A> {
         &self.line
     }
 
-    /// The same line as UTF-8, each of whose bytes is looked at once.
+    /// The line that was read last, as UTF-8. Each of its bytes is looked at once.
     ///
     /// # Errors
     ///

@@ -1,4 +1,4 @@
-//! Keys as they are printed.
+//! Prints a key as a line of groups of digits, or as digits before a line.
 
 ghost use Rattle.std.specs.Prelude.{◌≡◌, ◌≤◌, length};
 ghost use Rattle.std.specs.List.{flat_map};

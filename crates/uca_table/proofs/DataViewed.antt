@@ -1,4 +1,4 @@
--- What a reader of lines says of its taker, as what it says of a view of it.
+-- A reader of lines says something of the state of a taker of lines: it is so of each view of that state too.
 use Rattle.std.proofs.Common.{ℕ, List, Option, Some, None, IfSome, inl, inr}
 use Rattle.std.specs.Option.{IsSomeAnd}
 use Rattle.uca_lines.specs.declared.files.FileForm.{FileForm}
@@ -60,7 +60,7 @@ refuses_view form view Says Cause bytes left number kind (inr (inr h)) =
           begins_view form view Cause h.said number h.rest kind h.begins;
     }))
 
--- the same for the result of a reader of lines
+-- an error in a line that is said of a taker is one that is said of its view, for the result of a reader of lines
 pub refused_view : {K T S : Type 0} (form : FileForm K) (view : T → S) (Says : List (List ℕ) → S → Type 0) (Cause : S → List ℕ → K → Type 0)
     (IsUnfinished : S → Type 0) (known left : Option (List ℕ)) (number : ℕ) (kind : K)
     → IfSome known (λ bytes. RefusesLine form (λ lines u. Says lines (view u)) (λ u. Cause (view u)) bytes left number kind)

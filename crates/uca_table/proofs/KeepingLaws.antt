@@ -106,7 +106,7 @@ keeps_row points has now old new row h e absent few some whole added =
       };
     })
 
--- the same rows, and a set with the same keys
+-- a set with equal keys keeps equal rows
 pub keeps_same : {K : Type 0} (points : K → List ℕ) (has now : K → Bool) (old new : TableSoFar) → Keeps points has old → new ≡ old
     → ((q : K) → now q ≡ has q) → Keeps points now new
 keeps_same points has now old new h same keys =

@@ -1,4 +1,4 @@
--- Whole table files.
+-- From the lines of a table file to the whole of it: why it is rejected, and that it means one table.
 use Rattle.std.proofs.Common.{◌≡◌, ◌∙◌, ℕ, ◌+◌, List, [], Option, Some, None, refl, sym, inl, inr, arith, append-nil}
 use Rattle.std.specs.Prelude.{IfSome}
 use Rattle.uca_values.specs.Content.{TableContent}

@@ -1,4 +1,4 @@
--- Rows from their parts.
+-- What the two sides of the `;` say of a row in a table file, and which causes they give it.
 use Rattle.std.proofs.Common.{◌≡◌, ℕ, List, [], ◌∷◌, length, ◌∙◌, ◌⊎◌, refl, sym, ap, subst, inl, inr, arith}
 use borrow.Author.Tests.{eqb-true}
 use Rattle.uca_values.specs.declared.faults.FaultKind.{FaultKind}

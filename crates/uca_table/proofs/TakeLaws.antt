@@ -1,4 +1,4 @@
--- What is begun, with one more line.
+-- What one more line adds to a table that has begun, by its kind, and why a line is rejected.
 use Rattle.std.proofs.Common.{◌≡◌, ℕ, zero, suc, ◌<◌, ◌≤◌, ◌⊎◌, ◌↔◌, ◌&&◌, Bool, true, false, List, [], ◌∷◌, ◌++◌, length, Option, Some, None, Result, Ok, Err, Contains, refl, ap, sym, subst, ◌∙◌, inl, inr, arith, leb, length-append, append-nil}
 use lib.Utf8.{scalar}
 use Rattle.std.specs.Prelude.{IsSome, IsOk, MatchResult, IfErr, OnOk, is_some, not, ◌≢◌}

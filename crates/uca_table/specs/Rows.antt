@@ -41,6 +41,6 @@ RowTextCause text kind = KeyCause (up_to is_semicolon text) kind
     ⊎ ((from_first is_semicolon text ≡ []) × (kind ≡ kinds.Line))
     ⊎ ((rest : List ℕ) × (from_first is_semicolon text ≡ 59 ∷ rest) × ElementsCause rest kind)
 
--- the same for a row that follows others
+-- a cause of the kind in the text of a row, or why the row may not come after these
 abbrev pub RowCause : List Entry → List ℕ → FaultKind → Type 0
 RowCause rows text kind = RowTextCause text kind ⊎ ((row : Entry) × IsRow text row × AddCause rows row kind)

@@ -1,4 +1,4 @@
-//! The collation elements of a row.
+//! Reads the elements of a row, such as `[.1C47.0020.0002]`.
 
 ghost use Rattle.std.specs.Prelude.{◌≡◌, ◌⊎◌, IfOk, IfErr};
 ghost use Rattle.std.specs.Option.{option_map};

@@ -1,4 +1,4 @@
-//! Reading of table files.
+//! Reads a table file line by line, up to its end or its first error.
 
 ghost use Rattle.std.specs.Prelude.{◌≡◌, ◌+◌, ◌≤◌, ◌||◌, IfOk, IfErr, IfSome, MatchResult};
 ghost use Rattle.uca_values.specs.Content.{TableContent};
@@ -106,7 +106,7 @@ fn read_counted<A: Allocator + Copy, R: Read>(
     read_to_end(alloc, source)
 }
 
-// The same, without the claim that nothing else is returned.
+// As `read_counted`, without the claim that nothing else is returned.
 fn read_to_end<A: Allocator + Copy, R: Read>(
     alloc: A,
     source: &mut Source<R>,

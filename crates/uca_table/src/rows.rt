@@ -1,4 +1,4 @@
-//! The rows of a table file.
+//! Reads a row of a table file, such as `0061 ; [.1C47.0020.0002]`, and its key.
 
 ghost use Rattle.std.specs.Prelude.{◌≡◌, ◌⊎◌, IfOk, IfErr};
 ghost use Rattle.uca_table.specs.Rows.{IsKey, KeyCause, IsRow, RowTextCause};

@@ -3,5 +3,5 @@ pub mod RowElements
 pub mod PartLaws
 pub mod RefusalLaws
 pub mod PlanAudits
-pub mod drafts
-pub mod numbers
+pub mod DraftLemmas
+pub mod NumberLemmas

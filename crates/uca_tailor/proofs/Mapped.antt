@@ -1,4 +1,4 @@
--- Lists whose members are mapped in turn, and put after others.
+-- A loop that maps the members of a list in turn and puts them after others: one more member, and all members.
 use Rattle.std.proofs.Common.{◌≡◌, ℕ, ◌+◌, ◌<◌, ◌≤◌, List, [], ◌∷◌, ◌++◌, length, take, map, get_or, sym, ap, ap₂, ◌∙◌, append_assoc}
 use Rattle.std.proofs.lemmas.List.{map_more, take_all}
 

@@ -1,4 +1,4 @@
--- Why there is no tailored table.
+-- Why there is no tailored table: the kinds of a plan's errors, and what each says of the rules.
 use Rattle.std.proofs.Common.{◌≡◌, inl, inr, ℕ, Bool, true, false, cond, not, List, Result, Ok, Err, refl, sym, subst}
 use Rattle.std.specs.Prelude.{◌↔◌, IsTrue, OnOk, IfErr}
 use Rattle.std.specs.Result.{is_ok}

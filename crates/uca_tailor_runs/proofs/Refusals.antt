@@ -1,4 +1,4 @@
--- Rejections of audits.
+-- What an error of an audit says of a tailoring, and what a run returns for it and for the line of a verdict.
 use Rattle.std.specs.Prelude.{◌≡◌, ◌⊎◌, ◌||◌, ℕ, Bool, List, true, false, Ok, Err}
 use Rattle.std.specs.Io.KnownBytes.{Appends}
 use Rattle.std.proofs.Common.{inl, inr, refl, subst, sym, true≢false}

@@ -1,4 +1,4 @@
--- Lists of one member.
+-- A list of one member is split in one way.
 use Rattle.std.proofs.Common.{◌≡◌, List, [], ◌∷◌, ◌++◌, refl, sym}
 use Rattle.uca_weights.proofs.Lists.{not_nil}
 

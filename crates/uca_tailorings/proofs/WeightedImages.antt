@@ -18,7 +18,7 @@ use Rattle.uca_tailorings.proofs.RisingMaps.{sent_zero, sent_order, sent_filter}
 abbrev pub AreSentWeights : Maps → Weights → Weights → Type 0
 AreSentWeights maps ws xs = (level : ℕ) → Sends (level_images maps level) (weight_at level ws) (weight_at level xs)
 
--- the same for the weights of each element
+-- each weight of each element is put through the map of its level
 abbrev pub AreAllSent : Maps → List Weights → List Weights → Type 0
 AreAllSent maps [] [] = ⊤
 AreAllSent maps [] (x ∷ xs) = ⊥

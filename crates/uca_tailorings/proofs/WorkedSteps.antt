@@ -1,4 +1,4 @@
--- What the conditions ask of a tailoring whose rows, relations and maps are given one by one.
+-- Lemmas for the worked tailorings: what the conditions ask where rows, relations and maps are listed one by one.
 use Rattle.std.proofs.Common.{◌≡◌, ◌⊎◌, ℕ, ◌+◌, List, [], ◌∷◌, ◌++◌, Option, None, Some, IfSome, inl, inr, ⊎_elim}
 use Rattle.std.proofs.Common.{refl, sym, ap, subst, subst₂, ◌∙◌, arith, append_assoc, append-nil}
 use Rattle.std.specs.List.{AllByRecursion}
@@ -72,7 +72,7 @@ at_split P front (x ∷ xs) each (b ∷ before) y after split =
     subst (λ whole. P whole y after) (append_assoc front (b ∷ []) before)
     (at_split P (front ++ b ∷ []) xs (subst (λ z. AtEachPart P (front ++ z ∷ []) xs) first each.1) before y after rest)
 
--- the same for all members
+-- what each member has, with those before it and after it, holds at each split of the list
 pub at_parts : {A : Type 0} (P : List A → A → List A → Type 0) (xs : List A) → AtEachPart P [] xs → (before : List A) (y : A) (after : List A) →
     xs ≡ before ++ y ∷ after → P before y after
 at_parts P xs each before y after split = at_split P [] xs each before y after split

@@ -25,7 +25,7 @@ pub record ReadsAs (given reading : Collation) : Type 0 where
   pub ranges : given.ranges ≡ reading.ranges
   pub properties : given.properties ≡ reading.properties
 
--- The same for a caller who reads texts by other lookups, `old` of the base and `new` of the tailored table. Two texts
+-- A caller reads texts by other lookups, `old` of the base and `new` of the tailored table. Two texts
 -- that no target touches compare as before, and so do the bytes of their keys, by order and level. If no weight is
 -- changed, a text keeps its key.
 pub record UntouchedTextsStay (tailoring : Tailoring) (old new : Collation) : Type 0 where

@@ -160,7 +160,7 @@ pub record IsNearestWeight (tailoring : Tailoring) (before : List Relation) (lev
   pub known : (w : ℕ) → IsKnownWeight tailoring level w → ¬ (IsBetween old new w)
   pub earlier : (w : ℕ) → IsNewWeight tailoring level w before → ¬ (IsBetween old new w)
 
--- the same for the new weight of a relation that comes before some relations and after others
+-- each new weight of a relation is fresh, where these relations come before it and after it
 abbrev pub IsFresh : Tailoring → List Relation → Relation → List Relation → Type 0
 IsFresh tailoring before r after = (level : Level) (old new : ℕ) → IsPlacedAt tailoring r level old new → IsFreshWeight tailoring before after level new
 

@@ -17,8 +17,8 @@ pub fn accepted_tailorings_are_faithful()
     ensures { AcceptedTailoringsAreFaithful }
 {}
 
-/// The same for whoever reads texts by lookups of the two tables: `compare` returns the same under both. So does
-/// `compare_keys` for keys that were made under one of them and for those made under the other.
+/// Two texts in which no target of a faithful tailoring occurs in order are read by lookups of both tables. `compare`
+/// returns the same under both. So does `compare_keys` for the keys made under one of them and for those made under the other.
 pub fn faithful_tailorings_keep_untouched_texts()
     ensures { FaithfulTailoringsKeepUntouchedTexts }
 {}

@@ -1,4 +1,4 @@
--- Counting non-starters in a row.
+-- Counting the non-starters in a row finds the first long run of a text, or that there is none.
 use Rattle.std.proofs.Common.{◌≡◌, inl, inr, ℕ, ◌+◌, ◌-◌, ◌<◌, ◌≤◌, List, [], ◌∷◌, ◌++◌, length, map, take, get_or, refl, sym, ◌∙◌, ap, subst, arith, length-append}
 use Rattle.std.proofs.lemmas.Bool.{cases_lt}
 use Rattle.std.proofs.lemmas.List.{get_or-map, get_or_at, get_or_append_left, get_or-append_right, take_more, take_all}

@@ -1,4 +1,4 @@
--- Laws of texts.
+-- The law of canonically equivalent texts, as a statement.
 use Rattle.std.specs.Prelude.{◌≡◌, ℕ, List}
 use Rattle.uca_values.specs.Content.{Properties}
 use Rattle.uca_text.specs.Texts.{AreCanonicallyEquivalent, nfd_text}

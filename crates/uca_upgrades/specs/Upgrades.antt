@@ -136,7 +136,7 @@ pub record KeysAreUpgraded (upgrade : Upgrade) (asked : Option Weighting) (depth
   pub printed_line : (line before after : List ℕ) → IsUnaffectedLine upgrade line →
       ended before ≡ printed_key (old_settings upgrade asked depth) line →
       ended after ≡ printed_key (new_settings upgrade asked depth) line → rekeyed upgrade.maps depth (stored_weighting upgrade asked) before ≡ Some after
-  -- The same for the digits of the key, a tab, and what a store has after it, such as the line itself or its number.
+  -- `uca rekey` puts the new key in place of the old one before a tab and what a store has after it, such as the line itself.
   pub keyed_row : (line row before after : List ℕ) → IsUnaffectedLine upgrade line →
       ended before ≡ keyed_line_of (old_key upgrade asked depth line) row →
       ended after ≡ keyed_line_of (new_key upgrade asked depth line) row → rekeyed upgrade.maps depth (stored_weighting upgrade asked) before ≡ Some after
@@ -144,7 +144,7 @@ pub record KeysAreUpgraded (upgrade : Upgrade) (asked : Option Weighting) (depth
   pub printed : (input : List ℕ) → AreUnaffectedLines upgrade input →
       IsRekeyed upgrade asked depth (flat_map (printed_key (old_settings upgrade asked depth)) (lines_of input))
       (flat_map (printed_key (new_settings upgrade asked depth)) (lines_of input))
-  -- the same for `uca keys --lines`
+  -- the whole output of `uca keys --lines` over unaffected lines becomes its output under the new files
   pub keyed : (input : List ℕ) → AreUnaffectedLines upgrade input →
       IsRekeyed upgrade asked depth (flat_map (keyed_line (old_settings upgrade asked depth)) (lines_of input))
       (flat_map (keyed_line (new_settings upgrade asked depth)) (lines_of input))

@@ -24,19 +24,19 @@ pub fn accepted_changes_keep_order()
     changes_keep_unaffected_texts();
 }
 
-/// The same from the verdict of a run. Say `uca audit-changes` returned `Ok(true)` over the tables and data files of Unicode
-/// 13.0.0 and 15.0.0, a file of changes and a certificate. Then the bytes of these six files mean one change, and no other. It
-/// is accepted, and all is true of it that [`accepted_changes_keep_order`] says.
+/// What the verdict of a run means for stored keys. Say `uca audit-changes` returned `Ok(true)` over the tables and data files
+/// of Unicode 13.0.0 and 15.0.0, a file of changes and a certificate. Then the bytes of these six files mean one change, and no
+/// other. It is accepted, and all is true of it that [`accepted_changes_keep_order`] says.
 pub fn audited_changes_keep_order()
     ensures { AuditedChangesKeepOrder }
 {
     accepted_changes_keep_order();
 }
 
-/// The same for a tailoring. Say the base is the table of Unicode 15.0.0, and the rules are `&b < bh <<< Bh`. `uca tailor`
-/// writes the tailored table and the certificate, and `uca audit` accepts them. The keys of lines that `uca affected` prints,
-/// such as `bach`, are made anew. All others go through `uca rekey`, or stay where no weight of the line moves. Then each stored
-/// key is the key of its line under the tailored table.
+/// What a tailoring means for stored keys. Say the base is the table of Unicode 15.0.0, and the rules are `&b < bh <<< Bh`.
+/// `uca tailor` writes the tailored table and the certificate, and `uca audit` accepts them. The keys of lines that
+/// `uca affected` prints, such as `bach`, are made anew. All others go through `uca rekey`, or stay where no weight of the line
+/// moves. Then each stored key is the key of its line under the tailored table.
 pub fn accepted_tailorings_keep_order()
     ensures { AcceptedTailoringsKeepOrder }
 {
@@ -44,9 +44,9 @@ pub fn accepted_tailorings_keep_order()
     tailorings_are_changes();
 }
 
-/// The same from the verdict of a run. Say `uca audit` returned `Ok(true)` over the table and the data file of Unicode 15.0.0,
-/// rules, a tailored table and a certificate. Then their bytes mean one tailoring, and no other. It is accepted, and all is true
-/// of it that [`accepted_tailorings_keep_order`] says.
+/// What the verdict of a run means for stored keys. Say `uca audit` returned `Ok(true)` over the table and the data file of
+/// Unicode 15.0.0, rules, a tailored table and a certificate. Then their bytes mean one tailoring, and no other. It is
+/// accepted, and all is true of it that [`accepted_tailorings_keep_order`] says.
 pub fn audited_tailorings_keep_order()
     ensures { AuditedTailoringsKeepOrder }
 {

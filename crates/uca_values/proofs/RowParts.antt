@@ -57,7 +57,7 @@ rows_push_by points more elements others (s ∷ spans) are =
     (ap₂ (λ k e. record { key = k; elements = e }) (part_stays points more s.key are.0.0) (part_stays elements others s.elements are.0.1))
     (rows_push_by points more elements others spans are.1)
 
--- The same for lists and spans that are equal to these.
+-- As `rows_stay_by`, for lists and spans that are equal to its own.
 pub rows_stay : (points more all : List ℕ) (elements others every : List Element) (spans same : List RowSpans) → AreSpans points elements spans →
     all ≡ points ++ more → every ≡ elements ++ others → same ≡ spans → rows_in all every same ≡ rows_in points elements spans
 rows_stay points more all elements others every spans same are is_all is_every is_same =

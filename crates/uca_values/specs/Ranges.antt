@@ -26,6 +26,6 @@ RiseBy first last (r ∷ ranges) = (first r ≤ last r) × AllByRecursion (λ s.
 abbrev pub AreRising : List CodePointRange → Type 0
 AreRising ranges = RiseBy (λ r. r.first) (λ r. r.last) ranges
 
--- the same for ranges with a class
+-- no range with a class is empty, and each ends before the next begins
 abbrev pub AreRisingClasses : List ClassRange → Type 0
 AreRisingClasses ranges = RiseBy (λ r. r.first) (λ r. r.last) ranges

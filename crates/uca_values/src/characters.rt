@@ -222,7 +222,7 @@ fn class_place(ranges: &[ClassRange], point: char) -> usize
     ranges.partition_point(|range| range.last < point)
 }
 
-// The same for ranges without a class.
+// The position of the first range without a class that ends at the code point or above it.
 fn range_place(ranges: &[CodePointRange], point: char) -> usize
     requires { AreRising ranges.now }
     ensures bound { result ≤ length ranges.now }
@@ -247,7 +247,7 @@ fn class_gap(ranges: &[ClassRange], range: ClassRange) -> Option<usize>
     Some(at)
 }
 
-// The same for ranges without a class.
+// The position where the range without a class fits between the others, unless it overlaps one of them.
 fn range_gap(ranges: &[CodePointRange], range: CodePointRange) -> Option<usize>
     requires rising { AreRising ranges.now }
     requires sound { range.first ≤ range.last }

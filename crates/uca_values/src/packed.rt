@@ -161,7 +161,7 @@ impl<A: Allocator> Model for PackedTable<A> {
 }
 
 impl<A: Allocator + Copy> PackedTable<A> {
-    /// The same table, with a list for each key and for the elements of each row.
+    /// This table, with a list for each key and for the elements of each row.
     ///
     /// # Errors
     ///

@@ -1,4 +1,4 @@
--- What there is once for each level.
+-- What holds at each level holds at one of them.
 use Rattle.uca_weights.specs.declared.Level.{Level}
 use Rattle.uca_weights.specs.declared.Level.TheVariants.{One, Two, Three}
 use Rattle.uca_weights.specs.PerLevel.{PerLevel, at_level, AtEachLevel}

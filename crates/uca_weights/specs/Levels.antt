@@ -1,4 +1,4 @@
--- The levels of weights.
+-- The weight of an element at a level, the number of a level, and the level of a strength.
 use Rattle.std.specs.Prelude.{ℕ, Option, Some, None}
 use Rattle.uca_weights.specs.declared.Element.{Element}
 use Rattle.uca_weights.specs.declared.Level.{Level}

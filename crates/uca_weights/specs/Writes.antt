@@ -1,4 +1,4 @@
--- What went out of a text.
+-- How much of a text went out: all of it, or its first bytes before an error.
 use Rattle.std.specs.Prelude.{ℕ, List, Option, Result, ◌≤◌, length, take, MatchResult}
 use Rattle.std.specs.Io.KnownBytes.{Appends}
 use Rattle.uca_weights.specs.declared.streams.sink.WriteFault.{WriteFault}

@@ -539,7 +539,7 @@ fn subcommand_words<'a>(
     }
 }
 
-// The same, or the error of a value. A subcommand without `--weighting` is given none, and one without `--from` no fingerprints.
+// As `subcommand_words`, or the error of a value. The weighting and the fingerprints are none where no option gives them.
 fn words_of<'a>(name: &str, found: &ArgMatches<'a>) -> Result<Words<'a>, WordFault>
     requires { is_met name.now (rows_of (found_of found.now)) ≡ true }
     ensures ok { IfOk result (Says name.now (rows_of (found_of found.now))) }

@@ -42,7 +42,7 @@ pub record IsFreshAt (known shared : Flags) (level : Level) (new : ℕ) : Type 0
   pub own : ¬ (HasWeight shared level new)
   pub low : IsLow level new
 
--- the same for a placement, if it puts a new weight at a level
+-- the new weight of a placement is as `IsFreshAt` says, if there is one at a level
 abbrev pub IsFreshPlacement : Flags → Flags → Placement → Type 0
 IsFreshPlacement known shared p = MatchOption p.level ⊤ (λ level. IsFreshAt known shared level p.new)
 

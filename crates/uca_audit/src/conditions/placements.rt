@@ -50,7 +50,7 @@ pub(crate) fn first_not_placed<A: Allocator + Copy, T: Allocator>(
     place_targets(inputs, collator, &mut readings, list)
 }
 
-// The same, with lists for the elements of one relation after the other.
+// As `first_not_placed`, with lists that have the elements of each relation in turn.
 fn place_targets<A: Allocator + Copy, T: Allocator>(
     inputs: &Inputs<T>,
     collator: &Collator<Trie<A>, T>,

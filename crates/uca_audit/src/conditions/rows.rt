@@ -171,7 +171,7 @@ pub(crate) fn rows_are_expected<A: Allocator + Copy, T: Allocator>(
     rows_are_known(inputs, &base, targets)
 }
 
-/// The same, by a lookup of the base.
+/// Condition 7, by a lookup of the base.
 fn rows_are_known<A: Allocator + Copy, T: Allocator>(
     inputs: &Inputs<T>,
     base: &Trie<A>,

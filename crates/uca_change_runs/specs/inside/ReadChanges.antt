@@ -29,7 +29,7 @@ pub record ListedContent : Type 0 where
   pub list : ChangeContent
   pub certificate : CertificateContent
 
--- the same from its parts
+-- what a file of changes and a certificate mean, from its parts
 abbrev pub listed_with : ChangeContent → CertificateContent → ListedContent
 listed_with list certificate = record { list = list; certificate = certificate }
 
@@ -57,7 +57,7 @@ listed_of listed = listed_with listed.list listed.certificate
 abbrev pub change_of : {A : Type 0} → ChangeFiles A → Change
 change_of files = change_listed (editions_of files.editions) (listed_of files.listed)
 
--- the same with other lists of texts and ranges
+-- the change of these files, with other lists of texts and ranges
 abbrev pub change_by : {A : Type 0} → ChangeFiles A → ChangesContent → Change
 change_by files changes =
     change_between (editions_of files.editions) (record { texts = changes.texts; ranges = changes.ranges }) files.listed.certificate

@@ -37,7 +37,7 @@ pub(crate) fn read_summed_table<A: Allocator + Copy, R: Read>(
     read_table_to_end(alloc, source)
 }
 
-// The same, without the claim that nothing else is returned.
+// As `read_summed_table`, without the claim that nothing else is returned.
 fn read_table_to_end<A: Allocator + Copy, R: Read>(
     alloc: A,
     source: &mut Source<R>,
@@ -88,7 +88,7 @@ pub(crate) fn read_summed_data<A: Allocator + Copy, R: Read>(
     read_data_to_end(alloc, source)
 }
 
-// The same, without the claim that nothing else is returned.
+// As `read_summed_data`, without the claim that nothing else is returned.
 fn read_data_to_end<A: Allocator + Copy, R: Read>(
     alloc: A,
     source: &mut Source<R>,

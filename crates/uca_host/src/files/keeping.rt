@@ -44,7 +44,7 @@ pub fn find_certificate<O: Opens>(
     Ok(())
 }
 
-/// The same, among the files that `changes` reads.
+/// Looks for the certificate among the files that `changes` reads. An error is the role of the first that it is.
 pub fn find_certificate_of_editions<O: Opens>(
     opener: &mut O,
     names: &EditionNames,

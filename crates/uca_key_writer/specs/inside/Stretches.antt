@@ -29,7 +29,7 @@ abbrev pub StretchReads : Collation → Weighting → List ℕ → List ℕ → 
 StretchReads c weighting xs text levels Ended = HasRead c weighting (xs ++ chars text) levels
 StretchReads c weighting xs text levels (Stopped last rest) = ReadsSome c weighting xs text rest.now levels last
 
--- the same, where a piece goes on
+-- after the text so far, some of a text was read up to a piece that goes on, and the rest follows
 pub record ReadsMore (c : Collation) (weighting : Weighting) (xs text rest : List ℕ) (levels : LevelState) (piece : Piece) : Type 0 where
   pub more : List ℕ
   pub split : chars text ≡ more ++ chars rest

@@ -1,4 +1,4 @@
-//! Numbers in a text.
+//! Reads numbers of a file, such as `1C47`, from their digits, and gives the digits of a number.
 
 ghost use Rattle.std.specs.Prelude.{◌≡◌, ◌*◌, ◌≤◌, ◌<◌, ◌^◌, ◌%◌, length, IfSome, [], ◌∷◌};
 ghost use Rattle.uca_lines.specs.inside.DigitValues.{value_or_more, number_or_more};
@@ -55,7 +55,7 @@ fn hexadecimal(word: &[u8]) -> Option<u32>
     Some(number as u32)
 }
 
-// The same number, or `NO` or more if a byte is no digit.
+// The number that four to six digits stand for, or `NO` or more if a byte is no digit.
 fn number_or_more(word: &[u8]) -> u64
     requires least { 4 ≤ length word.now }
     requires most { length word.now ≤ 6 }

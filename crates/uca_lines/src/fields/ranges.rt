@@ -1,4 +1,4 @@
-//! Ranges of code points.
+//! Reads a range of code points, `FIRST..LAST`.
 
 ghost use Rattle.std.specs.Prelude.{◌≡◌};
 ghost use Rattle.uca_lines.specs.CodePointRanges.{range_of};

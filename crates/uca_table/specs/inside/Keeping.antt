@@ -1,4 +1,4 @@
--- What a table in the making keeps.
+-- The set of the keys of a table in the making, by which duplicate keys are found.
 use Rattle.std.specs.Prelude.{◌≡◌, ℕ, ◌/◌, ◌%◌, ◌==◌, ◌↔◌, Bool, true, List, [], ◌∷◌, Some, Contains, slice_index}
 use Rattle.std.specs.Int.{bit_at}
 use Rattle.uca_values.specs.Content.{Entry, is_version_name, keys_of}
@@ -13,7 +13,7 @@ abbrev pub is_kept : List ℕ → Bool → List ℕ → Bool
 is_kept words is_in_set (point ∷ []) = has_bit words point
 is_kept words is_in_set _ = is_in_set
 
--- The same for a set, which has the keys that `has` says. A key in memory has the list that `points` says.
+-- Whether a key in memory has its bit or is in a set. `has` says which keys the set has, and `points` which list a key has.
 abbrev pub kept : {K : Type 0} → (K → List ℕ) → List ℕ → (K → Bool) → K → Bool
 kept points words has key = is_kept words (has key) (points key)
 

@@ -11,6 +11,6 @@ pub record TakesText (old : TableSoFar) (text : List ℕ) (new : TableSoFar) : T
   pub order : in_order new ≡ in_order old ++ said (item ∷ [])
   pub begun : IsTableSoFar new
 
--- the same for the line
+-- with one more line, which says an item, the new is said in order
 abbrev pub Takes : TableSoFar → List ℕ → TableSoFar → Type 0
 Takes old line new = TakesText old (text_of line) new

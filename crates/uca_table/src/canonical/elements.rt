@@ -1,4 +1,4 @@
-//! The texts of elements.
+//! Gives an element as its text, such as `[.1C47.0020.0002]`.
 
 ghost use Rattle.std.specs.Prelude.{◌≡◌};
 ghost use Rattle.uca_table.specs.CanonicalElements.{mark_byte, element_text};

@@ -1,4 +1,4 @@
-//! The rows of a table.
+//! Writes the rows of a table as lines, such as `0061 ; [.1C47.0020.0002]`.
 
 ghost use Rattle.std.specs.Prelude.{length};
 ghost use Rattle.std.specs.List.{flat_map};

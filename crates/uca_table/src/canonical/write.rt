@@ -1,4 +1,4 @@
-//! A table as its canonical text.
+//! Writes a table as its canonical text.
 
 ghost use Rattle.std.specs.Prelude.{◌≡◌, ◌<◌, ◌||◌, length, is_err, IfErr};
 ghost use Rattle.uca_weights.specs.Writes.{Writes};

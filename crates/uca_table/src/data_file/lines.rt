@@ -1,4 +1,4 @@
-//! The lines of a data file.
+//! Reads a line of a data file that gives a range a property, such as `ccc 0301..0301 230`.
 
 ghost use Rattle.std.specs.Prelude.{◌≡◌, ℕ, List, [], ◌∷◌, MatchOption, MatchResult, IfOk, codes, true};
 ghost use Rattle.uca_lines.specs.Leads.{BeginsWord};

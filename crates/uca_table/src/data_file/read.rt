@@ -1,4 +1,4 @@
-//! Reading of data files.
+//! Reads a data file line by line, up to its end or its first error.
 
 ghost use Rattle.std.specs.Prelude.{◌≡◌, ◌||◌, IfOk, IfErr, IfSome, MatchResult};
 ghost use Rattle.uca_values.specs.Content.{Properties, properties_of};

@@ -213,7 +213,7 @@ pub(crate) fn draft<'a, A: Allocator + Copy, T: Allocator>(
     }
 }
 
-/// The same, by the row of each key.
+/// As `draft`, given the row of each key.
 fn draft_over<'a, A: Allocator + Copy, T: Allocator>(
     alloc: A,
     base: &'a Table<T>,

@@ -1,4 +1,4 @@
-//! Elements before weights are numbered.
+//! Draft elements, whose weights are not numbered yet: what each is, and how one gets a new weight.
 
 ghost use Rattle.std.specs.Prelude.{◌≡◌, None, Some, MatchOption};
 ghost use Rattle.uca_weights.specs.Levels as levels;

@@ -1,4 +1,4 @@
-//! What relations give their targets.
+//! Drafts the elements that a relation gives its target: those of the anchor with a new weight, and those of the expansion.
 
 ghost use Rattle.std.specs.Prelude.{◌≡◌, ◌++◌, ◌∷◌, [], ℕ, List, IfOk, OnOk, option_map};
 ghost use Rattle.uca_match.specs.Tries.{positions};

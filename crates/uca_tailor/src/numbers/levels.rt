@@ -1,4 +1,4 @@
-//! The numbers of a level's weights.
+//! `LevelNumbers`: the list of a level, and the number that each of its weights gets.
 
 ghost use Rattle.std.specs.Prelude.{◌≡◌, ℕ, ◌+◌, ◌<◌, ◌&&◌, nat_eq, length, reverse, cond, true, false, slice_index, vec_len, IfOk, OnOk, MatchOption};
 ghost use Rattle.std.specs.List.{AllByRecursion};

@@ -61,7 +61,7 @@ pub record ComparesTexts (c : Collation) (weighting : Weighting) (xs ys : List â
   pub left_runs : HasNoLongRun (map c.properties.class (nfd xs))
   pub right_runs : HasNoLongRun (map c.properties.class (nfd ys))
 
--- the same for two texts that are accepted
+-- How two texts that are accepted compare at all levels.
 pub record ComparesAccepted (c : Collation) (weighting : Weighting) (xs ys : List â„•) (w : Walked) : Type 0 where
   pub levels : ComparesLevels weighting (text_elements c xs) (text_elements c ys) w
   pub left : IsAccepted (nfd_text c.properties xs)

@@ -29,7 +29,7 @@ all_planned rows base insertions one two three is_one is_two is_three =
     let plans = level_plans (elements_of base) insertions in
     rw (is_one.1, is_two.1, is_three.1) (with_room rows plans is_one.0 is_two.0 is_three.0)
 
--- The same rows and insertions.
+-- A plan of rows and insertions is one of equal rows and insertions.
 moved : (level : Level) (plan : LevelPlan) (rows base : List Entry) (is insertions : List Insertion) → rows ≡ base → is ≡ insertions
     → IsPlanned level plan rows is → IsPlanned level plan base insertions
 moved level plan rows base is insertions same_rows same_insertions planned =

@@ -13,9 +13,9 @@ use Rattle.uca_rules.specs.Relations.{AreRules}
 use Rattle.uca_plans.specs.Lists.{InsertsBelow}
 use Rattle.uca_tailor.specs.inside.KeyRows.{ArePositions}
 use Rattle.uca_tailor.specs.inside.Variables.{AreBounds}
-use Rattle.uca_tailor.proofs.drafts.Readiness.{ready}
-use Rattle.uca_tailor.proofs.drafts.DraftingSteps.{none_drafted, one_more, rejected_first, all_drafted}
-use Rattle.uca_tailor.proofs.drafts.Names.{drafts_named, named_below}
+use Rattle.uca_tailor.proofs.DraftLemmas.Readiness.{ready}
+use Rattle.uca_tailor.proofs.DraftLemmas.DraftingSteps.{none_drafted, one_more, rejected_first, all_drafted}
+use Rattle.uca_tailor.proofs.DraftLemmas.Names.{drafts_named, named_below}
 use Rattle.uca_tailor.proofs.drafts.drafting.draft_over.Goals as goal
 
 pub loop-at-init : goal.loop-at-init

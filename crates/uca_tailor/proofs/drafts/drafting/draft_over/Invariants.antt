@@ -1,5 +1,5 @@
 -- The relations so far are drafted.
-use Rattle.uca_tailor.proofs.drafts.DraftingSteps.{IsDrafted}
+use Rattle.uca_tailor.proofs.DraftLemmas.DraftingSteps.{IsDrafted}
 use Rattle.uca_values.specs.Content.{properties_of}
 use Rattle.uca_plans.specs.Tailors.{basis_of}
 use Rattle.uca_tailor.proofs.drafts.drafting.draft_over.Given as goal

@@ -3,7 +3,7 @@ use Rattle.std.proofs.lemmas.List.{length-map}
 use Rattle.uca_plans.specs.Drafts.{DraftRow}
 use Rattle.uca_plans.specs.Keys.{keys_in}
 use Rattle.uca_plans.proofs.KeyPlaces.{has_key_is}
-use Rattle.uca_tailor.proofs.drafts.KeyLookups.{front_is, not_in_front}
+use Rattle.uca_tailor.proofs.DraftLemmas.KeyLookups.{front_is, not_in_front}
 use Rattle.uca_tailor.proofs.drafts.drafting.has_key.Goals as goal
 
 pub returns-in-Some : goal.returns-in-Some

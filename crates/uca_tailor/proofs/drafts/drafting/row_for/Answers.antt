@@ -13,8 +13,8 @@ use Rattle.uca_tailor.specs.inside.Ready.{basis_in}
 use Rattle.uca_tailor.specs.declared.drafts.targets.TargetDraft.{TargetDraft}
 use Rattle.uca_tailor.specs.declared.drafts.targets.TargetDraft.TheVariants.{AnchorRejected, Identical, NewWeight}
 use Rattle.uca_tailor.specs.inside.Targets.{drafted_with, insertions_of}
-use Rattle.uca_tailor.proofs.drafts.VariableLaws.{holds_is}
-use Rattle.uca_tailor.proofs.drafts.DraftingSteps.{refused_anchor, refused_prefix, refused_limit, too_many, refused_room, refused_variable, in_limits, row_put}
+use Rattle.uca_tailor.proofs.DraftLemmas.VariableLaws.{holds_is}
+use Rattle.uca_tailor.proofs.DraftLemmas.DraftingSteps.{refused_anchor, refused_prefix, refused_limit, too_many, refused_room, refused_variable, in_limits, row_put}
 use Rattle.uca_tailor.proofs.drafts.drafting.row_for.Goals as goal
 
 -- the rows so far, and where the new weights go

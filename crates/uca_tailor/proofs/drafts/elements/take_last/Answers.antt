@@ -1,6 +1,6 @@
 use Rattle.std.proofs.Common.{sym, ap, ◌∙◌}
 use Rattle.uca_plans.specs.Drafts.{anchor_part}
-use Rattle.uca_tailor.proofs.drafts.AnchorParts.{ignorable_last, not_ignorable_last}
+use Rattle.uca_tailor.proofs.DraftLemmas.AnchorParts.{ignorable_last, not_ignorable_last}
 use Rattle.uca_tailor.proofs.drafts.elements.take_last.Goals as goal
 
 pub returns-then-not-is_ignorable_to : goal.returns-then-not-is_ignorable_to

@@ -2,7 +2,7 @@
 use Rattle.std.proofs.Common.{◌∷◌, ◌++◌, [], List, Bor, refl, ap, sym, ◌∙◌, arith}
 use Rattle.std.proofs.lemmas.List.{length-map}
 use Rattle.uca_match.specs.NumberedKeys.{points_of}
-use Rattle.uca_tailor.proofs.drafts.ListedKeys.{points_push, target_found, target_there, target_more, listed_some, listed_all}
+use Rattle.uca_tailor.proofs.DraftLemmas.ListedKeys.{points_push, target_found, target_there, target_more, listed_some, listed_all}
 use Rattle.uca_tailor.proofs.drafts.key_rows.add_targets.Goals as goal
 
 pub loop-relation-init : goal.loop-relation-init

@@ -2,7 +2,7 @@
 use Rattle.std.proofs.Common.{take}
 use Rattle.uca_match.specs.NumberedKeys.{points_of}
 use Rattle.uca_plans.specs.Keys.{with_targets}
-use Rattle.uca_tailor.proofs.drafts.ListedKeys.{AreKeysUpTo}
+use Rattle.uca_tailor.proofs.DraftLemmas.ListedKeys.{AreKeysUpTo}
 use Rattle.uca_tailor.proofs.drafts.key_rows.add_targets.Given as goal
 
 abbrev pub invariant-loop-relation : goal.invariant-loop-relation

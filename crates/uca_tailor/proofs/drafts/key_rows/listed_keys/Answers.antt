@@ -5,7 +5,7 @@ use Rattle.uca_values.specs.Content.{TableContent, AreRows, keys_of}
 use Rattle.uca_match.specs.NumberedKeys.{points_of}
 use Rattle.uca_elements.specs.Positions.{place_at}
 use Rattle.uca_tailor.specs.inside.KeyRows.{AreListed}
-use Rattle.uca_tailor.proofs.drafts.ListedKeys.{distinct_base, few_keys, distinct_result}
+use Rattle.uca_tailor.proofs.DraftLemmas.ListedKeys.{distinct_base, few_keys, distinct_result}
 use Rattle.uca_tailor.proofs.drafts.key_rows.listed_keys.Goals as goal
 
 pub new-requires : goal.new-requires

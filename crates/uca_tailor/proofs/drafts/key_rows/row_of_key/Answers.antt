@@ -1,5 +1,5 @@
 use Rattle.std.proofs.Common.{sym, ◌∙◌}
-use Rattle.uca_tailor.proofs.drafts.KeyLookups.{row_found}
+use Rattle.uca_tailor.proofs.DraftLemmas.KeyLookups.{row_found}
 use Rattle.uca_tailor.proofs.drafts.key_rows.row_of_key.Goals as goal
 
 pub returns : goal.returns

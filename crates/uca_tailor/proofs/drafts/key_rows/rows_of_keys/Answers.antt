@@ -5,7 +5,7 @@ use Rattle.uca_elements.specs.Positions.{AreDistinctKeys}
 use Rattle.uca_match.specs.NumberedKeys.{points_of}
 use Rattle.uca_match.specs.Tries.{positions}
 use Rattle.uca_tailor.specs.inside.KeyRows.{AreListed}
-use Rattle.uca_tailor.proofs.drafts.KeyLookups.{listed_positions}
+use Rattle.uca_tailor.proofs.DraftLemmas.KeyLookups.{listed_positions}
 use Rattle.uca_tailor.proofs.drafts.key_rows.rows_of_keys.Goals as goal
 
 pub new-requires : goal.new-requires

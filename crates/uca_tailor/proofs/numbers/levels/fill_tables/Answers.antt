@@ -1,7 +1,7 @@
 -- The tables with one member more.
 use Rattle.std.proofs.Common.{◌-◌, sym, ap, ◌∙◌, arith}
 use Rattle.uca_plans.specs.declared.drafts.DraftWeight.TheVariants.{Base}
-use Rattle.uca_tailor.proofs.numbers.TableLaws.{base_more, new_more, named_at}
+use Rattle.uca_tailor.proofs.NumberLemmas.TableLaws.{base_more, new_more, named_at}
 use Rattle.uca_tailor.proofs.numbers.levels.fill_tables.Goals as goal
 
 pub bounds-by_base-from : goal.bounds-by_base-from

@@ -3,7 +3,7 @@ use Rattle.std.specs.List.{AllByRecursion}
 use Rattle.uca_check.specs.WellFormed.{elements_of}
 use Rattle.uca_plans.specs.Lists as lists
 use Rattle.uca_plans.specs.Lists.{IsNamedBelow}
-use Rattle.uca_tailor.proofs.numbers.LevelLaws.{as_many_numbers, members_named}
+use Rattle.uca_tailor.proofs.NumberLemmas.LevelLaws.{as_many_numbers, members_named}
 use Rattle.uca_tailor.proofs.numbers.levels.level_numbers.Goals as goal
 
 pub new-requires-clause-same : goal.new-requires-clause-same

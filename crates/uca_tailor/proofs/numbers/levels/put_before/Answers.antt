@@ -4,7 +4,7 @@ use Rattle.std.specs.Vec.{vec_len}
 use Rattle.std.specs.List.{AllByRecursion}
 use Rattle.uca_weights.specs.declared.maps.Run.{Run}
 use Rattle.uca_tailor.specs.inside.NumberTables.{EndsLow}
-use Rattle.uca_tailor.proofs.numbers.RunLaws.{grown, alone, first_run, has_room, before_low}
+use Rattle.uca_tailor.proofs.NumberLemmas.RunLaws.{grown, alone, first_run, has_room, before_low}
 use Rattle.uca_tailor.proofs.numbers.levels.put_before.Goals as goal
 use Rattle.uca_tailor.proofs.numbers.levels.put_before.Goals.{in-Some+else-goes_on, in_default}
 

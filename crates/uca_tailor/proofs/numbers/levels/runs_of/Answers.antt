@@ -2,7 +2,7 @@
 use Rattle.std.proofs.Common.{◌≡◌, ◌-◌, drop, get_or, ap, arith, ◌∙◌}
 use Rattle.uca_plans.specs.declared.drafts.DraftWeight.TheVariants.{Base}
 use Rattle.uca_plans.specs.Plans.{run_before, runs_of}
-use Rattle.uca_tailor.proofs.numbers.RunLaws.{one_zero, one_base, one_new}
+use Rattle.uca_tailor.proofs.NumberLemmas.RunLaws.{one_zero, one_base, one_new}
 use Rattle.uca_tailor.proofs.numbers.levels.runs_of.Goals as goal
 
 pub loop-left-preserved-else-weight-gt0 : goal.loop-left-preserved-else-weight-gt0

@@ -4,8 +4,8 @@ use Rattle.std.proofs.lemmas.Result.{IfOk-weaker}
 use Rattle.uca_check.specs.WellFormed.{elements_of}
 use Rattle.uca_plans.specs.declared.drafts.DraftWeight.TheVariants.{Base}
 use Rattle.uca_tailor.specs.inside.Marks.{AreMarked}
-use Rattle.uca_tailor.proofs.numbers.MarkLaws.{marked_are}
-use Rattle.uca_tailor.proofs.numbers.TableLaws.{as_far}
+use Rattle.uca_tailor.proofs.NumberLemmas.MarkLaws.{marked_are}
+use Rattle.uca_tailor.proofs.NumberLemmas.TableLaws.{as_far}
 use Rattle.uca_tailor.proofs.numbers.lists.base_weights.Goals as goal
 
 pub mark_fixed-requires-clause-count : goal.mark_fixed-requires-clause-count

@@ -3,7 +3,7 @@ use Rattle.std.proofs.lemmas.List.{take_all, length-drop}
 use Rattle.uca_plans.specs.declared.drafts.DraftWeight.{DraftWeight}
 use Rattle.uca_plans.specs.declared.drafts.DraftWeight.TheVariants.{Base}
 use Rattle.uca_plans.specs.Lists.{after_weight}
-use Rattle.uca_tailor.proofs.numbers.SlotLaws.{after_slot, none_after}
+use Rattle.uca_tailor.proofs.NumberLemmas.SlotLaws.{after_slot, none_after}
 use Rattle.uca_tailor.proofs.numbers.lists.high_members.Goals as goal
 
 pub returns-in-Some : goal.returns-in-Some

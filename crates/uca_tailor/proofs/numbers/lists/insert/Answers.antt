@@ -2,7 +2,7 @@ use Rattle.std.proofs.Common.{◌<◌, length, sym, ap, subst, ◌∙◌, arith}
 use Rattle.std.specs.List as list
 use Rattle.uca_plans.specs.ListLaws.{IsAmong}
 use Rattle.uca_tailor.specs.inside.Slots.{IsSlotOf}
-use Rattle.uca_tailor.proofs.numbers.SlotLaws.{inserted_before, inserted_after}
+use Rattle.uca_tailor.proofs.NumberLemmas.SlotLaws.{inserted_before, inserted_after}
 use Rattle.uca_tailor.proofs.numbers.lists.insert.Goals as goal
 use Rattle.uca_tailor.proofs.numbers.lists.insert.Goals.{then-insertion, else-insertion}
 use Rattle.uca_plans.proofs.GoodLists.{not_inserted}

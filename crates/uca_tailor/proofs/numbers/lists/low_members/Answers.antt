@@ -1,7 +1,7 @@
 use Rattle.std.proofs.Common.{sym, ap, ◌∙◌}
 use Rattle.uca_plans.specs.declared.drafts.DraftWeight.TheVariants.{Base}
 use Rattle.uca_plans.specs.Lists.{before_weight}
-use Rattle.uca_tailor.proofs.numbers.SlotLaws.{before_slot, all_before}
+use Rattle.uca_tailor.proofs.NumberLemmas.SlotLaws.{before_slot, all_before}
 use Rattle.uca_tailor.proofs.numbers.lists.low_members.Goals as goal
 
 pub returns-in-Some : goal.returns-in-Some

@@ -1,5 +1,5 @@
 use Rattle.std.proofs.Common.{arith}
-use Rattle.uca_tailor.proofs.numbers.MarkLaws.{marked_more, marked_same}
+use Rattle.uca_tailor.proofs.NumberLemmas.MarkLaws.{marked_more, marked_same}
 use Rattle.uca_tailor.proofs.numbers.lists.mark.Goals as goal
 use Rattle.uca_tailor.proofs.numbers.lists.mark.Goals.{else-weight-gt0-via-then-weight-gt0+else-weight-top_weight, else-weight-gt0-via-else-weight-gt0}
 

@@ -1,6 +1,6 @@
 use Rattle.std.proofs.Common.{subst, sym, ◌∙◌, [], set, true}
 use Rattle.uca_tailor.specs.inside.Marks.{AreMarked}
-use Rattle.uca_tailor.proofs.numbers.MarkLaws.{first_marked}
+use Rattle.uca_tailor.proofs.NumberLemmas.MarkLaws.{first_marked}
 use Rattle.uca_tailor.proofs.numbers.lists.mark_fixed.Goals as goal
 
 pub returns : goal.returns

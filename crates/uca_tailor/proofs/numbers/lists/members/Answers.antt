@@ -4,7 +4,7 @@ use Rattle.uca_weights.specs.declared.Level.TheVariants.{One}
 use Rattle.uca_plans.specs.declared.drafts.DraftWeight.TheVariants.{Base}
 use Rattle.uca_plans.specs.declared.drafts.Insertion.{Insertion}
 use Rattle.uca_plans.specs.Lists.{all_inserted}
-use Rattle.uca_tailor.proofs.numbers.LevelLaws.{levels_compared, one_more}
+use Rattle.uca_tailor.proofs.NumberLemmas.LevelLaws.{levels_compared, one_more}
 use Rattle.uca_tailor.proofs.numbers.lists.members.Goals as goal
 use Rattle.uca_tailor.proofs.numbers.lists.members.Goals.{then-eq+in_ok-insert, else-eq}
 

@@ -1,6 +1,6 @@
 use Rattle.std.proofs.Common.{◌≡◌, rules, tests}
 use Rattle.std.proofs.lemmas.Iterator.{IsFirst-from_position, YieldsList-from_slice}
-use Rattle.uca_tailor.proofs.numbers.SlotLaws.{FindsFirst, slot_found, no_slot_found}
+use Rattle.uca_tailor.proofs.NumberLemmas.SlotLaws.{FindsFirst, slot_found, no_slot_found}
 use Rattle.uca_tailor.proofs.numbers.lists.slot_of.Goals as goal
 
 pub returns-clause-found : goal.returns-clause-found

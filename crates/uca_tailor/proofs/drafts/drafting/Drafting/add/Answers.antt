@@ -12,10 +12,10 @@ use Rattle.uca_rules.specs.declared.relations.Relation.{Relation}
 use Rattle.uca_tailor.specs.inside.Ready.{basis_in, ArePositionsWith, IsReady, IsRejected, ReadsAlike, TakesRow}
 use Rattle.uca_tailor.specs.declared.drafts.targets.TargetDraft.{TargetDraft}
 use Rattle.uca_tailor.specs.inside.Targets.{drafted_with}
-use Rattle.uca_tailor.proofs.drafts.DraftingSteps.{drafted_by_rows}
+use Rattle.uca_tailor.proofs.DraftLemmas.DraftingSteps.{drafted_by_rows}
 use Rattle.uca_tailor.proofs.drafts.drafting.Drafting.add.Goals as goal
 
--- The same rows have the same positions.
+-- Equal rows have equal positions.
 placed : (held : Positions) (rows same : List DraftRow) → same ≡ rows → (more : List (List ℕ)) → ArePositionsWith held rows more → (m : List (List ℕ)) × ArePositionsWith held same m
 placed held rows same is more each = (more, subst (λ rs. ArePositionsWith held rs more) (sym is) each)
 
@@ -25,7 +25,7 @@ given : (basis : Basis) (so_far : Drafting) (same : List DraftRow) (n : ℕ) (r 
 given basis so_far same n r found is gives =
     sym (drafted_by_rows basis so_far (New n) r) ∙ ap (λ (rs : List DraftRow). drafted basis (record { rows = rs; insertions = [] }) (New n) r) (sym is) ∙ sym gives
 
--- the same rows take the same position
+-- over equal rows, equal elements of a target take an equal row
 same_row : (basis : Basis) (rows same : List DraftRow) (r : Relation) (draft : TargetDraft) (elements lent : List DraftElement) (result : Result ℕ TailorKind) → same ≡ rows
     → lent ≡ elements → TakesRow basis same r draft lent result → TakesRow basis rows r draft elements result
 same_row basis rows same r draft elements lent result is alike takes =

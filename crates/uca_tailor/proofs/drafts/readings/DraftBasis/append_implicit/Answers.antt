@@ -3,7 +3,7 @@ use Rattle.std.specs.Prelude.{is_ok}
 use Rattle.std.proofs.Common.{◌≡◌, ◌∷◌, ◌++◌, [], List, Result, Ok, Err, OnOk, if◌then◌else◌, ap, ap₂, subst, ◌∙◌}
 use Rattle.uca_values.specs.Content.{TableContent, properties_of}
 use Rattle.uca_values.specs.Implicit.{implicit}
-use Rattle.uca_tailor.proofs.drafts.MatchReadings.{pair_stands}
+use Rattle.uca_tailor.proofs.DraftLemmas.MatchReadings.{pair_stands}
 use Rattle.uca_tailor.proofs.drafts.readings.DraftBasis.append_implicit.Goals as goal
 
 -- where there was room a list has both

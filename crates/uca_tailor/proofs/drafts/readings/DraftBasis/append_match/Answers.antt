@@ -3,7 +3,7 @@ use Rattle.std.proofs.Common.{◌≡◌, ◌++◌, [], OnOk, ap, sym, subst, ◌
 use Rattle.uca_values.specs.Content.{properties_of}
 use Rattle.uca_elements.specs.declared.matches.Match.TheVariants.{Unlisted}
 use Rattle.uca_tailor.specs.inside.MatchDrafts.{match_drafts}
-use Rattle.uca_tailor.proofs.drafts.RowLookups.{elements_there, elements_past}
+use Rattle.uca_tailor.proofs.DraftLemmas.RowLookups.{elements_there, elements_past}
 use Rattle.uca_tailor.proofs.drafts.readings.DraftBasis.append_match.Goals as goal
 
 pub returns-in-Some : goal.returns-in-Some

@@ -4,7 +4,7 @@ use Rattle.std.specs.List.{flat_map}
 use Rattle.uca_values.specs.Content.{properties_of}
 use Rattle.uca_match.specs.Tries.{positions}
 use Rattle.uca_tailor.specs.inside.MatchDrafts.{match_drafts}
-use Rattle.uca_tailor.proofs.drafts.MatchReadings.{one_match_more, all_shown, text_stands}
+use Rattle.uca_tailor.proofs.DraftLemmas.MatchReadings.{one_match_more, all_shown, text_stands}
 use Rattle.uca_tailor.proofs.drafts.readings.DraftBasis.read.Goals as goal
 
 pub loop-part-init : goal.loop-part-init

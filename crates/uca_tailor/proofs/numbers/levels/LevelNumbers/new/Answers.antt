@@ -3,7 +3,7 @@ use Rattle.std.proofs.Common.{ℕ, List, length, ap, subst, sym, ◌∙◌, slic
 use Rattle.std.specs.List.{AllByRecursion}
 use Rattle.uca_plans.specs.declared.drafts.DraftWeight.{DraftWeight}
 use Rattle.uca_plans.specs.Lists.{IsNamedBelow}
-use Rattle.uca_tailor.proofs.numbers.TableLaws.{tables_of, as_far}
+use Rattle.uca_tailor.proofs.NumberLemmas.TableLaws.{tables_of, as_far}
 use Rattle.uca_tailor.proofs.numbers.levels.LevelNumbers.new.Goals as goal
 
 pub fill_tables-requires-clause-same : goal.fill_tables-requires-clause-same

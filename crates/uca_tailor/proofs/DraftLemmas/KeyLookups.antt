@@ -1,4 +1,4 @@
--- The positions of keys among others.
+-- At which position a key is found in a list of keys, and in two lists in turn.
 use Rattle.std.proofs.Common.{◌≡◌, ℕ, suc, ◌+◌, List, [], ◌∷◌, ◌++◌, length, Bool, true, false, cond, ltb, ◌||◌, is_some, Option, Some, None, Result, Ok, Err, IfOk}
 use Rattle.std.proofs.Common.{MatchOption, refl, sym, ap, ◌∙◌, arith}
 use Rattle.std.proofs.lemmas.Bool.{false≢true, cond-false, or_parts, lt-ltb, le-ltb}
@@ -8,7 +8,7 @@ use Rattle.uca_elements.specs.Positions.{Positions, place_at}
 use Rattle.uca_match.proofs.PlacedKeys.{placed_within}
 use Rattle.uca_plans.specs.Keys.{is_among}
 use Rattle.uca_tailor.specs.inside.KeyRows.{IsRowOf, AreListed, ArePositions}
-use Rattle.uca_tailor.proofs.drafts.MatchReadings.{placed_among}
+use Rattle.uca_tailor.proofs.DraftLemmas.MatchReadings.{placed_among}
 
 -- a position that is found is the key's, and a key without one is none of them
 pub row_found : (keys : List (List ℕ)) (key : List ℕ) (at : Option ℕ) → place_at 0 keys key ≡ at →

@@ -14,9 +14,9 @@ use Rattle.uca_plans.proofs.KeyPlaces.{with_key_is}
 use Rattle.uca_plans.proofs.SameReading.{same_reading, targets_append, target_among}
 use Rattle.uca_tailor.specs.inside.KeyRows.{ArePositions, IsFull}
 use Rattle.uca_tailor.specs.inside.Ready.{IsReady}
-use Rattle.uca_tailor.proofs.drafts.MatchReadings.{placed_among}
-use Rattle.uca_tailor.proofs.drafts.ListedKeys.{relations_around}
-use Rattle.uca_tailor.proofs.drafts.DraftingSteps.{IsDrafted}
+use Rattle.uca_tailor.proofs.DraftLemmas.MatchReadings.{placed_among}
+use Rattle.uca_tailor.proofs.DraftLemmas.ListedKeys.{relations_around}
+use Rattle.uca_tailor.proofs.DraftLemmas.DraftingSteps.{IsDrafted}
 
 -- ---- Keys and targets
 

@@ -1,4 +1,4 @@
--- Tables that are filled in slot.
+-- The tables of the numbers of base weights and of new weights, filled in place from the last member to the first.
 use Rattle.std.proofs.Common.{◌≡◌, ℕ, ◌+◌, ◌<◌, zero, suc, List, [], ◌∷◌, ◌++◌, length, get_or, take, drop, ap, sym, subst, ◌∙◌, arith, refl}
 use Rattle.std.proofs.Math.ListN.{set}
 use Rattle.std.proofs.Math.Seq.{take-append_seam}
@@ -8,7 +8,7 @@ use Rattle.uca_plans.specs.declared.drafts.DraftWeight.{DraftWeight}
 use Rattle.uca_plans.specs.declared.drafts.DraftWeight.TheVariants.{Base, New}
 use Rattle.uca_plans.specs.Lists.{IsNamedBelow}
 use Rattle.uca_tailor.specs.inside.NumberTables.{AreTables}
-use Rattle.uca_tailor.proofs.numbers.RunLaws.{rest_from}
+use Rattle.uca_tailor.proofs.NumberLemmas.RunLaws.{rest_from}
 
 -- what is written back over a whole list is what was written
 pub as_far : {A : Type 0} (xs rest : List A) (n : ℕ) → length xs ≡ n → take n (xs ++ rest) ≡ xs
@@ -46,7 +46,7 @@ new_first ms ns bs vs p n low are = record {
   new = λ q. grind (arith, common_steps, are.new q);
 }
 
--- the same from a position on
+-- from a position on, with the number of one more base weight
 pub base_more : (ms : List DraftWeight) (ns bs vs : List ℕ) (i next w : ℕ) (d : DraftWeight) → next ≡ i + 1 → i < length ms → length ns ≡ length ms
     → get_or ms i d ≡ Base w → w < 0x1_0000 → AreTables (drop next ms) (drop next ns) bs vs
     → AreTables (drop i ms) (drop i ns) (set bs w (get_or ns i 0)) vs

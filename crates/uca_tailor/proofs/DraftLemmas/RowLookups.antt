@@ -1,4 +1,4 @@
--- The row at a position.
+-- The elements of the row at a position of the draft rows.
 use Rattle.std.proofs.Common.{◌≡◌, ℕ, zero, suc, ◌<◌, ◌≤◌, List, [], ◌∷◌, length, get_or, refl, ap, sym, arith}
 use Rattle.uca_plans.specs.Drafts.{DraftRow}
 use Rattle.uca_tailor.specs.inside.MatchDrafts.{elements_at}

@@ -1,4 +1,4 @@
--- Runs that are made from the last member to the first.
+-- The runs of a level's map, made from the last member to the first: a weight continues the last run or begins a new one.
 use Rattle.std.proofs.Common.{◌≡◌, ℕ, suc, ◌+◌, ◌<◌, Bool, true, false, ◌&&◌, List, [], ◌∷◌, ◌++◌, length, get_or, take, drop, reverse, nat_eq, if◌then◌else◌, refl, sym, ap, ◌∙◌, arith, subst, drop-cons}
 use Rattle.std.proofs.Math.ListN.{set}
 use Rattle.std.proofs.Math.Seq.{set-append_seam}
@@ -21,7 +21,7 @@ grown_last front r from to goes =
     let s : Run = record { from = from; to = to; count = r.count + 1 } in
     ap reverse (set-append_seam front r [] s) ∙ (reverse-append front (s ∷ []) ∙ (rw (reverse-append front (r ∷ []), goes) refl))
 
--- the same at the position of the last
+-- the last of some runs, given its position, grows where it goes on from the weight
 pub grown : (runs : List Run) (i : ℕ) (r : Run) (from to : ℕ) → i + 1 ≡ length runs → r ≡ get_or runs i r
     → (nat_eq r.from (from + 1) && nat_eq r.to (to + 1)) ≡ true
     → reverse (set runs i (record { from = from; to = to; count = r.count + 1 })) ≡ run_before from to (reverse runs)

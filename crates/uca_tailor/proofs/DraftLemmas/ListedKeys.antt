@@ -1,4 +1,4 @@
--- The keys that have positions.
+-- The keys of a base and the targets of relations, each once: the list that gives keys their positions.
 use Rattle.std.proofs.Common.{◌≡◌, ℕ, ◌+◌, ◌<◌, ◌≤◌, List, [], ◌∷◌, ◌++◌, length, take, drop, get_or, true, false, is_some, Option, Result, Ok, Err, IfOk}
 use Rattle.std.proofs.Common.{Bor, refl, sym, ap, ap₂, subst, ◌∙◌, ⊎_elim, arith, length-append, append_assoc, append-nil, take-append-drop}
 use Rattle.std.proofs.lemmas.List.{take_more, take_all, length-map, map-append}
@@ -14,7 +14,7 @@ use Rattle.uca_plans.proofs.KeyPlaces.{with_key_is}
 use Rattle.uca_plans.proofs.SameReading.{among_kept, target_of_among, targets_append}
 use Rattle.uca_plans.proofs.PlanKeys.{AreApart, among_contained, apart_of_distinct, apart_with_key}
 use Rattle.uca_tailor.specs.inside.KeyRows.{AreListed}
-use Rattle.uca_tailor.proofs.drafts.MatchReadings.{placed_among}
+use Rattle.uca_tailor.proofs.DraftLemmas.MatchReadings.{placed_among}
 
 -- ---- Base keys and targets
 

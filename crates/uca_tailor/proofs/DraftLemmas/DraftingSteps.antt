@@ -1,4 +1,4 @@
--- Relation after relation.
+-- What each relation in turn adds to the drafts, or why it is rejected.
 use Rattle.std.proofs.Common.{◌≡◌, ℕ, ◌+◌, ◌<◌, ◌≤◌, List, [], ◌∷◌, ◌++◌, length, take, drop, map, get_or, set, true, false, ltb, Option, Some}
 use Rattle.std.proofs.Common.{None, Ok, Err, ◌⊎◌, inl, inr, refl, sym, ap, ap₂, ◌∙◌, ⊎_elim, arith, length-append, length-set}
 use Rattle.std.proofs.lemmas.Bool.{or_left, or_right, or_from, or_parts, lt-ltb, le-ltb, ltb-false, cond-true, cond-false, cases_lt}
@@ -27,8 +27,8 @@ use Rattle.uca_plans.proofs.PlanSteps.{target_row, step_of}
 use Rattle.uca_tailor.specs.inside.KeyRows.{IsRowOf}
 use Rattle.uca_tailor.specs.inside.Ready.{IsReady, IsRejected}
 use Rattle.uca_plans.proofs.PlanKeys.{keys_of_drafts}
-use Rattle.uca_tailor.proofs.drafts.ListedKeys.{targets_more, relations_more}
-use Rattle.uca_tailor.proofs.drafts.KeyLookups.{not_in_front, row_in_front, front_is}
+use Rattle.uca_tailor.proofs.DraftLemmas.ListedKeys.{targets_more, relations_more}
+use Rattle.uca_tailor.proofs.DraftLemmas.KeyLookups.{not_in_front, row_in_front, front_is}
 
 -- ---- One relation
 
