@@ -100,13 +100,9 @@ impl<'a, L: Lookup, T: Allocator, A: Allocator> TextComparer<'a, L, T, A> {
         ensures weighting { self.new.weighting ≡ self.old.weighting }
         ensures depth { self.new.depth ≡ self.old.depth }
     {
-        let found = self.plain.compare_texts(
-            &self.collator,
-            self.weighting,
-            self.depth,
-            left,
-            right,
-        );
+        let found = self
+            .plain
+            .compare_texts(&self.collator, self.weighting, self.depth, left, right);
         match found {
             Ok(Some(compared)) => Ok(compared),
             Ok(None) => compare_normals(
