@@ -56,19 +56,12 @@ module _ {M : Type 1} {𝓤 : Ura M} {𝓛 : Logic 𝓤} {K : Type 0} {Γ : List
 -- a value that stands for none, in a handle that owns nothing
 abbrev pub nobody : X E
 nobody = record {
-  writer = record {
-    lookup = record { keys = record { root = record { pages = []; numbers = [] }; nodes = [] }; rows = [] };
-    ranges = [];
-    data_file = record { classes = []; core = []; other = [] };
-    weighting = Shifted;
-    depth = Weights;
-    key = [];
-  };
-  left = record { points = []; classes = [] };
-  right = record { points = []; classes = [] };
+  lookup = record { keys = record { root = record { pages = []; numbers = [] }; nodes = [] }; rows = [] };
+  ranges = [];
+  data_file = record { classes = []; core = []; other = [] };
   weighting = Shifted;
   depth = Weights;
-  alike = (refl, refl);
+  key = [];
 }
 
 module _ {M : Type 1} {𝓤 : Ura M} {𝓛 : Logic 𝓤} {K : Type 0} {Γ : List (Item 𝓤)} {G : Goal 𝓤 𝓛.H} where

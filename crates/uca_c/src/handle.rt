@@ -1,7 +1,7 @@
 //! What C has: a collator in memory of its own, or nothing.
 
 ghost use Rattle.std.specs.Prelude.{◌≡◌, true, false};
-ghost use Rattle.uca_owned.specs.declared.owned.OwnedCollator.{OwnedCollator};
+ghost use Rattle.uca_owned.specs.Owned.{OwnedState};
 ghost use Rattle.uca_c.specs.inside.Handles.{handle_owns, collator_coded};
 
 use crate::parts::Parts;
@@ -18,7 +18,7 @@ pub struct Handle {
     ptr: *mut u8,
     alloc: Global,
     pub(crate) full: bool,
-    pub ghost kept: { OwnedCollator } by { collator_coded },
+    pub ghost kept: { OwnedState } by { collator_coded },
 }
 
 impl Model for Handle {

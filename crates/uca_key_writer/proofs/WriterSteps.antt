@@ -6,13 +6,12 @@ use Rattle.uca_weights.specs.declared.Depth.{Depth}
 use Rattle.uca_weights.specs.declared.Weighting.{Weighting}
 use Rattle.uca_values.specs.Content.{properties_of}
 use Rattle.uca_text.specs.Texts.{NfdText, nfd_text}
-use Rattle.uca_text.specs.Limits.{IsAccepted}
 use Rattle.uca_text.specs.Faults.{IsCause}
 use Rattle.uca_text.specs.declared.normalize.TextFault.{TextFault}
 use Rattle.uca_text.specs.declared.normalize.TextFault.TheVariants.{Memory}
 use Rattle.uca_elements.specs.Rows.{Rows}
 use Rattle.uca_elements.specs.Collations.{Collation}
-use Rattle.uca_order.specs.Depths.{read_text, key_at}
+use Rattle.uca_order.specs.Depths.{read_text, key_at, text_key}
 use Rattle.uca_key_writer.specs.Writers.{WriterState, collation_by}
 use Rattle.uca_plain.proofs.Results.{with_value, fault_is}
 
@@ -24,30 +23,12 @@ memory_is_cause s r is = fault_is (IsCause s) r Memory is tt
 abbrev pub key_by : {L : Type 0} → (L → Rows) → WriterState L → List ℕ → List ℕ
 key_by content w xs = key_at w.depth w.weighting (read_text (collation_by content w) (nfd_text (properties_of w.data_file) xs))
 
--- the beginning of a key, where it was written
-pub beginning_by : {L : Type 0} (content : L → Rows) (w v : WriterState L) (xs key : List ℕ) (accepted : Bool) → w ≡ v → accepted ≡ true
-    → OnTrue accepted (take 16 key ≡ take 16 (key_by content w xs)) → take 16 key ≡ take 16 (key_by content v xs)
-beginning_by content w v xs key accepted same flag wrote =
-    subst (λ (s : WriterState _). take 16 key ≡ take 16 (key_by content s xs)) same
-    (subst (λ flag. OnTrue flag (take 16 key ≡ take 16 (key_by content w xs))) flag wrote)
-
 -- a whole key begins as it should
-pub beginning_of_whole : {L T E : Type 0} (content : L → Rows) (w v : WriterState L) (depth : Depth) (weighting : Weighting) (xs key : List ℕ) (r : Result T E)
-    → w ≡ v → depth ≡ w.depth → weighting ≡ w.weighting
-    → OnOk r (key ≡ key_at depth weighting (read_text (collation_by content w) (nfd_text (properties_of w.data_file) xs)))
-    → OnOk r (take 16 key ≡ take 16 (key_by content v xs))
-beginning_of_whole content w v depth weighting xs key r same at under =
-    let read = read_text (collation_by content w) (nfd_text (properties_of w.data_file) xs) in
-    with_value r (key ≡ key_at depth weighting read) (take 16 key ≡ take 16 (key_by content v xs))
-    (λ whole. ap (take 16)
-    (whole ∙ (ap (λ d. key_at d weighting read) at ∙ (ap (λ x. key_at w.depth x read) under ∙ ap (λ (s : WriterState _). key_by content s xs) same))))
-
--- the limits that a text keeps, and why one is rejected
-pub accepted_by : {L : Type 0} (w v : WriterState L) (xs : List ℕ) (accepted : Bool) → w ≡ v → accepted ≡ true
-    → OnTrue accepted (IsAccepted (nfd_text (properties_of w.data_file) xs)) → IsAccepted (nfd_text (properties_of v.data_file) xs)
-accepted_by w v xs accepted same flag keeps =
-    subst (λ (s : WriterState _). IsAccepted (nfd_text (properties_of s.data_file) xs)) same
-    (subst (λ flag. OnTrue flag (IsAccepted (nfd_text (properties_of w.data_file) xs))) flag keeps)
+pub beginning_of_whole : {T E : Type 0} (c : Collation) (at depth : Depth) (under weighting : Weighting) (xs key : List ℕ) (r : Result T E)
+    → at ≡ depth → under ≡ weighting → OnOk r (key ≡ text_key c at under xs) → OnOk r (take 16 key ≡ take 16 (text_key c depth weighting xs))
+beginning_of_whole c at depth under weighting xs key r same_depth same_weighting =
+    with_value r (key ≡ text_key c at under xs) (take 16 key ≡ take 16 (text_key c depth weighting xs))
+    (λ whole. ap (take 16) (whole ∙ (λ i. text_key c (same_depth i) (same_weighting i) xs)))
 
 -- ---- A key by pieces, or of a text that was normalized
 

@@ -136,7 +136,7 @@ impl<A: Allocator> KeyBuffer<A> {
     ///
     /// Those of [`normal`](uca_text::normal), and `Memory` also if an allocation for the key failed. The bytes are then
     /// unspecified until the next successful write.
-    pub fn write_as_is<L: Lookup, T: Allocator>(
+    pub(crate) fn write_as_is<L: Lookup, T: Allocator>(
         &mut self,
         collator: &Collator<L, T>,
         points: &mut PointCache<A>,

@@ -9,13 +9,11 @@ ghost use Rattle.uca_order.specs.Depths.{read_text, key_at};
 ghost use Rattle.uca_order.specs.Lengths.{HasShortRows};
 ghost use Rattle.uca_key_writer.specs.Writers.{collation_by};
 
-use crate::KeyBuffer;
-use crate::pieces::Piece;
+use crate::KeyMemory;
 use std::alloc::{Allocator, Global};
 use std::marker::Model;
 use uca_elements::{Collator, Lookup};
-use uca_plain::plain::PointCache;
-use uca_text::{Normal, TextFault};
+use uca_text::TextFault;
 use uca_weights::{Depth, Weighting};
 
 /// Writes the sort keys of texts (UTS #10, section 7.3), one after another, by one collator, under one weighting and
@@ -23,12 +21,7 @@ use uca_weights::{Depth, Weighting};
 #[derive(Drop)]
 pub struct KeyWriter<'a, L: Lookup, T: Allocator = Global, A: Allocator = Global> {
     collator: Collator<'a, L, T>,
-    buffer: KeyBuffer<A>,
-    // what is known of the code points of the texts so far
-    points: PointCache<A>,
-    piece: Piece,
-    // the text of a key that is not written piece by piece
-    text: Normal,
+    memory: KeyMemory<A>,
 }
 
 impl<'a, L: Lookup, T: Allocator, A: Allocator> Model for KeyWriter<'a, L, T, A> {
@@ -42,12 +35,12 @@ impl<'a, L: Lookup, T: Allocator, A: Allocator> Model for KeyWriter<'a, L, T, A>
       lookup = w.collator.lookup.now;
       ranges = w.collator.header.now.ranges;
       data_file = w.collator.data.now;
-      weighting = w.buffer.weighting;
-      depth = w.buffer.depth;
-      key = w.buffer.key;
+      weighting = w.memory.buffer.weighting;
+      depth = w.memory.buffer.depth;
+      key = w.memory.buffer.key;
     } };
 
-    ghost invariant = { λ w. AreTrueEntries (collation_of L.content w.collator) w.points.entries.items };
+    ghost invariant = { λ w. AreTrueEntries (collation_of L.content w.collator) w.memory.points.entries.items };
 }
 
 impl<'a, L: Lookup, T: Allocator, A: Allocator + Copy> KeyWriter<'a, L, T, A> {
@@ -66,10 +59,7 @@ impl<'a, L: Lookup, T: Allocator, A: Allocator + Copy> KeyWriter<'a, L, T, A> {
     {
         KeyWriter {
             collator,
-            buffer: KeyBuffer::new(alloc, weighting, depth),
-            points: PointCache::new(alloc, global),
-            piece: Piece::new(global),
-            text: Normal::new(global),
+            memory: KeyMemory::new(alloc, global, weighting, depth),
         }
     }
 }
@@ -92,13 +82,7 @@ impl<'a, L: Lookup, T: Allocator, A: Allocator> KeyWriter<'a, L, T, A> {
         ensures weighting { self.new.weighting ≡ self.old.weighting }
         ensures depth { self.new.depth ≡ self.old.depth }
     {
-        self.buffer.write_as_is(
-            &self.collator,
-            &mut self.points,
-            &mut self.piece,
-            &mut self.text,
-            text,
-        )
+        self.memory.write(&self.collator, text)
     }
 
     /// Writes at least the first sixteen bytes of the key of a text, over the key that was there. A shorter key is written
@@ -118,19 +102,13 @@ impl<'a, L: Lookup, T: Allocator, A: Allocator> KeyWriter<'a, L, T, A> {
         ensures weighting { self.new.weighting ≡ self.old.weighting }
         ensures depth { self.new.depth ≡ self.old.depth }
     {
-        let accepted = self
-            .buffer
-            .write_beginning(&self.collator, &mut self.points, &mut self.piece, text)?;
-        if accepted {
-            return Ok(());
-        }
-        self.write(text)
+        self.memory.write_beginning(&self.collator, text)
     }
 
-    /// The key that was written last, as [`KeyBuffer::bytes`] describes it.
+    /// The key that was written last, as [`KeyBuffer::bytes`](crate::KeyBuffer::bytes) describes it.
     pub fn bytes(&self) -> &[u8]
         ensures { result.now ≡ self.now.key }
     {
-        self.buffer.bytes()
+        self.memory.bytes()
     }
 }

@@ -14,7 +14,9 @@
 //! LevelBuffers: the weights of each level, as bytes ──> the key: levels 1, 2, 3 (and 4), with two bytes 0 between them
 //! ```
 //!
-//! - `key_writer.rt`: `KeyWriter`, the door. It has all memory, and uses it for one text after another.
+//! - `key_writer.rt`: `KeyWriter`, the door. It has a collator, and the memory of `key_memory.rt`.
+//! - `key_memory.rt`: `KeyMemory` has all memory for keys, and uses it for one text after another. A value that owns what it reads
+//!   texts by has such a memory too, and lends it a collator at each call.
 //! - `key_buffer.rt`: `KeyBuffer` has the loop over a text that is not normalized yet, and the way of all other texts: a `Normal`,
 //!   whose elements are looked up one by one. That way is for texts of more than 524,288 bytes, for texts that the pieces do not
 //!   accept, and for the depth `Identical`.
@@ -31,13 +33,15 @@
 
 mod beginnings;
 pub mod key_buffer;
+mod key_memory;
 pub mod key_writer;
 pub mod keys;
 mod level_buffers;
-pub mod pieces;
+mod pieces;
 mod slots;
 mod stretches;
 
 pub use key_buffer::KeyBuffer;
+pub use key_memory::KeyMemory;
 pub use key_writer::KeyWriter;
 pub use keys::{key, key_of};

@@ -3,3 +3,4 @@ pub mod CharMaps
 pub mod Tries
 pub mod NumberedKeys
 pub mod TextMatches
+pub mod OwnedCollations

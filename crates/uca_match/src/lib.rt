@@ -7,11 +7,13 @@
 
 mod char_map;
 mod key_map;
+mod owned_collation;
 mod row_list;
 mod text_matches;
 mod trie;
 
 pub use key_map::{KeyMap, TrieNode};
+pub use owned_collation::OwnedCollation;
 pub use row_list::{RowList, RowNode};
 pub use text_matches::Matches;
 pub use trie::{Trie, key_list};

@@ -2,3 +2,4 @@ pub mod Causes
 pub mod Opening
 pub mod Orders
 pub mod Owned
+pub mod inside

@@ -1,37 +1,15 @@
 //! Keys and comparisons of texts that are given as bytes.
 
-ghost use Rattle.std.specs.Prelude.{◌≡◌, chars, IfOk, IfErr, OnOk};
-ghost use Rattle.uca_values.specs.Content.{properties_of};
-ghost use Rattle.uca_text.specs.Texts.{nfd_text};
-ghost use Rattle.uca_order.specs.Depths.{read_text, compared_at};
+ghost use Rattle.std.specs.Prelude.{◌≡◌, IfOk, IfErr, OnOk};
 ghost use Rattle.uca_order.specs.Keyings.{key_of_bytes, bytes_compared};
 ghost use Rattle.uca_owned.specs.Owned.{keying_in, key_in};
 ghost use Rattle.uca_owned.specs.Causes.{IsAcceptedText, IsKeyCause, IsCompareCause};
 
+use crate::OwnedCollator;
+use crate::comparing::{compare_normalized, compare_plain};
 use crate::faults::{CompareFault, KeyFault};
-use crate::{OwnedCollator, OwnedKeyWriter};
 use std::cmp::Ordering;
-use uca_comparison::compare;
-use uca_text::Normal;
-
-// Takes the text of these bytes in place of the one that was there.
-pub(crate) fn renew(
-    normal: &mut Normal,
-    bytes: &[u8],
-    writer: &OwnedKeyWriter,
-) -> Result<(), KeyFault>
-    ensures found { OnOk result (normal.new ≡ nfd_text (properties_of writer.now.data_file) (chars bytes.now)) }
-    ensures accepted { OnOk result (IsAcceptedText (properties_of writer.now.data_file) bytes.now) }
-    ensures fault { IfErr result (IsKeyCause (properties_of writer.now.data_file) bytes.now) }
-{
-    let Ok(text) = str::from_utf8(bytes) else {
-        return Err(KeyFault::Utf8);
-    };
-    match normal.renew(text, writer.collator().data) {
-        Ok(()) => Ok(()),
-        Err(fault) => Err(KeyFault::Text(fault)),
-    }
-}
+use uca_text::TextFault;
 
 impl OwnedCollator {
     /// Makes the sort key of a text (UTS #10, section 7.3), over the key that was there. [`key`](OwnedCollator::key)
@@ -50,7 +28,8 @@ impl OwnedCollator {
         let Ok(text) = str::from_utf8(text) else {
             return Err(KeyFault::Utf8);
         };
-        match self.writer.write(text) {
+        let collator = self.collation.collator();
+        match self.keys.write(&collator, text) {
             Ok(()) => Ok(()),
             Err(fault) => Err(KeyFault::Text(fault)),
         }
@@ -60,7 +39,7 @@ impl OwnedCollator {
     pub fn key(&self) -> &[u8]
         ensures { result.now ≡ key_in self.now }
     {
-        self.writer.bytes()
+        self.keys.bytes()
     }
 
     /// How two texts compare (UTS #10, section 1.1), without keys: their order, and the first level at which they
@@ -79,29 +58,26 @@ impl OwnedCollator {
         ensures keying { keying_in self.new ≡ keying_in self.old }
         ensures key { key_in self.new ≡ key_in self.old }
     {
-        if let Err(fault) = renew(&mut self.left, left, &self.writer) {
-            return Err(CompareFault::Left(fault));
-        }
-        if let Err(fault) = renew(&mut self.right, right, &self.writer) {
-            return Err(CompareFault::Right(fault));
-        }
-        Ok(self.compared())
-    }
-
-    // How the two texts that it has compare.
-    pub(crate) fn compared(&self) -> (Ordering, u8)
-        ensures { let keying = keying_in self.now in
-            let answer = compared_at keying.depth keying.weighting (read_text keying.collation self.now.left) (read_text keying.collation self.now.right) in
-            (result.0 ≡ answer.order) × (result.1 ≡ answer.level) }
-    {
-        let collator = self.writer.collator();
-        let compared = compare(
-            &collator,
+        let found = compare_plain(
+            &self.collation,
+            &mut self.plain,
             self.weighting,
             self.depth,
-            &self.left,
-            &self.right,
+            left,
+            right,
         );
-        (compared.order, compared.level)
+        match found {
+            Ok(Some(pair)) => Ok(pair),
+            Ok(None) => compare_normalized(
+                &self.collation,
+                self.weighting,
+                self.depth,
+                &mut self.left,
+                &mut self.right,
+                left,
+                right,
+            ),
+            Err(_) => Err(CompareFault::Left(KeyFault::Text(TextFault::Memory))),
+        }
     }
 }

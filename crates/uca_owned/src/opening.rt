@@ -7,12 +7,14 @@ ghost use Rattle.uca_order.specs.Keyings.{keying, keying_over, weighting_by};
 ghost use Rattle.uca_owned.specs.Owned.{keying_in};
 ghost use Rattle.uca_owned.specs.Opening.{MeanFiles, Opens, IsOpenCause, IsOpenStop};
 
+use crate::OwnedCollator;
 use crate::faults::OpenFault;
-use crate::{OwnedCollator, OwnedKeyWriter};
 use std::alloc::{AllocError, Global};
-use uca_match::Trie;
+use uca_key_writer::KeyMemory;
+use uca_match::{OwnedCollation, Trie};
 use uca_table::{read_data, read_packed_table};
 use uca_text::Normal;
+use uca_text_comparer::PlainComparison;
 use uca_values::{Data, Header, PackedTable, Table};
 use uca_weights::{Depth, Source, Weighting};
 
@@ -36,7 +38,13 @@ fn collator_of(
 {
     let weighting = chosen_weighting(asked, &header);
     OwnedCollator {
-        writer: OwnedKeyWriter::new(alloc, rows, header, properties, weighting, depth),
+        collation: OwnedCollation {
+            rows,
+            header,
+            properties,
+        },
+        keys: KeyMemory::new(alloc, alloc, weighting, depth),
+        plain: PlainComparison::new(alloc, alloc),
         left: Normal::new(alloc),
         right: Normal::new(alloc),
         weighting,

@@ -4,16 +4,21 @@ ghost use Rattle.std.specs.Prelude.{◌≡◌, chars, IfOk};
 ghost use Rattle.std.specs.Bool.{OnTrue, MatchBool};
 ghost use Rattle.uca_values.specs.Content.{properties_of};
 ghost use Rattle.uca_text.specs.Texts.{nfd_text};
+ghost use Rattle.uca_order.specs.Keyings.{keying_by};
+ghost use Rattle.uca_match.specs.OwnedCollations.{owned_collation};
 ghost use Rattle.uca_owned.specs.Owned.{keying_in, key_in};
 ghost use Rattle.uca_owned.specs.Causes.{IsAcceptedText, is_memory_fault};
 ghost use Rattle.uca_owned.specs.Orders.{IsOrder};
 
-use crate::calls::renew;
+use crate::OwnedCollator;
+use crate::comparing::{compare_plain, compare_texts, renew};
 use crate::faults::KeyFault;
-use crate::{OwnedCollator, OwnedKeyWriter};
 use std::alloc::AllocError;
 use std::cmp::Ordering;
+use uca_match::OwnedCollation;
 use uca_text::{Normal, TextFault};
+use uca_values::Data;
+use uca_weights::{Depth, Weighting};
 
 // Whether an allocation failed.
 fn is_memory(fault: KeyFault) -> bool
@@ -32,13 +37,13 @@ fn is_memory(fault: KeyFault) -> bool
 fn renew_if_accepted(
     normal: &mut Normal,
     bytes: &[u8],
-    writer: &OwnedKeyWriter,
+    properties: &Data,
 ) -> Result<bool, AllocError>
-    ensures found { IfOk result (λ accepted. OnTrue accepted (normal.new ≡ nfd_text (properties_of writer.now.data_file) (chars bytes.now))) }
-    ensures accepted { let properties = properties_of writer.now.data_file in
+    ensures found { IfOk result (λ accepted. OnTrue accepted (normal.new ≡ nfd_text (properties_of properties.now) (chars bytes.now))) }
+    ensures accepted { let properties = properties_of properties.now in
         IfOk result (λ accepted. MatchBool accepted (IsAcceptedText properties bytes.now) (¬ (IsAcceptedText properties bytes.now))) }
 {
-    match renew(normal, bytes, writer) {
+    match renew(normal, bytes, properties) {
         Ok(()) => Ok(true),
         Err(fault) => {
             if is_memory(fault) {
@@ -48,6 +53,32 @@ fn renew_if_accepted(
             }
         }
     }
+}
+
+// The order of two byte strings, whose texts are normalized first, each in the memory of one that was before.
+fn order_normalized(
+    collation: &OwnedCollation,
+    weighting: Weighting,
+    depth: Depth,
+    left_text: &mut Normal,
+    right_text: &mut Normal,
+    left: &[u8],
+    right: &[u8],
+) -> Result<Ordering, AllocError>
+    ensures { IfOk result (IsOrder (keying_by (owned_collation collation.now) weighting depth) left.now right.now) }
+{
+    let has_left = renew_if_accepted(left_text, left, &collation.properties)?;
+    let has_right = renew_if_accepted(right_text, right, &collation.properties)?;
+    if has_left {
+        if has_right {
+            return Ok(compare_texts(collation, weighting, depth, left_text, right_text).0);
+        }
+        return Ok(Ordering::Less);
+    }
+    if has_right {
+        return Ok(Ordering::Greater);
+    }
+    Ok(left.cmp(right))
 }
 
 impl OwnedCollator {
@@ -63,17 +94,26 @@ impl OwnedCollator {
         ensures keying { keying_in self.new ≡ keying_in self.old }
         ensures key { key_in self.new ≡ key_in self.old }
     {
-        let has_left = renew_if_accepted(&mut self.left, left, &self.writer)?;
-        let has_right = renew_if_accepted(&mut self.right, right, &self.writer)?;
-        if has_left {
-            if has_right {
-                return Ok(self.compared().0);
-            }
-            return Ok(Ordering::Less);
+        let found = compare_plain(
+            &self.collation,
+            &mut self.plain,
+            self.weighting,
+            self.depth,
+            left,
+            right,
+        );
+        match found {
+            Ok(Some(pair)) => Ok(pair.0),
+            Ok(None) => order_normalized(
+                &self.collation,
+                self.weighting,
+                self.depth,
+                &mut self.left,
+                &mut self.right,
+                left,
+                right,
+            ),
+            Err(error) => Err(error),
         }
-        if has_right {
-            return Ok(Ordering::Greater);
-        }
-        Ok(left.cmp(right))
     }
 }

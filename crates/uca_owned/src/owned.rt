@@ -1,21 +1,45 @@
 //! `OwnedCollator`: what a collator owns.
 
-ghost use Rattle.std.specs.Prelude.{◌≡◌};
-
-use crate::OwnedKeyWriter;
+use std::alloc::Global;
+use std::marker::Model;
+use uca_key_writer::KeyMemory;
+use uca_match::OwnedCollation;
 use uca_text::Normal;
+use uca_text_comparer::PlainComparison;
 use uca_weights::{Depth, Weighting};
 
 /// A collator that owns all that it needs: what texts are read by, one weighting and one depth, and memory for texts and
 /// for one key.
 #[derive(Drop)]
 pub struct OwnedCollator {
-    // what it reads texts by, and the key that was made last
-    pub(crate) writer: OwnedKeyWriter,
-    // memory for the texts of a comparison
+    // what it reads texts by
+    pub(crate) collation: OwnedCollation,
+    // the key that was made last, and memory for the next one
+    pub(crate) keys: KeyMemory,
+    // memory for comparing plain texts
+    pub(crate) plain: PlainComparison,
+    // memory for the texts of other comparisons
     pub(crate) left: Normal,
     pub(crate) right: Normal,
     pub(crate) weighting: Weighting,
     pub(crate) depth: Depth,
-    pub(crate) ghost alike: { (writer.weighting ≡ weighting) × (writer.depth ≡ depth) },
+}
+
+impl Model for OwnedCollator {
+    ghost use Rattle.uca_match.specs.OwnedCollations.{owned_collation};
+    ghost use Rattle.uca_owned.specs.Owned.{OwnedState};
+    ghost use Rattle.uca_owned.specs.inside.Kept.{IsKept};
+
+    ghost Value = { OwnedState };
+
+    ghost view = { λ c. record {
+      lookup = c.collation.rows;
+      ranges = c.collation.header.ranges;
+      data_file = c.collation.properties;
+      weighting = c.weighting;
+      depth = c.depth;
+      key = c.keys.buffer.key;
+    } };
+
+    ghost invariant = { λ c. IsKept (owned_collation c.collation) c.weighting c.depth c.keys c.plain };
 }

@@ -39,10 +39,6 @@ right_causes properties xs ys text r fault found keeps is cause =
 abbrev pub AreAccepted : Properties → List ℕ → List ℕ → Type 0
 AreAccepted properties xs ys = IsAccepted (nfd_text properties xs) × IsAccepted (nfd_text properties ys)
 
-pub both_accepted : {L : Type 0} (w v : ComparerState L) (xs ys : List ℕ) → w ≡ v → AreAccepted (properties_of w.data_file) xs ys
-    → AreAccepted (properties_of v.data_file) xs ys
-both_accepted w v xs ys same keep = subst (λ (s : ComparerState _). AreAccepted (properties_of s.data_file) xs ys) same keep
-
 pub normals_accepted : (properties : Properties) (xs ys : List ℕ) (s t : NfdText) → s ≡ nfd_text properties xs → t ≡ nfd_text properties ys
     → IsAccepted s → IsAccepted t → AreAccepted properties xs ys
 normals_accepted properties xs ys s t found also keeps too = (subst IsAccepted found keeps, subst IsAccepted also too)
@@ -62,16 +58,6 @@ ComparesBy content s xs ys = Compares (collation_by content s) s.depth s.weighti
 
 abbrev pub FetchesBy : {L : Type 0} → (L → Rows) → ComparerState L → List ℕ → List ℕ → ℕ → ℕ → Type 0
 FetchesBy content s xs ys = Fetches (collation_by content s) s.weighting (nfd_text (properties_of s.data_file) xs) (nfd_text (properties_of s.data_file) ys)
-
-pub compares_by : {L : Type 0} (content : L → Rows) (w v : ComparerState L) (xs ys : List ℕ) (order of_walk : Ordering) (level at_walk : ℕ) → w ≡ v
-    → order ≡ of_walk → level ≡ at_walk → ComparesBy content w xs ys of_walk at_walk → ComparesBy content v xs ys order level
-compares_by content w v xs ys order of_walk level at_walk same o l pair =
-    subst (λ (s : ComparerState _). ComparesBy content s xs ys order level) same (o ∙ pair.0, l ∙ pair.1)
-
-pub fetches_by : {L : Type 0} (content : L → Rows) (w v : ComparerState L) (xs ys : List ℕ) (left of_left right of_right : ℕ) → w ≡ v
-    → left ≡ of_left → right ≡ of_right → FetchesBy content w xs ys of_left of_right → FetchesBy content v xs ys left right
-fetches_by content w v xs ys left of_left right of_right same l r pair =
-    subst (λ (s : ComparerState _). FetchesBy content s xs ys left right) same (l ∙ pair.0, r ∙ pair.1)
 
 pub normals_compare : (c : Collation) (depth : Depth) (weighting : Weighting) (xs ys : List ℕ) (s t : NfdText) (order : Ordering) (level : ℕ)
     → s ≡ nfd_text c.properties xs → t ≡ nfd_text c.properties ys → Compares c depth weighting s t order level

@@ -15,10 +15,12 @@
 //! once.
 #![tactic(auto)]
 
+mod decided;
 mod itself;
 mod plain_comparison;
 mod primaries;
 mod shared;
 pub mod text_comparer;
 
+pub use plain_comparison::PlainComparison;
 pub use text_comparer::TextComparer;

@@ -1,20 +1,26 @@
 //! `PlainComparison`: compares texts of plain code points, which are not normalized.
 
-ghost use Rattle.std.specs.Prelude.{◌≡◌, ◌++◌, ℕ, List, chars, IfOk, IfSome};
+ghost use Rattle.std.specs.Prelude.{◌≡◌, ◌++◌, ◌-◌, ◌^◌, ℕ, List, chars, min, IfOk, IfSome};
 ghost use Rattle.std.specs.Bool.{OnTrue};
 ghost use Rattle.uca_weights.specs.declared.Element.{Element};
-ghost use Rattle.uca_elements.specs.Collations.{Collation, collation_of};
+ghost use Rattle.uca_text.specs.Texts.{nfd_text};
+ghost use Rattle.uca_text.specs.Limits.{IsAccepted};
+ghost use Rattle.uca_elements.specs.Collations.{Collation, collation_of, elements_of};
 ghost use Rattle.uca_order.specs.Levels;
+ghost use Rattle.uca_order.specs.Depths.{texts_compared};
+ghost use Rattle.uca_order.specs.Fetched.{fetched_left, fetched_right};
 ghost use Rattle.uca_comparison.specs.inside.Comparisons.{ComparesLevels};
 ghost use Rattle.uca_comparison.specs.Walks.{Stands, none_decided};
 ghost use Rattle.uca_plain.specs.Plain.{IsPlain, elements_alone};
 ghost use Rattle.uca_plain.specs.PointCache.{IsTrueEntry, AreTrueEntries};
 ghost use Rattle.uca_text_comparer.specs.inside.Shared.{IsRest, HasCount, HasElements, ComparesTexts, ComparesAccepted};
 
+use crate::decided::{compared_of, is_decided};
 use crate::primaries::compare_primaries;
 use crate::shared::{Rest, skip_shared};
 use std::alloc::{AllocError, Allocator, Global};
 use std::cmp::Ordering;
+use uca_comparison::comparison::Compared;
 use uca_comparison::element_stream::Listed;
 use uca_comparison::front::Front;
 use uca_comparison::stored::level_count;
@@ -23,19 +29,20 @@ use uca_elements::{Collator, Lookup};
 use uca_plain::plain::{KnownPoint, PointCache, SHORT_TEXT};
 use uca_weights::{Depth, Element, Weighting};
 
-/// Memory for comparing texts of plain code points.
+/// Memory for comparing texts of plain code points. All texts have to be read by one collation: what is known of code points is
+/// true of that one alone.
 #[derive(Drop)]
-pub(crate) struct PlainComparison<A: Allocator> {
-    // what is known of the code points of the texts so far
-    points: PointCache<A>,
+pub struct PlainComparison<A: Allocator = Global> {
+    /// What is known of the code points of the texts so far.
+    pub points: PointCache<A>,
     // elements of the two texts
     left: Vec<Element, A>,
     right: Vec<Element, A>,
 }
 
 impl<A: Allocator + Copy> PlainComparison<A> {
-    /// It takes no memory yet.
-    pub(crate) fn new(alloc: A, global: Global) -> PlainComparison<A>
+    /// Nothing is known yet, and no memory is taken.
+    pub fn new(alloc: A, global: Global) -> PlainComparison<A>
         ensures { (c : Collation) → AreTrueEntries c result.points.entries.items }
     {
         PlainComparison {
@@ -47,6 +54,43 @@ impl<A: Allocator + Copy> PlainComparison<A> {
 }
 
 impl<A: Allocator> PlainComparison<A> {
+    /// How two texts compare, as [`compare`](uca_comparison::comparison::compare) says of the same texts in Normalization Form D.
+    /// There is no result if a text has more than 524,288 bytes or a code point that is not plain, if one walk over both does not
+    /// decide, or if their code points have to.
+    ///
+    /// # Errors
+    ///
+    /// An allocation failed.
+    pub fn compare_texts<L: Lookup, T: Allocator>(
+        &mut self,
+        collator: &Collator<L, T>,
+        weighting: Weighting,
+        depth: Depth,
+        left: &str,
+        right: &str,
+    ) -> Result<Option<Compared>, AllocError>
+        requires { AreTrueEntries (collation_of L.content collator.now) self.old.points.entries.items }
+        ensures known { AreTrueEntries (collation_of L.content collator.now) self.new.points.entries.items }
+        ensures compared { let c = collation_of L.content collator.now in IfOk result (λ found. IfSome found (λ compared.
+            let answer = texts_compared c depth weighting (chars left.now) (chars right.now) in
+            (compared.order ≡ answer.order) × (compared.level ≡ answer.level))) }
+        ensures fetched { let c = collation_of L.content collator.now in IfOk result (λ found. IfSome found (λ compared.
+            let es = elements_of c (nfd_text c.properties (chars left.now)) in
+            let fs = elements_of c (nfd_text c.properties (chars right.now)) in
+            (compared.fetched_left ≡ min (2 ^ 64 - 1) (fetched_left weighting es fs))
+            × (compared.fetched_right ≡ min (2 ^ 64 - 1) (fetched_right weighting es fs)))) }
+        ensures accepted { let c = collation_of L.content collator.now in IfOk result (λ found. IfSome found (λ _.
+            IsAccepted (nfd_text c.properties (chars left.now)) × IsAccepted (nfd_text c.properties (chars right.now)))) }
+    {
+        let found = self.compare(collator, weighting, left, right)?;
+        if let Some(walked) = found
+            && is_decided(walked.order, depth, left, right)
+        {
+            return Ok(Some(compared_of(&walked)));
+        }
+        Ok(None)
+    }
+
     /// How two texts compare at all levels of the weighting. There is no result if a text has more than 524,288 bytes
     /// or a code point that is not plain, or if one walk over both does not decide.
     pub(crate) fn compare<L: Lookup, T: Allocator>(

@@ -1,23 +1,20 @@
 //! `TextComparer`: compares texts, pair after pair.
 
 ghost use Rattle.std.specs.Prelude.{◌≡◌, ◌⊎◌, ◌-◌, ◌^◌, chars, min, IfOk, OnOk, IfErr};
-ghost use Rattle.std.specs.Bool.{OnTrue};
 ghost use Rattle.uca_text.specs.Texts.{nfd_text};
 ghost use Rattle.uca_text.specs.Limits.{IsAccepted};
 ghost use Rattle.uca_text.specs.Faults.{IsCause};
 ghost use Rattle.uca_elements.specs.Collations.{collation_of, elements_of};
 ghost use Rattle.uca_order.specs.Depths.{read_text, compared_at};
 ghost use Rattle.uca_order.specs.Fetched.{fetched_left, fetched_right};
-ghost use Rattle.uca_comparison.specs.inside.Comparisons.{NothingElseDecides};
 ghost use Rattle.uca_text_comparer.specs.Comparers.{collation_by};
 
+use crate::decided::compared_of;
 use crate::itself::compare_itself;
 use crate::plain_comparison::PlainComparison;
 use std::alloc::{Allocator, Global};
-use std::cmp::Ordering;
 use std::marker::Model;
 use uca_comparison::comparison::{Compared, compare};
-use uca_comparison::walk::Walked;
 use uca_elements::{Collator, Lookup};
 use uca_text::{Normal, TextFault};
 use uca_weights::{Depth, Weighting};
@@ -105,11 +102,9 @@ impl<'a, L: Lookup, T: Allocator, A: Allocator> TextComparer<'a, L, T, A> {
     {
         let found = self
             .plain
-            .compare(&self.collator, self.weighting, left, right)?;
-        if let Some(walked) = found
-            && is_decided(walked.order, self.depth, left, right)
-        {
-            return Ok(compared_of(&walked));
+            .compare_texts(&self.collator, self.weighting, self.depth, left, right)?;
+        if let Some(compared) = found {
+            return Ok(compared);
         }
         compare_normals(
             &self.collator,
@@ -155,32 +150,4 @@ fn compare_normals<L: Lookup, T: Allocator>(
     }
     right_normal.renew(right, collator.data)?;
     Ok(compare(collator, weighting, depth, left_normal, right_normal))
-}
-
-// How two texts compare, after a walk over both.
-fn compared_of(walked: &Walked) -> Compared
-    ensures order { result.order ≡ walked.now.order }
-    ensures level { result.level ≡ walked.now.level }
-    ensures fetched_left { result.fetched_left ≡ walked.now.fetched_left }
-    ensures fetched_right { result.fetched_right ≡ walked.now.fetched_right }
-{
-    Compared {
-        order: walked.order,
-        level: walked.level,
-        fetched_left: walked.fetched_left,
-        fetched_right: walked.fetched_right,
-    }
-}
-
-// Whether nothing else decides after this order at the levels of the weights.
-fn is_decided(order: Ordering, depth: Depth, left: &str, right: &str) -> bool
-    ensures { OnTrue result (NothingElseDecides order depth left.now right.now) }
-{
-    match order {
-        Ordering::Less | Ordering::Greater => true,
-        Ordering::Equal => match depth {
-            Depth::Weights => true,
-            Depth::Identical => left == right,
-        },
-    }
 }

@@ -15,14 +15,14 @@ pub returns : goal.returns
 returns g c =
     let content = g.L.Lookup.content in
     let xs = chars c.args.text.now in
-    let key = c.write_as_is.new.self.key in
-    let r = c.write_as_is.result in
+    let key = c.write.new.self.buffer.key in
+    let r = c.write.result in
     record {
-      key = subst (λ (w : WriterState _). OnOk r (key ≡ key_by content w xs)) c.self.view_is c.write_as_is.ensures.key;
-      accepted = subst (λ (w : WriterState _). OnOk r (IsAccepted (nfd_text (properties_of w.data_file) xs))) c.self.view_is c.write_as_is.ensures.accepted;
-      fault = subst (λ (w : WriterState _). IfErr r (IsCause (nfd_text (properties_of w.data_file) xs))) c.self.view_is c.write_as_is.ensures.fault;
-      short = subst (λ (w : WriterState _). HasShortRows (content w.lookup) → OnOk r (length key < 2 ^ 40)) c.self.view_is c.write_as_is.ensures.short;
+      key = subst (λ (w : WriterState _). OnOk r (key ≡ key_by content w xs)) c.self.view_is c.write.ensures.key;
+      accepted = subst (λ (w : WriterState _). OnOk r (IsAccepted (nfd_text (properties_of w.data_file) xs))) c.self.view_is c.write.ensures.accepted;
+      fault = subst (λ (w : WriterState _). IfErr r (IsCause (nfd_text (properties_of w.data_file) xs))) c.self.view_is c.write.ensures.fault;
+      short = subst (λ (w : WriterState _). HasShortRows (content w.lookup) → OnOk r (length key < 2 ^ 40)) c.self.view_is c.write.ensures.short;
       collation = ap (collation_by content) c.self.view_is;
-      weighting = c.write_as_is.ensures.weighting ∙ ap (λ (w : WriterState _). w.weighting) c.self.view_is;
-      depth = c.write_as_is.ensures.depth ∙ ap (λ (w : WriterState _). w.depth) c.self.view_is;
+      weighting = c.write.ensures.weighting ∙ ap (λ (w : WriterState _). w.weighting) c.self.view_is;
+      depth = c.write.ensures.depth ∙ ap (λ (w : WriterState _). w.depth) c.self.view_is;
     }
