@@ -10,7 +10,7 @@ ghost use Rattle.uca_change_runs.specs.inside.ReadChanges.{change_of};
 ghost use Rattle.uca_change_runs.specs.AuditRun.{AuditsChanges, change_audit};
 
 use crate::files::{ChangeFiles, read_editions, read_listed};
-use std::alloc::{Allocator, Global};
+use std::alloc::Allocator;
 use std::io::{Read, Write};
 use uca_editions::{ChangeFault, ChangeInputs, audit_change, changes_of};
 use uca_run_parts::RunFault;
@@ -27,37 +27,7 @@ use uca_weights::{Sink, Source};
 ///
 /// `File` for the first file that is rejected, and `Memory` if an allocation failed in the audit: nothing was written.
 /// `Write` if the writer failed: the first `written` bytes of the verdict went out.
-pub fn run_audit_changes<A: Read, B: Read, C: Read, D: Read, E: Read, F: Read, W: Write>(
-    alloc: Global,
-    old: &mut Source<A>,
-    old_data: &mut Source<B>,
-    new: &mut Source<C>,
-    new_data: &mut Source<D>,
-    changes: &mut Source<E>,
-    certificate: &mut Source<F>,
-    out: &mut Sink<W>,
-) -> Result<bool, RunFault>
-    ensures { AuditsChanges (old.old ∷ old_data.old ∷ new.old ∷ new_data.old ∷ changes.old ∷ certificate.old ∷ [])
-        (old.new ∷ old_data.new ∷ new.new ∷ new_data.new ∷ changes.new ∷ certificate.new ∷ []) out.old out.new result }
-{
-    run_audit_changes_in(
-        alloc,
-        old,
-        old_data,
-        new,
-        new_data,
-        changes,
-        certificate,
-        out,
-    )
-}
-
-/// As [`run_audit_changes`], with memory of any allocator.
-///
-/// # Errors
-///
-/// Those of [`run_audit_changes`].
-pub fn run_audit_changes_in<
+pub fn run_audit_changes<
     M: Allocator + Copy,
     A: Read,
     B: Read,

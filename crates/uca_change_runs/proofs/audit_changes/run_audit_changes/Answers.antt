@@ -8,7 +8,7 @@ use Rattle.uca_run_parts.proofs.Verdicts.{audits}
 use Rattle.uca_change_runs.specs.AuditRun.{change_audit}
 use Rattle.uca_change_runs.specs.ChangeFiles.{editions_files, editions_roles}
 use Rattle.uca_change_runs.specs.inside.ReadChanges.{change_listed, editions_of, listed_files, listed_of, listed_roles}
-use Rattle.uca_change_runs.proofs.audit_changes.run_audit_changes_in.Goals as goal
+use Rattle.uca_change_runs.proofs.audit_changes.run_audit_changes.Goals as goal
 
 pub returns-in-Err : goal.returns-in-Err
 returns-in-Err g c =
