@@ -5,9 +5,9 @@ use std::io::{Read, Write};
 use test_kit_allocator::Refusing;
 use uca_certificates::write_certificate;
 use uca_change_files::write_changes;
-use uca_change_runs::{run_affected_by_changes_in, run_audit_changes_in, run_changes_in};
+use uca_change_runs::{run_affected_by_changes_in, run_audit_changes, run_changes};
 use uca_editions::FoundChanges;
-use uca_rekey::run_rekey_in;
+use uca_rekey::run_rekey;
 use uca_run_parts::RunFault;
 use uca_weights::Depth::Weights;
 use uca_weights::Weighting::NonIgnorable;
@@ -66,7 +66,7 @@ fn show<A: Allocator>(found: FoundChanges<A>, out: &mut Sink<Vec<u8>>) -> End {
 }
 
 fn changes(tried: &Refusing, out: &mut Sink<Vec<u8>>) -> End {
-    let found = run_changes_in(
+    let found = run_changes(
         tried,
         &mut file(0),
         &mut file(1),
@@ -80,7 +80,7 @@ fn changes(tried: &Refusing, out: &mut Sink<Vec<u8>>) -> End {
 }
 
 fn audit(tried: &Refusing, out: &mut Sink<Vec<u8>>) -> End {
-    let verdict = run_audit_changes_in(
+    let verdict = run_audit_changes(
         tried,
         &mut file(0),
         &mut file(1),
@@ -102,7 +102,7 @@ pub fn rekey<A: Allocator + Copy, I: Read, W: Write>(
     input: &mut Source<I>,
     out: &mut Sink<W>,
 ) -> End {
-    run_rekey_in(alloc, &mut file(5), input, out, NonIgnorable, Weights)
+    run_rekey(alloc, &mut file(5), input, out, NonIgnorable, Weights)
 }
 
 /// Makes a run over these files. Texts in Normalization Form D are in ample memory.

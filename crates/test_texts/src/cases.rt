@@ -3,17 +3,8 @@
 
 use std::alloc::{AllocError, Global};
 use std::test::Fail;
+use test_kit::{code_point, halves, same};
 use uca_weights::Weighting;
-
-/// The number of some hexadecimal digits.
-fn number(digits: &str) -> Result<u32, Fail> {
-    Ok(u32::from_str_radix(digits, 16)?)
-}
-
-/// The code point of some hexadecimal digits.
-pub fn code_point(digits: &str) -> Result<char, Fail> {
-    Ok(char::from_u32(number(digits)?).ok_or("a surrogate, or too great")?)
-}
 
 /// The text of some code points, each in hexadecimal digits.
 pub fn text_of(alloc: Global, points: &str) -> Result<String, Fail> {
@@ -26,7 +17,7 @@ pub fn text_of(alloc: Global, points: &str) -> Result<String, Fail> {
 
 /// Adds the bytes of a group in hexadecimal digits: four digits are two bytes, and two are one.
 fn push_group(bytes: &mut Vec<u8>, digits: &str) -> Result<(), Fail> {
-    let [_, _, high, low] = number(digits)?.to_be_bytes();
+    let [_, _, high, low] = u32::from_str_radix(digits, 16)?.to_be_bytes();
     let group = [high, low];
     let unused = if digits.len() == 4 { 0 } else { 1 };
     Ok(bytes.extend_from_slice(&group[unused..])?)
@@ -56,11 +47,6 @@ fn groups_of(alloc: Global, bytes: &[u8]) -> Result<String, AllocError> {
     Ok(groups)
 }
 
-/// The two parts of a case, around the first ` | `.
-pub fn halves(case: &str) -> Result<(&str, &str), Fail> {
-    Ok(case.split_once(" | ").ok_or("a case without its answer")?)
-}
-
 /// The code points of a case and the bytes of a key under the weighting. The case has the key under `NonIgnorable` first.
 pub fn points_and_key(weighting: Weighting, case: &str) -> Result<(&str, &str), Fail> {
     let (points, keys) = halves(case)?;
@@ -74,19 +60,6 @@ pub fn points_and_key(weighting: Weighting, case: &str) -> Result<(&str, &str), 
 /// A text in code points, and what is said of it with a space before each word.
 pub fn words_of_case(case: &str) -> Result<(&str, &str), Fail> {
     Ok(case.split_once(" |").ok_or("a case without its answer")?)
-}
-
-/// Fails with the case unless this holds.
-pub fn holds(is_so: bool, case: &str) -> Result<(), Fail> {
-    if is_so { Ok(()) } else { Err(Fail::new(case)) }
-}
-
-/// Fails unless the two are equal.
-pub fn same(found: &str, wanted: &str, case: &str) -> Result<(), Fail> {
-    if found == wanted {
-        return Ok(());
-    }
-    Err(Fail::new(format_args!("{found}\nand not {wanted}\nat {case}")))
 }
 
 /// Fails unless the bytes are those of the groups.

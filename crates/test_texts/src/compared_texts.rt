@@ -1,12 +1,13 @@
 //! How a `TextComparer` compares texts, pair after pair.
 
-use crate::cases::{halves, holds, same, text_of};
+use crate::cases::text_of;
 use crate::comparisons::{MORE, PLAINLY, SHIFTED};
-use crate::samples::{Check, DATA, TABLE, over_both};
+use crate::samples::{Check, over_both};
 use crate::stored_keys::answer;
 use crate::written_keys;
 use std::alloc::Global;
 use std::test::Fail;
+use test_kit::{DATA, TABLE, halves, holds, same};
 use uca_key::{Compared, TextComparer};
 use uca_match::{Collator, Lookup};
 use uca_text::TextFault;

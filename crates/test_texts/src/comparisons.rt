@@ -1,10 +1,10 @@
 //! How two texts compare: without keys, and as their keys do.
 
-use crate::cases::{halves, same};
-use crate::samples::{Check, DATA, TABLE, normal_of, over_both};
+use crate::samples::{Check, normal_of, over_both};
 use crate::stored_keys::{answer, check_order};
 use std::alloc::Global;
 use std::test::Fail;
+use test_kit::{DATA, TABLE, halves, same};
 use uca_key::{Compared, compare, key, level_count};
 use uca_match::{Collator, Lookup};
 use uca_text::Normal;

@@ -1,9 +1,10 @@
 //! What texts read as: the longest key, the marks that it takes, and implicit weights.
 
-use crate::cases::{holds, same, words_of_case};
+use crate::cases::words_of_case;
 use crate::samples::{CLASSES, Check, normal_of, over_both};
 use std::alloc::{AllocError, Global};
 use std::test::Fail;
+use test_kit::{holds, same};
 use uca_match::{Collator, Lookup};
 use uca_text::Normal;
 

@@ -1,10 +1,11 @@
 //! Maps of keys to their positions, and what texts are matched as by them.
 
-use crate::cases::{halves, holds, same, words_of_case};
+use crate::cases::words_of_case;
 use crate::lookups::points_of;
 use crate::samples::{CLASSES, data_of, normal_of, table_of};
 use std::alloc::{AllocError, Global};
 use std::test::Fail;
+use test_kit::{halves, holds, same};
 use uca_match::{KeyMap, Match, Matches, key_list};
 use uca_text::Normal;
 use uca_values::{Data, Table};

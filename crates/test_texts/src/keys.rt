@@ -1,9 +1,10 @@
 //! Keys that were worked out by hand: from elements on, and from texts on.
 
-use crate::cases::{halves, same_bytes};
-use crate::samples::{Check, DATA, TABLE, normal_of, over_both, table_of};
+use crate::cases::same_bytes;
+use crate::samples::{Check, normal_of, over_both, table_of};
 use std::alloc::{AllocError, Global};
 use std::test::Fail;
+use test_kit::{DATA, TABLE, halves};
 use uca_key::{KeyBuffer, key, key_of};
 use uca_match::{Collator, Lookup};
 use uca_text::Normal;

@@ -1,10 +1,10 @@
 //! What lookups say of code points, over tables of a few rows and over one of many. A list of rows, a trie and a trie of packed rows
 //! say the same.
 
-use crate::cases::{code_point, halves, holds, same};
 use crate::samples::{packed_table_of, table_of};
 use std::alloc::{AllocError, Global};
 use std::test::Fail;
+use test_kit::{code_point, halves, holds, same};
 use uca_match::{Lookup, RowList, Trie, row_of};
 use uca_values::Table;
 use uca_weights::Element;

@@ -1,9 +1,9 @@
 //! Rows that are kept in a few lists, one after another.
 
-use crate::cases::{halves, holds};
 use crate::lookups::points_of;
 use std::alloc::Global;
 use std::test::Fail;
+use test_kit::{halves, holds};
 use uca_values::PackedRows;
 use uca_weights::Element;
 

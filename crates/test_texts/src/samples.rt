@@ -1,4 +1,4 @@
-//! A table and data files, the values of files, and collators over them.
+//! A data file, the values of files, and collators over them.
 
 use crate::cases::text_of;
 use std::alloc::Global;
@@ -8,24 +8,6 @@ use uca_table::{read_data, read_packed_table, read_table};
 use uca_text::{Normal, normal};
 use uca_values::{Data, PackedTable, Table};
 use uca_weights::Source;
-
-/// Letters, accents and a variable space.
-pub const TABLE: &str = "@version 1\n\
-    @implicitweights 17000..18AFF; FB00\n\
-    0020 ; [*0209.0020.0002]\n\
-    0061 ; [.1C47.0020.0002]\n\
-    0041 ; [.1C47.0020.0008]\n\
-    0062 ; [.1C60.0020.0002]\n\
-    0300 ; [.0000.0025.0002]\n\
-    0301 ; [.0000.0024.0002]\n\
-    0323 ; [.0000.002C.0002]\n";
-
-/// Classes of accents, and two ranges of Han.
-pub const DATA: &str = "@data 1\n\
-    ccc 0300..0314 230\n\
-    ccc 0323..0323 220\n\
-    core 4E00..9FFF\n\
-    other 20000..20FFF\n";
 
 /// Marks above have the class 230, marks below 220. No code point is Han.
 pub const CLASSES: &str = "@data 1\n\

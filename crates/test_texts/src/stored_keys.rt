@@ -1,11 +1,12 @@
 //! Stored keys, which give an order and a level, also where the slices are no keys.
 
-use crate::cases::{bytes_of, halves, holds, same};
+use crate::cases::bytes_of;
 use crate::keys::elements_of;
 use std::alloc::{AllocError, Global};
 use std::cmp::Ordering;
 use std::cmp::Ordering::Greater;
 use std::test::Fail;
+use test_kit::{halves, holds, same};
 use uca_key::{compare_keys, key_of, level_count};
 use uca_weights::Depth::{Identical, Weights};
 use uca_weights::Weighting;

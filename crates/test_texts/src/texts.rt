@@ -1,9 +1,10 @@
 //! Texts: how they are spelled, within which limits, and what is said of one that is rejected.
 
-use crate::cases::{code_point, halves, holds, same, text_of};
+use crate::cases::text_of;
 use crate::samples::{CLASSES, data_of};
 use std::alloc::{AllocError, Global};
 use std::test::Fail;
+use test_kit::{code_point, halves, holds, same};
 use uca_text::{Normal, TextFault, canonically_equivalent_texts_are_normalized_alike, normal};
 use uca_values::Data;
 

@@ -1,9 +1,10 @@
 //! Keys that a `KeyWriter` writes, one after another.
 
-use crate::cases::{holds, points_and_key, same_bytes, text_of};
+use crate::cases::{points_and_key, same_bytes, text_of};
 use crate::samples::{Check, over_both};
 use std::alloc::Global;
 use std::test::Fail;
+use test_kit::holds;
 use uca_key::KeyWriter;
 use uca_match::{Collator, Lookup};
 use uca_text::TextFault;

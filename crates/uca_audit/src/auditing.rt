@@ -7,11 +7,10 @@
 
 ghost use Rattle.std.specs.Prelude.{◌≡◌, ◌⊎◌, IfErr, OnOk};
 ghost use Rattle.std.specs.List.{AllZip};
-ghost use Rattle.uca_values.specs.Content.{properties_of, IsHeader, IsTable};
-ghost use Rattle.uca_tailorings.specs.Images.{AreRisingMaps};
+ghost use Rattle.uca_values.specs.Content.{properties_of};
 ghost use Rattle.uca_tailorings.specs.Tailorings.{IsTailoring, IsAccepted};
 ghost use Rattle.uca_tailorings.specs.Meaning.{IsFaithful};
-ghost use Rattle.uca_tailorings.specs.Inputs.{maps_of, tailoring_of};
+ghost use Rattle.uca_tailorings.specs.Inputs.{tailoring_of};
 ghost use Rattle.uca_audit.specs.inside.Views.{tailoring_in, IsPlacement};
 ghost use Rattle.uca_audit.specs.Refusals.{IsFirstRefusal, IsMemory};
 ghost use Rattle.uca_audit.specs.inside.Chaining.{AreTargetsOf, FindsRowsOf, MeetsBelow, Passes};
@@ -30,11 +29,11 @@ use crate::targets::Targets;
 use crate::{AuditFault, Certificate};
 use std::alloc::Allocator;
 use uca_elements::{Collator, Lookup};
-use uca_images::Images;
+use uca_images::{Images, know_certificate, know_table};
 use uca_match::Trie;
 use uca_rules::Rules;
 use uca_tailorings::accepted_tailorings_are_faithful;
-use uca_values::{Data, Header, Table};
+use uca_values::{Data, Table};
 
 /// Audits a tailoring. It accepts exactly if the eleven conditions are met, and then promises what follows from them.
 ///
@@ -215,28 +214,4 @@ fn know<T: Allocator>(inputs: &Inputs<T>)
     know_table(inputs.tailored);
     know_certificate(inputs.certificate);
     let _ = inputs.rules.relations();
-}
-
-// What a table keeps.
-fn know_table<T: Allocator>(table: &Table<T>)
-    ensures { IsTable table.now }
-{
-    know_header(&table.header);
-    let _ = &table.rows;
-}
-
-// What a header keeps.
-fn know_header<T: Allocator>(header: &Header<T>)
-    ensures { IsHeader header.now }
-{
-    let _ = &header.ranges;
-}
-
-// What the maps of a certificate keep.
-fn know_certificate<T: Allocator>(certificate: &Certificate<T>)
-    ensures { AreRisingMaps (maps_of certificate.now) }
-{
-    let _ = certificate.primary.runs();
-    let _ = certificate.secondary.runs();
-    let _ = certificate.tertiary.runs();
 }

@@ -1,6 +1,5 @@
 pub mod EditionsRead
 pub mod ChangeVerdicts
-pub mod ChangeFilesRead
 pub mod MarkLaws
 pub mod SearchLaws
 pub mod AffectedTexts

@@ -1,21 +1,21 @@
 //! The run that audits a change.
 
 ghost use Rattle.std.specs.Prelude.{◌≡◌, ◌⊎◌, ◌||◌, ◌∷◌, [], IfErr, OnOk};
-ghost use Rattle.uca_changes.specs.Changes.{Change, IsAcceptedChange};
+ghost use Rattle.uca_changes.specs.Changes.{IsAcceptedChange};
 ghost use Rattle.uca_editions.specs.ChangeInputs.{MeansUnaffectedTextsStay};
 ghost use Rattle.uca_editions.specs.ChangeRefusals.{IsFirstRefusal};
 ghost use Rattle.uca_run_parts.specs.Runs.{ended_by_output};
-ghost use Rattle.uca_run_parts.specs.Verdicts.{WritesVerdict};
+ghost use Rattle.uca_run_parts.specs.Verdicts.{RunsAudit};
 ghost use Rattle.uca_change_runs.specs.inside.ReadChanges.{change_of};
-ghost use Rattle.uca_change_runs.specs.AuditRun.{AuditsChanges, IsVerdict, RunsAudit};
+ghost use Rattle.uca_change_runs.specs.AuditRun.{AuditsChanges, change_audit};
 
 use crate::files::{ChangeFiles, read_editions, read_listed};
-use std::alloc::{Allocator, Global};
+use std::alloc::Allocator;
 use std::io::{Read, Write};
 use uca_editions::{ChangeFault, ChangeInputs, audit_change, changes_of};
 use uca_run_parts::RunFault;
 use uca_run_parts::change_faults::change_verdict;
-use uca_run_parts::output::write_text;
+use uca_run_parts::output::end_verdict;
 use uca_weights::{Sink, Source};
 
 /// Audits a change: whether texts that it does not affect compare by the new table and data file as by the old ones. Their
@@ -27,37 +27,7 @@ use uca_weights::{Sink, Source};
 ///
 /// `File` for the first file that is rejected, and `Memory` if an allocation failed in the audit: nothing was written.
 /// `Write` if the writer failed: the first `written` bytes of the verdict went out.
-pub fn run_audit_changes<A: Read, B: Read, C: Read, D: Read, E: Read, F: Read, W: Write>(
-    alloc: Global,
-    old: &mut Source<A>,
-    old_data: &mut Source<B>,
-    new: &mut Source<C>,
-    new_data: &mut Source<D>,
-    changes: &mut Source<E>,
-    certificate: &mut Source<F>,
-    out: &mut Sink<W>,
-) -> Result<bool, RunFault>
-    ensures { AuditsChanges (old.old ∷ old_data.old ∷ new.old ∷ new_data.old ∷ changes.old ∷ certificate.old ∷ [])
-        (old.new ∷ old_data.new ∷ new.new ∷ new_data.new ∷ changes.new ∷ certificate.new ∷ []) out.old out.new result }
-{
-    run_audit_changes_in(
-        alloc,
-        old,
-        old_data,
-        new,
-        new_data,
-        changes,
-        certificate,
-        out,
-    )
-}
-
-/// As [`run_audit_changes`], with memory of any allocator.
-///
-/// # Errors
-///
-/// Those of [`run_audit_changes`].
-pub fn run_audit_changes_in<
+pub fn run_audit_changes<
     M: Allocator + Copy,
     A: Read,
     B: Read,
@@ -103,7 +73,7 @@ fn write_verdict<M: Allocator + Copy, W: Write>(
     files: &ChangeFiles<M>,
     out: &mut Sink<W>,
 ) -> Result<bool, RunFault>
-    ensures runs { RunsAudit out.old out.new result (change_of files.now) }
+    ensures runs { RunsAudit change_audit out.old out.new result (change_of files.now) }
     ensures failed { out.new.failed ≡ (out.old.failed || ended_by_output result) }
 {
     match audit_files(alloc, files) {
@@ -113,17 +83,6 @@ fn write_verdict<M: Allocator + Copy, W: Write>(
             let verdict = change_verdict(ChangeFault::NotMet(condition, place));
             end_verdict(false, verdict.text("\n").as_str().as_bytes(), out)
         }
-    }
-}
-
-// Writes the line of a verdict, and returns the verdict.
-fn end_verdict<W: Write>(verdict: bool, line: &[u8], out: &mut Sink<W>) -> Result<bool, RunFault>
-    ensures runs { (change : Change) → IsVerdict change verdict line.now → RunsAudit out.old out.new result change }
-    ensures failed { out.new.failed ≡ (out.old.failed || ended_by_output result) }
-{
-    match write_text(line, out) {
-        Ok(()) => Ok(verdict),
-        Err(fault) => Err(fault),
     }
 }
 

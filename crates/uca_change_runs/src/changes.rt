@@ -5,7 +5,7 @@ ghost use Rattle.uca_change_runs.specs.inside.ReadChanges.{editions_of};
 ghost use Rattle.uca_change_runs.specs.ChangesRun.{FindsChanges, RunsChanges};
 
 use crate::files::{EditionFiles, read_editions};
-use std::alloc::{Allocator, Global};
+use std::alloc::Allocator;
 use std::io::Read;
 use uca_editions::{Editions, FoundChanges, find_changes};
 use uca_run_parts::RunFault;
@@ -18,24 +18,7 @@ use uca_weights::Source;
 ///
 /// `File` for the first file that is rejected. `Changes` if a table is not well-formed, or if the tables say two weightings.
 /// `Memory` if an allocation failed after the files were read.
-pub fn run_changes<A: Read, B: Read, C: Read, D: Read>(
-    alloc: Global,
-    old: &mut Source<A>,
-    old_data: &mut Source<B>,
-    new: &mut Source<C>,
-    new_data: &mut Source<D>,
-) -> Result<FoundChanges, RunFault>
-    ensures { FindsChanges (old.old ∷ old_data.old ∷ new.old ∷ new_data.old ∷ []) (old.new ∷ old_data.new ∷ new.new ∷ new_data.new ∷ []) result }
-{
-    run_changes_in(alloc, old, old_data, new, new_data)
-}
-
-/// As [`run_changes`], with memory of any allocator.
-///
-/// # Errors
-///
-/// Those of [`run_changes`].
-pub fn run_changes_in<M: Allocator + Copy, A: Read, B: Read, C: Read, D: Read>(
+pub fn run_changes<M: Allocator + Copy, A: Read, B: Read, C: Read, D: Read>(
     alloc: M,
     old: &mut Source<A>,
     old_data: &mut Source<B>,

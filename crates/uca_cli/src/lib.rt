@@ -11,7 +11,7 @@ mod statuses;
 pub use command::run_command;
 pub use uca_change_runs::{
     affected_by_changes_are_the_others, run_affected_by_changes, run_affected_by_changes_in,
-    run_audit_changes, run_audit_changes_in, run_changes, run_changes_in,
+    run_audit_changes, run_changes,
 };
 pub use uca_fingerprint_runs::run_fingerprint;
 pub use uca_host::{MakeFault, OpenFault, Opens, STREAM_FAILED, report};
@@ -22,9 +22,7 @@ pub use uca_key_runs::{
     run_headed_lines_in, run_keyed_lines, run_keyed_lines_in, run_keys, run_keys_in, run_sort,
     run_sort_in, sort_lines, untouched_lines_keep_their_order,
 };
-pub use uca_rekey::{
-    lines_move_with_keys, run_headed_rekey, run_headed_rekey_in, run_rekey, run_rekey_in,
-};
+pub use uca_rekey::{lines_move_with_keys, run_headed_rekey, run_rekey};
 pub use uca_run_parts::{
     Affects, FileFault, InputKind, Role, RunFault, StoredKeyKind, print_affected, run_affected,
     run_affected_in, run_check,

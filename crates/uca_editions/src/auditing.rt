@@ -15,18 +15,15 @@
 //! has ended, and at no others.
 
 ghost use Rattle.std.specs.Prelude.{◌≡◌, ◌⊎◌, IfErr, OnOk};
-ghost use Rattle.uca_values.specs.Content.{IsHeader, IsTable};
-ghost use Rattle.uca_tailorings.specs.Images.{AreRisingMaps};
-ghost use Rattle.uca_tailorings.specs.Inputs.{maps_of};
-ghost use Rattle.uca_changes.specs.Changes.{IsChange, IsAcceptedChange};
+ghost use Rattle.uca_changes.specs.Changes.{IsAcceptedChange};
 ghost use Rattle.uca_editions.specs.ChangeInputs.{change_in, MeansUnaffectedTextsStay};
 ghost use Rattle.uca_editions.specs.ChangeRefusals.{IsFirstRefusal};
 
 use crate::conditions::audit_conditions;
-use crate::{Certificate, ChangeFault, ChangeInputs};
+use crate::{ChangeFault, ChangeInputs};
 use std::alloc::Allocator;
 use uca_changes::changes_keep_unaffected_texts;
-use uca_values::{Header, Table};
+use uca_images::{know_certificate, know_table};
 
 /// Audits a change. It accepts exactly if the nine conditions are met, and then promises what follows from them.
 ///
@@ -71,28 +68,4 @@ fn meaning<T: Allocator>(inputs: &ChangeInputs<T>)
     know_table(inputs.new);
     know_certificate(inputs.certificate);
     changes_keep_unaffected_texts();
-}
-
-/// What a table keeps, for a proof.
-pub(crate) fn know_table<T: Allocator>(table: &Table<T>)
-    ensures { IsTable table.now }
-{
-    know_header(&table.header);
-    let _ = &table.rows;
-}
-
-// What a header keeps.
-fn know_header<T: Allocator>(header: &Header<T>)
-    ensures { IsHeader header.now }
-{
-    let _ = &header.ranges;
-}
-
-// What the maps of a certificate keep.
-fn know_certificate<T: Allocator>(certificate: &Certificate<T>)
-    ensures { AreRisingMaps (maps_of certificate.now) }
-{
-    let _ = certificate.primary.runs();
-    let _ = certificate.secondary.runs();
-    let _ = certificate.tertiary.runs();
 }

@@ -7,7 +7,6 @@ ghost use Rattle.uca_values.specs.Content.{keys_of};
 ghost use Rattle.uca_editions.specs.inside.Everything.{ListsAll, ListsEverything, every_point};
 ghost use Rattle.uca_editions.specs.Found.{change_by};
 
-use crate::auditing::know_table;
 use crate::changed_ranges::{LAST_POINT, push_range};
 use crate::changed_texts::push_texts;
 use crate::levels::least_map;
@@ -15,6 +14,7 @@ use crate::{Editions, FoundChanges};
 use std::alloc::{AllocError, Allocator};
 use uca_certificates::Certificate;
 use uca_change_files::ChangeList;
+use uca_images::know_table;
 use uca_values::Row;
 use uca_weights::Level;
 

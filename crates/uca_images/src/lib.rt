@@ -6,11 +6,13 @@
 #![tactic(auto)]
 
 mod images;
+mod invariants;
 mod levels;
 mod mover;
 mod rows;
 
 pub use images::{Images, LevelImages};
+pub use invariants::{know_certificate, know_table};
 pub use mover::KeyMover;
 pub use rows::{are_images, first_changed, first_missing, first_uncovered, first_unknown};
 pub use uca_certificates::Certificate;

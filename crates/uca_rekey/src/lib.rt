@@ -16,4 +16,4 @@ pub mod rekey;
 mod written;
 
 pub use laws::lines_move_with_keys;
-pub use rekey::{run_headed_rekey, run_headed_rekey_in, run_rekey, run_rekey_in};
+pub use rekey::{run_headed_rekey, run_rekey};

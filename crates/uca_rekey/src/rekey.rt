@@ -12,7 +12,7 @@ ghost use Rattle.uca_rekey.specs.inside.RekeySoFar.{HasReadHeader, HasRekeyed, R
 
 use crate::lines::KeyLines;
 use crate::written::WrittenLines;
-use std::alloc::{Allocator, Global};
+use std::alloc::Allocator;
 use std::io::{Read, Write};
 use uca_certificates::Certificate;
 use uca_fingerprint::KeyHeader;
@@ -180,25 +180,7 @@ fn begin_by<A: Allocator + Copy>(
 ///   all lines up to it more than 2^63. `Read` comes if the source failed, and `Memory` if an allocation failed. The lines before it were
 ///   written with their new keys.
 /// - `Write`: the writer failed, also where a later line has an error. The first `written` bytes of the whole output went out.
-pub fn run_rekey<C: Read, I: Read, W: Write>(
-    alloc: Global,
-    certificate: &mut Source<C>,
-    input: &mut Source<I>,
-    out: &mut Sink<W>,
-    weighting: Weighting,
-    depth: Depth,
-) -> Result<(), RunFault>
-    ensures { RekeysLines weighting depth (certificate.old ∷ []) (certificate.new ∷ []) input.old input.new out.old out.new result }
-{
-    run_rekey_in(alloc, certificate, input, out, weighting, depth)
-}
-
-/// As [`run_rekey`], with the certificate, its maps and the lines in memory of any allocator.
-///
-/// # Errors
-///
-/// Those of [`run_rekey`].
-pub fn run_rekey_in<A: Allocator + Copy, C: Read, I: Read, W: Write>(
+pub fn run_rekey<A: Allocator + Copy, C: Read, I: Read, W: Write>(
     alloc: A,
     certificate: &mut Source<C>,
     input: &mut Source<I>,
@@ -226,27 +208,7 @@ pub fn run_rekey_in<A: Allocator + Copy, C: Read, I: Read, W: Write>(
 ///
 /// - `StoredKey` with line 1 and `Header`: the first line is another one, or there is no line. Nothing was written.
 /// - Those of [`run_rekey`]. The header is line 1, and it was written if an error is about a later line.
-pub fn run_headed_rekey<C: Read, I: Read, W: Write>(
-    alloc: Global,
-    certificate: &mut Source<C>,
-    input: &mut Source<I>,
-    out: &mut Sink<W>,
-    weighting: Weighting,
-    depth: Depth,
-    from: &[u8; 32],
-    to: &[u8; 32],
-) -> Result<(), RunFault>
-    ensures { RekeysHeaded weighting depth from.now to.now (certificate.old ∷ []) (certificate.new ∷ []) input.old input.new out.old out.new result }
-{
-    run_headed_rekey_in(alloc, certificate, input, out, weighting, depth, from, to)
-}
-
-/// As [`run_headed_rekey`], with the certificate, its maps and the lines in memory of any allocator.
-///
-/// # Errors
-///
-/// Those of [`run_headed_rekey`].
-pub fn run_headed_rekey_in<A: Allocator + Copy, C: Read, I: Read, W: Write>(
+pub fn run_headed_rekey<A: Allocator + Copy, C: Read, I: Read, W: Write>(
     alloc: A,
     certificate: &mut Source<C>,
     input: &mut Source<I>,

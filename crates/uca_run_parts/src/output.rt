@@ -10,6 +10,7 @@ ghost use Rattle.uca_run_parts.specs.EachLine.{WritesEach, ended_before_input};
 ghost use Rattle.uca_run_parts.specs.EachLineSoFar.{WritesRest};
 ghost use Rattle.uca_run_parts.specs.Files.{ended_by_file};
 ghost use Rattle.uca_run_parts.specs.Runs.{ended_before_output, ended_by_output, is_input_read, FailsToWrite};
+ghost use Rattle.uca_run_parts.specs.Verdicts.{IsThis, WritesVerdict};
 
 use crate::faults::RunFault;
 use std::io::Write;
@@ -29,6 +30,27 @@ pub fn write_text<W: Write>(text: &[u8], out: &mut Sink<W>) -> Result<(), RunFau
     ensures failed { out.new.failed ≡ (out.old.failed || ended_by_output result) }
 {
     Ok(out.write_all(text)?)
+}
+
+/// Writes the line of a verdict, and returns the verdict.
+///
+/// # Errors
+///
+/// `Write` if the writer failed: the first `written` bytes of the line went out.
+pub fn end_verdict<W: Write>(
+    verdict: bool,
+    line: &[u8],
+    out: &mut Sink<W>,
+) -> Result<bool, RunFault>
+    ensures verdict { WritesVerdict (IsThis verdict line.now) out.old.contents out.new.contents result }
+    ensures of_output { ended_before_output result ≡ false }
+    ensures no_file { ended_by_file result ≡ false }
+    ensures failed { out.new.failed ≡ (out.old.failed || ended_by_output result) }
+{
+    match write_text(line, out) {
+        Ok(()) => Ok(verdict),
+        Err(fault) => Err(fault),
+    }
 }
 
 /// Writes a line and its LF.

@@ -1,17 +1,18 @@
 //! The run that audits a tailoring.
 
-ghost use Rattle.std.specs.Prelude.{◌≡◌, ◌∷◌, [], Err, MatchResult};
+ghost use Rattle.std.specs.Prelude.{◌≡◌, ◌∷◌, ◌||◌, [], Err, MatchResult};
 ghost use Rattle.uca_values.specs.Content.{properties_of};
-ghost use Rattle.uca_tailorings.specs.Tailorings.{Tailoring};
 ghost use Rattle.uca_tailorings.specs.Inputs.{tailoring_of};
-ghost use Rattle.uca_tailor_runs.specs.AuditRun.{AnswersAudit, Audits, IsVerdict};
+ghost use Rattle.uca_run_parts.specs.Runs.{ended_by_output};
+ghost use Rattle.uca_run_parts.specs.Verdicts.{RunsAudit};
+ghost use Rattle.uca_tailor_runs.specs.AuditRun.{Audits, tailoring_audit};
 
 use std::alloc::{Allocator, Global};
 use std::io::{Read, Write};
 use uca_audit::audit;
 use uca_run_parts::audit_files::{AuditFiles, read_audit_files};
 use uca_run_parts::faults::RunFault;
-use uca_run_parts::output::write_text;
+use uca_run_parts::output::end_verdict;
 use uca_weights::{Sink, Source};
 
 /// The number that an audit gives to an allocation that failed.
@@ -86,9 +87,11 @@ fn audit_read<A: Allocator + Copy, W: Write>(
     read: Result<AuditFiles<A>, RunFault>,
     out: &mut Sink<W>,
 ) -> Result<bool, RunFault>
-    ensures { MatchResult read
-        (λ files. AnswersAudit (tailoring_of files.base (properties_of files.properties) files.rules files.tailored files.certificate) out.old out.new result)
+    ensures runs { MatchResult read
+        (λ files. RunsAudit tailoring_audit out.old out.new result
+        (tailoring_of files.base (properties_of files.properties) files.rules files.tailored files.certificate))
         (λ fault. (result ≡ Err fault) × (out.new ≡ out.old)) }
+    ensures failed { MatchResult read (λ files. out.new.failed ≡ (out.old.failed || ended_by_output result)) (λ fault. out.new ≡ out.old) }
 {
     match read {
         Ok(files) => {
@@ -107,8 +110,9 @@ fn write_verdict<A: Allocator + Copy, W: Write>(
     files: &AuditFiles<A>,
     out: &mut Sink<W>,
 ) -> Result<bool, RunFault>
-    ensures { AnswersAudit (tailoring_of files.now.base (properties_of files.now.properties) files.now.rules files.now.tailored files.now.certificate)
-        out.old out.new result }
+    ensures runs { RunsAudit tailoring_audit out.old out.new result
+        (tailoring_of files.now.base (properties_of files.now.properties) files.now.rules files.now.tailored files.now.certificate) }
+    ensures failed { out.new.failed ≡ (out.old.failed || ended_by_output result) }
 {
     let verdict = audit(
         alloc,
@@ -125,12 +129,4 @@ fn write_verdict<A: Allocator + Copy, W: Write>(
         return Err(RunFault::Memory);
     }
     end_verdict(false, fault.message().text("\n").as_str().as_bytes(), out)
-}
-
-// Writes the line of a verdict, and returns the verdict.
-fn end_verdict<W: Write>(verdict: bool, line: &[u8], out: &mut Sink<W>) -> Result<bool, RunFault>
-    ensures { (tailoring : Tailoring) → IsVerdict tailoring verdict line.now → AnswersAudit tailoring out.old out.new result }
-{
-    write_text(line, out)?;
-    Ok(verdict)
 }

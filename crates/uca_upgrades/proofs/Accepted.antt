@@ -14,11 +14,12 @@ use Rattle.uca_changes.specs.Changes.{Change, IsChange, IsAcceptedChange, old_re
 use Rattle.uca_changes.specs.Laws.{ChangesKeepUnaffectedTexts, TailoringsAreChanges, UnaffectedTextsStay, change_of}
 use Rattle.uca_run_parts.specs.AffectedRun.{if_so, is_affected, occurs_in_order}
 use Rattle.uca_run_parts.specs.Files.{audit_files}
+use Rattle.uca_run_parts.specs.Verdicts.{RunsAudit}
 use Rattle.uca_change_runs.specs.AffectedRun.{is_affected_by, listed_in}
-use Rattle.uca_change_runs.specs.AuditRun as changes
+use Rattle.uca_change_runs.specs.AuditRun.{change_audit}
 use Rattle.uca_change_runs.specs.ChangeFiles.{change_files}
 use Rattle.uca_change_runs.proofs.AffectedTexts.{affected_are_the_others}
-use Rattle.uca_tailor_runs.specs.AuditRun as tailorings
+use Rattle.uca_tailor_runs.specs.AuditRun.{tailoring_audit}
 use Rattle.uca_upgrades.specs.Upgrades.{Upgrade, IsUnaffectedLine, change_upgrade, tailoring_upgrade}
 use Rattle.uca_upgrades.specs.Laws.{AcceptedChangesKeepOrder, AuditedChangesKeepOrder, AcceptedTailoringsKeepOrder, AuditedTailoringsKeepOrder, MeanOnly, sources_of}
 use Rattle.uca_upgrades.proofs.KeptLines.{keeps_order, line_scalars}
@@ -71,7 +72,7 @@ changes_keep law old old_data new new_data changes certificate change means acce
 pub audited_changes_keep : AcceptedChangesKeepOrder → AuditedChangesKeepOrder
 audited_changes_keep law old old_data new new_data list certificate news out out_new audit =
     let files = old ∷ old_data ∷ new ∷ new_data ∷ list ∷ certificate ∷ [] in
-    let found = over_means change_files files news (changes.RunsAudit out out_new (Ok true)) true audit.runs in
+    let found = over_means change_files files news (RunsAudit change_audit out out_new (Ok true)) true audit.runs in
     let accepted : IsAcceptedChange found.0 = found.2.1.0 in
     let only : MeanOnly change_files (sources_of files) found.0 =
     (found.1, λ other means. mean_one change_files changes_mean_one files other found.0 means found.1) in
@@ -105,7 +106,7 @@ tailorings_keep law are base properties rules tailored certificate tailoring mea
 pub audited_tailorings_keep : AcceptedTailoringsKeepOrder → AuditedTailoringsKeepOrder
 audited_tailorings_keep law base properties rules tailored certificate news out out_new audit =
     let files = base ∷ properties ∷ rules ∷ tailored ∷ certificate ∷ [] in
-    let found = over_means audit_files files news (tailorings.RunsAudit out out_new (Ok true)) true audit.runs in
+    let found = over_means audit_files files news (RunsAudit tailoring_audit out out_new (Ok true)) true audit.runs in
     let accepted : IsAccepted found.0 = found.2.1.0 in
     let only : MeanOnly audit_files (sources_of files) found.0 =
     (found.1, λ other means. mean_one audit_files tailorings_mean_one files other found.0 means found.1) in

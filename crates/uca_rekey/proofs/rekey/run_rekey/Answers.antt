@@ -9,7 +9,7 @@ use Rattle.uca_run_parts.proofs.WholeRuns.{ended_before, ended_by_lines}
 use Rattle.uca_rekey.specs.RekeyRun.{RunsRekey}
 use Rattle.uca_rekey.specs.inside.RekeySoFar.{HasRekeyed, IsBegun, RekeysRest, moved_by, mover_of}
 use Rattle.uca_rekey.proofs.Rekeying.{begun_so, by_same, runs_rekey, writes_rekeyed}
-use Rattle.uca_rekey.proofs.rekey.run_rekey_in.Goals as goal
+use Rattle.uca_rekey.proofs.rekey.run_rekey.Goals as goal
 
 pub returns-in-Ok : goal.returns-in-Ok
 returns-in-Ok g c =

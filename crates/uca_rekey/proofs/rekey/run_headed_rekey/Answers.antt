@@ -11,7 +11,7 @@ use Rattle.uca_rekey.specs.HeadedRun.{RunsHeaded, WritesHeaded}
 use Rattle.uca_rekey.specs.inside.RekeySoFar.{HasRekeyed, IsBegun, moved_by, mover_of}
 use Rattle.uca_rekey.proofs.Headers.{header_length, runs_headed}
 use Rattle.uca_rekey.proofs.Rekeying.{begun_so, by_same}
-use Rattle.uca_rekey.proofs.rekey.run_headed_rekey_in.Goals as goal
+use Rattle.uca_rekey.proofs.rekey.run_headed_rekey.Goals as goal
 
 pub returns-in-Ok : goal.returns-in-Ok
 returns-in-Ok g c =

@@ -2,7 +2,7 @@
 use Rattle.std.proofs.Common.{[], ◌∷◌, Ok, Err, refl}
 use Rattle.uca_change_runs.specs.inside.ReadChanges.{editions_of}
 use Rattle.uca_change_runs.proofs.EditionsRead.{finds_changes}
-use Rattle.uca_change_runs.proofs.changes.run_changes_in.Goals as goal
+use Rattle.uca_change_runs.proofs.changes.run_changes.Goals as goal
 
 pub returns-in-Ok : goal.returns-in-Ok
 returns-in-Ok g c =
