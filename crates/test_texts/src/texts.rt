@@ -1,11 +1,14 @@
 //! Texts: how they are spelled, within which limits, and what is said of one that is rejected.
 
 use crate::cases::text_of;
+use crate::lookups::points_of;
 use crate::samples::{CLASSES, data_of};
 use std::alloc::{AllocError, Global};
 use std::test::Fail;
 use test_kit::{code_point, halves, holds, same};
-use uca_text::{Normal, TextFault, canonically_equivalent_texts_are_normalized_alike, normal};
+use uca_text::{
+    Normal, TextFault, canonically_equivalent_texts_are_normalized_alike, normal, occurs_in_order,
+};
 use uca_values::Data;
 
 /// The code points of a text, each with its class.
@@ -197,4 +200,32 @@ fn limits_lengths(rt: HostRuntime) -> Result<(), Fail> {
 fn prints_memory(rt: HostRuntime) -> Result<(), Fail> {
     let printed = format!(in rt.alloc(); "{}", TextFault::Memory)?;
     same(&printed, "Memory", "the text")
+}
+
+/// Parts, texts, and whether the part occurs in order in the text.
+const OCCURRING: &str = r"0061 0063 | 0061 0062 0063 | occurs
+0062 0061 | 0061 0062 0061 0062 | occurs
+0063 0061 | 0061 0062 0063 | does not
+0061 0061 | 0061 0062 | does not
+0061 |  | does not
+ |  | occurs";
+
+/// A part, a text, and whether the part occurs.
+fn check_occurring(alloc: Global, case: &str) -> Result<(), Fail> {
+    let (part, rest) = halves(case)?;
+    let (text, wanted) = halves(rest)?;
+    let found = if occurs_in_order(&points_of(alloc, part)?, &points_of(alloc, text)?) {
+        "occurs"
+    } else {
+        "does not"
+    };
+    same(found, wanted, case)
+}
+
+#[test]
+fn finds_parts_in_order(rt: HostRuntime) -> Result<(), Fail> {
+    for case in OCCURRING.lines() {
+        check_occurring(rt.alloc(), case)?;
+    }
+    Ok(())
 }

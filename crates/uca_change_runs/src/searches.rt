@@ -9,6 +9,7 @@ ghost use Rattle.uca_change_runs.specs.inside.Index.{first_of};
 
 use std::alloc::Allocator;
 use uca_change_files::{ChangedText, CodePointRange};
+use uca_text::occurs_in_order;
 
 /// Whether one of the ranges has the code point.
 pub(crate) fn is_held(ranges: &[CodePointRange], point: char) -> bool
@@ -78,20 +79,4 @@ pub(crate) fn first_point<A: Allocator>(text: &ChangedText<A>) -> char
     ensures { result ≡ first_of text.now }
 {
     text.points.first().copied().unwrap_or('\0')
-}
-
-// Whether the part's code points all occur in the text, in their order.
-fn occurs_in_order(part: &[char], text: &[char]) -> bool
-    ensures { IsTrue result ↔ OccursInOrder part.now text.now }
-{
-    let mut at = 0;
-    for c in text {
-        if at == part.len() {
-            return true;
-        }
-        if *c == part[at] {
-            at += 1;
-        }
-    }
-    at == part.len()
 }

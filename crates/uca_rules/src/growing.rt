@@ -9,9 +9,10 @@ ghost use Rattle.uca_rules.specs.Faults.{RelationCause};
 ghost use Rattle.uca_rules.specs.inside.Growing.{Admits, AreGrowing, Holds, HoldsOwn};
 
 use crate::faults::RuleFaultKind;
-use crate::relations::{Relation, Rules, is_target, occurs_in_order};
+use crate::relations::{Relation, Rules, is_target};
 use std::alloc::{AllocError, Allocator};
 use std::marker::Model;
+use uca_text::occurs_in_order;
 
 /// The relations that have been read.
 #[derive(Drop)]

@@ -1,12 +1,11 @@
 //! Relations, the rules that they make up, and which texts rules leave as they are.
 
 ghost use Rattle.std.specs.Prelude.{◌≡◌, ◌↔◌, ℕ, IsTrue, List};
-ghost use Rattle.uca_text.specs.Occurring.{OccursInOrder};
 ghost use Rattle.uca_rules.specs.Relations.{AreRules, IsTarget, IsUntouched};
 
 use std::alloc::{Allocator, Global};
 use std::marker::Model;
-use uca_text::Normal;
+use uca_text::{Normal, occurs_in_order};
 use uca_weights::Strength;
 
 /// A relation between two texts (UTS #35 Part 5, section 3.3): the target comes after the anchor, or before it, and
@@ -61,22 +60,6 @@ impl<A: Allocator> Rules<A> {
     {
         leave_untouched(&self.relations, text.chars())
     }
-}
-
-/// Whether the part's code points all occur in the text, in their order.
-pub(crate) fn occurs_in_order(part: &[char], text: &[char]) -> bool
-    ensures { IsTrue result ↔ OccursInOrder part.now text.now }
-{
-    let mut at = 0;
-    for c in text {
-        if at == part.len() {
-            return true;
-        }
-        if *c == part[at] {
-            at += 1;
-        }
-    }
-    at == part.len()
 }
 
 /// Whether no target occurs in order in the text.

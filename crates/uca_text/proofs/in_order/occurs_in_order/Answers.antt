@@ -1,9 +1,9 @@
 use Rattle.std.proofs.Common.{◌≡◌, ◌+◌, ◌<◌, ◌≤◌, ◌↔◌, ℕ, List, length, drop, refl, subst, sym, arith}
 use Rattle.std.proofs.lemmas.List.{drop_all}
 use Rattle.uca_text.specs.Occurring.{OccursInOrder}
-use Rattle.uca_rules.proofs.Searches.{all_found, both_further, text_further, ended}
-use Rattle.uca_rules.proofs.relations.occurs_in_order.Goals as goal
-use Rattle.uca_rules.proofs.relations.occurs_in_order.Goals.{then-c-part, else-c-part}
+use Rattle.uca_text.proofs.InOrder.{all_found, both_further, text_further, ended}
+use Rattle.uca_text.proofs.in_order.occurs_in_order.Goals as goal
+use Rattle.uca_text.proofs.in_order.occurs_in_order.Goals.{then-c-part, else-c-part}
 
 pub returns-then-at-part : goal.returns-then-at-part
 returns-then-at-part c =
