@@ -55,8 +55,8 @@ impl<A: Allocator + Copy> PlainComparison<A> {
 
 impl<A: Allocator> PlainComparison<A> {
     /// How two texts compare, as [`compare`](uca_comparison::comparison::compare) says of the same texts in Normalization Form D.
-    /// There is no result if a text has more than 524,288 bytes or a code point that is not plain, if one walk over both does not
-    /// decide, or if their code points have to.
+    /// There is no result if a text has more than 524,288 bytes or a code point that is not plain. There is none either if one
+    /// walk over both does not decide, or if their code points have to.
     ///
     /// # Errors
     ///
