@@ -1,8 +1,9 @@
 //! Unicode collation (UTS #10) in one place: what a program needs to read a table, to make and compare sort keys, and
-//! to tailor a table. `docs/LIBRARY.md` shows its use by five short programs.
+//! to tailor a table. `docs/LIBRARY.md` shows its use by six short programs.
 //!
-//! The crate passes on the calls and types of the crates below it. Its own are `Settings`, and the methods `key` and
-//! `compare` of a `Collator` (`Collate`).
+//! A program that keeps a collator begins with `OwnedCollator`, which is opened by the bytes of two files. One that chooses its
+//! own lookup or memory takes a `Collator`. The crate passes on the calls and types of the crates below it. Its own are
+//! `Settings`, and the methods `key` and `compare` of a `Collator` (`Collate`).
 #![tactic(auto)]
 
 mod collate;
@@ -18,6 +19,7 @@ pub use uca_key::{
     Compared, KeyBuffer, KeyWriter, TextComparer, compare, compare_keys, key, key_of, level_count,
 };
 pub use uca_match::{Collator, Elements, Lookup, RowList, Trie, row_of};
+pub use uca_owned::{CompareFault, KeyFault, OpenFault, OwnedCollator, fingerprint_of};
 pub use uca_rules::{Relation, RuleFault, RuleFaultKind, Rules, read_rules, read_rules_in};
 pub use uca_table::{
     Data, FaultKind, Header, IllFormed, ImplicitRange, Row, Table, TableFault, check, read_data,
