@@ -1,0 +1,54 @@
+//! Sorts a list of words by a table and a data file. `docs/LIBRARY.md` begins with this program.
+#![tactic(auto)]
+
+use std::alloc::{AllocError, Global};
+use std::{fs, io};
+use thiserror::Error;
+use uca_collation::{Depth, KeyFault, OpenFault, OwnedCollator};
+
+/// Why there is no sorted list.
+#[derive(Debug, Drop, Error)]
+enum Failure {
+    #[error(transparent)]
+    File(#[from] io::Error),
+    #[error(transparent)]
+    Open(#[from] OpenFault),
+    #[error(transparent)]
+    Key(#[from] KeyFault),
+    #[error("out of memory")]
+    Memory(#[from(alloc)] AllocError),
+}
+
+/// A word, and the sort key by which it is compared.
+#[derive(Drop)]
+struct Entry<'a> {
+    key: Vec<u8>,
+    word: &'a str,
+}
+
+fn main(rt: HostRuntime) -> Result<(), Failure> {
+    let table = fs::read(&rt, "table.txt")?;
+    let data = fs::read(&rt, "data.txt")?;
+    let mut collator = OwnedCollator::open(rt.alloc(), &table, &data, None, Depth::Identical)?;
+    let words = ["c", "\u{E1}", "ba", "A", "b a", "a"];
+    for entry in &sorted(rt.alloc(), &mut collator, &words)? {
+        println!(rt; "{}", entry.word)?;
+    }
+    Ok(())
+}
+
+/// The words in their order.
+fn sorted<'a>(
+    alloc: Global,
+    collator: &mut OwnedCollator,
+    words: &[&'a str],
+) -> Result<Vec<Entry<'a>>, Failure> {
+    let mut entries = Vec::new(alloc);
+    for word in words {
+        collator.make_key(word.as_bytes())?;
+        let key = collator.key().to_vec(alloc)?;
+        entries.push(Entry { key, word })?;
+    }
+    entries.sort_by(|left, right| left.key.cmp(&right.key))?;
+    Ok(entries)
+}
