@@ -3,9 +3,9 @@
 
     tools/library_page.py        in any folder of the repository
 
-Each code block of the page must occur, line for line, in a file of crates/uca_examples. Blocks of `rust` are in src/, those of
+Each code block of the page must occur, line for line, in a file of crates/uca_sorted_list or crates/uca_examples. Blocks of `rust` are in src/, those of
 `antt` in specs/ or proofs/, and those of `text` in the file stdout, which has what the program must print. Blocks of `sh` are commands and are not
-checked; a block with another name fails. The page must show something of each of the five programs. The last line is
+checked; a block with another name fails. The page must show something of each of the six programs. The last line is
 `N passed, M failed`; the status is 1 if one failed.
 """
 import os
@@ -13,10 +13,10 @@ import re
 import sys
 
 TOP = os.path.dirname(os.path.dirname(os.path.realpath(__file__)))
-CRATE = f"{TOP}/crates/uca_examples"
+CRATES = [f"{TOP}/crates/{it}" for it in ("uca_sorted_list", "uca_examples")]
 PAGE = f"{TOP}/docs/LIBRARY.md"
 PLACES = {"rust": ["src"], "antt": ["specs", "proofs"], "text": ["stdout"]}
-PROGRAMS = ["key_of_text", "sorted_list", "stored_keys", "tailored_table", "own_lookup"]
+SHOWN = ["uca_sorted_list/src/main.rt", *(f"uca_examples/src/{it}.rt" for it in ("key_of_text", "sorted_list", "stored_keys", "tailored_table", "own_lookup"))]
 
 
 def text_of(path):
@@ -44,7 +44,7 @@ def holds_lines(text, block):
 
 def main():
     sources = {
-        word: [(path, text_of(path)) for place in places for path in files_below(f"{CRATE}/{place}")]
+        word: [(path, text_of(path)) for crate in CRATES for place in places for path in files_below(f"{crate}/{place}")]
         for word, places in PLACES.items()
     }
     passed, failed, shown = 0, 0, set()
@@ -55,12 +55,12 @@ def main():
         shown.update(found)
         passed, failed = (passed + 1, failed) if found else (passed, failed + 1)
         if not found:
-            print(f"docs/LIBRARY.md:{line}: no file of uca_examples has this block of `{word}`")
-    for name in PROGRAMS:
-        is_shown = f"{CRATE}/src/{name}.rt" in shown
+            print(f"docs/LIBRARY.md:{line}: no file of the two crates has this block of `{word}`")
+    for name in SHOWN:
+        is_shown = f"{TOP}/crates/{name}" in shown
         passed, failed = (passed + 1, failed) if is_shown else (passed, failed + 1)
         if not is_shown:
-            print(f"docs/LIBRARY.md: nothing of src/{name}.rt is shown")
+            print(f"docs/LIBRARY.md: nothing of {name} is shown")
     print(f"{passed} passed, {failed} failed")
     sys.exit(1 if failed else 0)
 
