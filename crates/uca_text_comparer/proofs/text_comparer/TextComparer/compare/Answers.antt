@@ -2,10 +2,12 @@ use Rattle.std.proofs.Common.{Option, ap, subst}
 use Rattle.std.specs.Prelude.{IfOk, IfSome, OnOk, IfErr}
 use Rattle.std.specs.Str.{chars}
 use Rattle.uca_values.specs.Content.{properties_of}
+use Rattle.uca_text.specs.Texts.{nfd_text}
+use Rattle.uca_elements.specs.Collations.{collation_of}
 use Rattle.uca_comparison.specs.declared.comparison.Compared.{Compared}
 use Rattle.uca_plain.proofs.Results.{no_result}
 use Rattle.uca_text_comparer.specs.Comparers.{ComparerState, collation_by}
-use Rattle.uca_text_comparer.proofs.ComparerSteps.{Causes, AreAccepted, ComparesBy, FetchesBy, memory_causes}
+use Rattle.uca_text_comparer.proofs.ComparerSteps.{Causes, AreAccepted, Compares, Fetches, ComparesBy, FetchesBy, memory_causes}
 use Rattle.uca_text_comparer.proofs.text_comparer.TextComparer.compare.Goals as goal
 
 -- ---- Memory ran out
@@ -23,20 +25,24 @@ returns-in_err-found g c = record {
 
 -- ---- The texts are compared without being normalized
 
-pub returns : goal.returns
-returns g c =
+pub returns-in-Some : goal.returns-in-Some
+returns-in-Some g c =
     let content = g.L.Lookup.content in
     let xs = chars c.args.left.now in
     let ys = chars c.args.right.now in
     let compared = c.in-Some.compared in
     let found = c.in_ok-found.ensures in
+    let inside = c.self.inside in
+    let by = collation_of content inside.collator in
+    let left = nfd_text by.properties xs in
+    let right = nfd_text by.properties ys in
     record {
       compared = subst (λ (s : ComparerState _). ComparesBy content s xs ys compared.order compared.level) c.self.view_is
-          (subst (λ (o : Option Compared). IfSome o (λ it. ComparesBy content _ xs ys it.order it.level)) c.in-Some.is found.compared);
+          (subst (λ (o : Option Compared). IfSome o (λ it. Compares by inside.depth inside.weighting left right it.order it.level)) c.in-Some.is found.compared);
       fetched = subst (λ (s : ComparerState _). FetchesBy content s xs ys compared.fetched_left compared.fetched_right) c.self.view_is
-          (subst (λ (o : Option Compared). IfSome o (λ it. FetchesBy content _ xs ys it.fetched_left it.fetched_right)) c.in-Some.is found.fetched);
+          (subst (λ (o : Option Compared). IfSome o (λ it. Fetches by inside.weighting left right it.fetched_left it.fetched_right)) c.in-Some.is found.fetched);
       accepted = subst (λ (s : ComparerState _). AreAccepted (properties_of s.data_file) xs ys) c.self.view_is
-          (subst (λ (o : Option Compared). IfSome o (λ _. AreAccepted (properties_of _) xs ys)) c.in-Some.is found.accepted);
+          (subst (λ (o : Option Compared). IfSome o (λ _. AreAccepted by.properties xs ys)) c.in-Some.is found.accepted);
       fault = tt;
       collation = ap (collation_by content) c.self.view_is;
       weighting = ap (λ (s : ComparerState _). s.weighting) c.self.view_is;
@@ -45,8 +51,8 @@ returns g c =
 
 -- ---- They are compared normalized
 
-pub returns-2 : goal.returns-2
-returns-2 g c =
+pub returns : goal.returns
+returns g c =
     let xs = chars c.args.left.now in
     let ys = chars c.args.right.now in
     let r = c.compare_normals.result in
