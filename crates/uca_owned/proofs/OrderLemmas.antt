@@ -6,7 +6,7 @@ use Rattle.std.specs.Ordering.{ordering_reverse}
 use Rattle.std.proofs.lemmas.Cmp.{nat_list_cmp_total}
 use Rattle.uca_order.specs.Levels.{lexicographic}
 use Rattle.uca_order.specs.Laws.{StoredKeysCompareAsTexts}
-use Rattle.uca_order.specs.Keyings.{Keying, key_of_bytes}
+use Rattle.uca_order.specs.Keyings.{Keying, key_of_bytes, bytes_compared}
 use Rattle.uca_owned.specs.Causes.{IsAcceptedText}
 use Rattle.uca_owned.specs.Orders.{IsOrder, OrdersAreTotal}
 
@@ -25,6 +25,16 @@ stable Greater Greater h = refl
 -- an equation of orders may be shown for a fact and for its negation
 by_choice : (A : Type 0) (x y : Ordering) → (A ⊎ (A → ⊥) → x ≡ y) → x ≡ y
 by_choice A x y h = stable x y (λ differ. differ (h (inr (λ a. differ (h (inl a))))))
+
+-- the order of two texts that are accepted
+pub accepted_order : (k : Keying) (left right : List ℕ) (o : Ordering) → IsAcceptedText k.collation.properties left → IsAcceptedText k.collation.properties right
+    → o ≡ (bytes_compared k left right).order → IsOrder k left right o
+accepted_order k left right o taken also same = record {
+  both = λ _ _. same;
+  left_alone = λ _ left_out. absurd (left_out also);
+  right_alone = λ left_out _. absurd (left_out taken);
+  neither = λ left_out _. absurd (left_out taken);
+}
 
 module _ (law : StoredKeysCompareAsTexts) (k : Keying) where
   abbrev Accepted : List ℕ → Type 0

@@ -58,26 +58,27 @@ impl OwnedCollator {
         ensures keying { keying_in self.new ≡ keying_in self.old }
         ensures key { key_in self.new ≡ key_in self.old }
     {
-        let found = compare_plain(
+        let Ok(found) = compare_plain(
             &self.collation,
             &mut self.plain,
             self.weighting,
             self.depth,
             left,
             right,
-        );
-        match found {
-            Ok(Some(pair)) => Ok(pair),
-            Ok(None) => compare_normalized(
-                &self.collation,
-                self.weighting,
-                self.depth,
-                &mut self.left,
-                &mut self.right,
-                left,
-                right,
-            ),
-            Err(_) => Err(CompareFault::Left(KeyFault::Text(TextFault::Memory))),
+        ) else {
+            return Err(CompareFault::Left(KeyFault::Text(TextFault::Memory)));
+        };
+        if let Some(pair) = found {
+            return Ok(pair);
         }
+        compare_normalized(
+            &self.collation,
+            self.weighting,
+            self.depth,
+            &mut self.left,
+            &mut self.right,
+            left,
+            right,
+        )
     }
 }

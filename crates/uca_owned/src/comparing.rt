@@ -64,11 +64,11 @@ pub(crate) fn compare_plain(
         return Ok(None);
     };
     let collator = collation.collator();
-    match plain.compare_texts(&collator, weighting, depth, left, right) {
-        Ok(Some(compared)) => Ok(Some((compared.order, compared.level))),
-        Ok(None) => Ok(None),
-        Err(error) => Err(error),
+    let found = plain.compare_texts(&collator, weighting, depth, left, right)?;
+    if let Some(compared) = found {
+        return Ok(Some((compared.order, compared.level)));
     }
+    Ok(None)
 }
 
 /// How two texts in Normalization Form D compare: their order, and the first level at which they differ, or 0.

@@ -101,19 +101,18 @@ impl OwnedCollator {
             self.depth,
             left,
             right,
-        );
-        match found {
-            Ok(Some(pair)) => Ok(pair.0),
-            Ok(None) => order_normalized(
-                &self.collation,
-                self.weighting,
-                self.depth,
-                &mut self.left,
-                &mut self.right,
-                left,
-                right,
-            ),
-            Err(error) => Err(error),
+        )?;
+        if let Some(pair) = found {
+            return Ok(pair.0);
         }
+        order_normalized(
+            &self.collation,
+            self.weighting,
+            self.depth,
+            &mut self.left,
+            &mut self.right,
+            left,
+            right,
+        )
     }
 }
