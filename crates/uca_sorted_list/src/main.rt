@@ -27,11 +27,24 @@ struct Entry<'a> {
 }
 
 fn main(rt: HostRuntime) -> Result<(), Failure> {
-    let table = fs::read(&rt, "table.txt")?;
-    let data = fs::read(&rt, "data.txt")?;
-    let mut collator = OwnedCollator::open(rt.alloc(), &table, &data, None, Depth::Identical)?;
-    let words = ["c", "\u{E1}", "ba", "A", "b a", "a"];
-    for entry in &sorted(rt.alloc(), &mut collator, &words)? {
+    let mut collator = opened(&rt)?;
+    print_sorted(&rt, &mut collator, &["c", "\u{E1}", "ba", "A", "b a", "a"])
+}
+
+/// A collator of the table and the data file in this folder.
+fn opened(rt: &HostRuntime) -> Result<OwnedCollator, Failure> {
+    let table = fs::read(rt, "table.txt")?;
+    let data = fs::read(rt, "data.txt")?;
+    Ok(OwnedCollator::open(rt.alloc(), &table, &data, None, Depth::Identical)?)
+}
+
+/// Prints the words in their order.
+fn print_sorted(
+    rt: &HostRuntime,
+    collator: &mut OwnedCollator,
+    words: &[&str],
+) -> Result<(), Failure> {
+    for entry in &sorted(rt.alloc(), collator, words)? {
         println!(rt; "{}", entry.word)?;
     }
     Ok(())
