@@ -308,10 +308,10 @@ pub keys_compare_as_texts : KeysCompareAsTexts
 keys_compare_as_texts = record { order = depth_order; level = depth_level; equal = depth_equal }
 
 pub stored_texts_compare : StoredKeysCompareAsTexts
-stored_texts_compare c depth weighting left right =
+stored_texts_compare c settings left right =
     let one = read_text c (nfd_text c.properties left) in
     let other = read_text c (nfd_text c.properties right) in
-    (depth_order depth weighting one other, depth_level depth weighting one other)
+    (depth_order settings.depth settings.weighting one other, depth_level settings.depth settings.weighting one other)
 
 -- the last of two orders that are equal together
 last_equal : (a b : Ordering) → ordering_then a b ≡ Equal → b ≡ Equal

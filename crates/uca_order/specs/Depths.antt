@@ -5,6 +5,7 @@ use Rattle.std.specs.Prelude.{ℕ, suc, ◌/◌, ◌%◌, List, [], ◌∷◌, �
 use Rattle.uca_weights.specs.declared.Depth.{Depth}
 use Rattle.uca_weights.specs.declared.Depth.TheVariants.{Weights, Identical}
 use Rattle.uca_weights.specs.declared.Element.{Element}
+use Rattle.uca_weights.specs.declared.Settings.{Settings}
 use Rattle.uca_weights.specs.declared.Weighting.{Weighting}
 use Rattle.uca_text.specs.Texts.{NfdText, nfd_text}
 use Rattle.uca_elements.specs.Collations.{Collation, elements_of}
@@ -46,10 +47,10 @@ key_at Identical weighting t = key_bytes weighting t.elements ++ (0 ∷ 0 ∷ po
 -- ---- Texts that are given as their code points before normalization
 
 -- the sort key of such a text
-abbrev pub text_key : Collation → Depth → Weighting → List ℕ → List ℕ
-text_key c depth weighting points = key_at depth weighting (read_text c (nfd_text c.properties points))
+abbrev pub text_key : Collation → Settings → List ℕ → List ℕ
+text_key c settings points = key_at settings.depth settings.weighting (read_text c (nfd_text c.properties points))
 
 -- how two of them compare
-abbrev pub texts_compared : Collation → Depth → Weighting → List ℕ → List ℕ → Comparison
-texts_compared c depth weighting left right =
-    compared_at depth weighting (read_text c (nfd_text c.properties left)) (read_text c (nfd_text c.properties right))
+abbrev pub texts_compared : Collation → Settings → List ℕ → List ℕ → Comparison
+texts_compared c settings left right =
+    compared_at settings.depth settings.weighting (read_text c (nfd_text c.properties left)) (read_text c (nfd_text c.properties right))

@@ -4,6 +4,7 @@ use Rattle.uca_weights.specs.declared.Element.{Element}
 use Rattle.uca_weights.specs.declared.Weighting.{Weighting}
 use Rattle.uca_weights.specs.declared.Depth.{Depth}
 use Rattle.uca_weights.specs.declared.Depth.TheVariants.{Identical}
+use Rattle.uca_weights.specs.declared.Settings.{Settings}
 use Rattle.uca_weights.specs.Kinds.{IsCompletelyIgnorable}
 use Rattle.uca_values.specs.Content.{Entry, AreRows}
 use Rattle.uca_text.specs.Texts.{NfdText, AreCanonicallyEquivalent}
@@ -40,21 +41,23 @@ pub record KeysCompareAsTexts : Type 0 where
 
 -- Two texts are given as code points before normalization. Their keys give their order and the level at which they differ.
 abbrev pub StoredKeysCompareAsTexts : Type 0
-StoredKeysCompareAsTexts = (c : Collation) (depth : Depth) (weighting : Weighting) (left right : List ℕ) →
-    let left_key = text_key c depth weighting left in
-    let right_key = text_key c depth weighting right in
-    let answer = texts_compared c depth weighting left right in
-    (lexicographic left_key right_key ≡ answer.order) × (stored_level (levels_at depth weighting) left_key right_key ≡ answer.level)
+StoredKeysCompareAsTexts = (c : Collation) (settings : Settings) (left right : List ℕ) →
+    let left_key = text_key c settings left in
+    let right_key = text_key c settings right in
+    let answer = texts_compared c settings left right in
+    (lexicographic left_key right_key ≡ answer.order)
+    × (stored_level (levels_at settings.depth settings.weighting) left_key right_key ≡ answer.level)
 
 -- Canonically equivalent texts have one key.
 abbrev pub CanonicallyEquivalentTextsHaveEqualKeys : Type 0
-CanonicallyEquivalentTextsHaveEqualKeys = (c : Collation) (depth : Depth) (weighting : Weighting) (left right : List ℕ) →
-    AreCanonicallyEquivalent left right → text_key c depth weighting left ≡ text_key c depth weighting right
+CanonicallyEquivalentTextsHaveEqualKeys = (c : Collation) (settings : Settings) (left right : List ℕ) →
+    AreCanonicallyEquivalent left right → text_key c settings left ≡ text_key c settings right
 
 -- With an identical level texts that are not canonically equivalent have different keys.
 abbrev pub IdenticalKeysAreOfEquivalentTexts : Type 0
 IdenticalKeysAreOfEquivalentTexts = (c : Collation) (weighting : Weighting) (left right : List ℕ) →
-    text_key c Identical weighting left ≡ text_key c Identical weighting right → AreCanonicallyEquivalent left right
+    let settings : Settings = record { weighting = weighting; depth = Identical } in
+    text_key c settings left ≡ text_key c settings right → AreCanonicallyEquivalent left right
 
 -- The key of every accepted text is short, under rows as those of a table.
 abbrev pub KeysAreShort : Type 0

@@ -74,6 +74,18 @@ pub enum Depth {
     Identical,
 }
 
+/// What decides how texts compare, beside a table and a data file. Keys give the order of their texts only among keys of
+/// the same settings, the same table and the same data file, so store the settings with the keys.
+#[derive(Clone, Copy, Debug, PartialEq, Eq)]
+pub struct Settings {
+    /// How variable elements, such as spaces and punctuation, are weighted (UTS #10, section 4). `NonIgnorable`
+    /// compares them as all others, at three levels. `Shifted` compares them only at a fourth level.
+    pub weighting: Weighting,
+    /// How far texts are compared. `Weights`: by these levels alone, so that some different texts are equal.
+    /// `Identical`: by one more level, that of the code points, so that only canonically equivalent texts are equal.
+    pub depth: Depth,
+}
+
 impl Weighting {
     /// Its name, as it is written after `@variable` in a table and after `--weighting`.
     pub fn name(self) -> &'static str
