@@ -1,12 +1,13 @@
 #!/usr/bin/env python3
 """Runs `rt ci` and prints where its processor time goes: for each crate its library, its tests and its must-fail edits.
 
-    tools/gate_times.py          at the top of the repository, instead of `rt ci`
+    tools/gate_times.py [--anew]          at the top of the repository, instead of `rt ci`
 
 It loads the command `rt` of the kit, and each task of `rt` then counts the user and system time of the processes that it
-starts. It proves all from nothing, as `rt ci --anew` does: nothing is taken of what was proved on this machine before. What
-`rt ci` prints comes first, and the status is that of `rt ci`. docs/GATE.md has the table that this prints last, and says what
-a yardstick is.
+starts. With --anew nothing is taken of what was proved on this machine before. A must-fail edit is tried by a check of the
+function alone that it changes, and if it is proved so, by a check of the whole crate: `rt ci` itself checks each crate once
+more for its edits. What `rt ci` prints comes first, and the status is that of `rt ci`. docs/GATE.md has the table that this
+prints last, and says what a yardstick is.
 """
 import collections
 import os
@@ -44,19 +45,22 @@ def table():
     print("longest on the clock: " + ", ".join(f"{' '.join(map(str, key))} {spent:.0f} s" for key, spent in longest))
 
 
-def main():
-    rt = kit.opened("machine", "lanes", instead="`rt ci` runs alone, and no times are taken")
+def main(flags):
+    rt = kit.opened("machine", "lanes", "tries", instead="`rt ci` runs alone, and no times are taken")
     if not rt:
-        return kit.plain("ci", kit.ANEW)
+        return kit.plain("ci", *flags)
     rt.check_by_one_process()
+    rt.try_edits_by_function()
     TIMES.count(rt, IDLE)
     rt.count_tasks(TIMES, IDLE)
     begun = time.time()
-    status = rt.prove_all()
+    status = rt.prove_all(anew=kit.ANEW in flags)
     table()
     print(f"on the clock {(time.time() - begun) / 60:.0f} minutes, {os.cpu_count()} processors")
     return status
 
 
 if __name__ == "__main__":
-    sys.exit(main())
+    if sys.argv[1:2] in (["-h"], ["--help"]):
+        sys.exit(__doc__)
+    sys.exit(main(sys.argv[1:]))

@@ -38,11 +38,15 @@ USED = {
     },
     "lanes": {"in_lanes": (1,), "rtlib.ThreadPoolExecutor": (0,)},
     "edits": {"read_edit": (2,)},
-    "tries": {"must_fail": (4,)},
+    "tries": {"must_fail": (3,), "checked": (4,), "seeded": (3,)},
 }
 
 # The lanes of `rt` count a task with this word as one processor. A task with another one counts as its share of those that are idle.
 AS_ONE_PROCESSOR = "edits"
+
+# The line at which a function begins, and that at which a block of functions of a type does: with the trait, if it is one's, and the type.
+FUNCTION = re.compile(r"( *)(?:pub(?:\([a-z]+\))? )?(?:const |unsafe )*fn (\w+)")
+IMPL = re.compile(r"impl(?:<.*?>)? (?:(?:\w+::)*(\w+)(?:<[^{]*?>)? for )?&?(?:\w+::)*(\w+)")
 
 # What each crate that `rt` has read must have.
 OF_CRATES = ("name", "folder", "said", "rlib", "is_static", "is_program")
@@ -111,6 +115,31 @@ def edit_of(task):
     return task[2] if len(task) > 2 else None
 
 
+def changed_function(folder, texts):
+    """The path, below its crate, of the function that has the first changed line of an edit's first text, as the flag `--only` takes it; or None."""
+    for file, text in texts.items():
+        with open(f"{folder}/{file}", encoding="utf-8") as it:
+            pairs = zip(it.read().split("\n"), text.split("\n"))
+        at = next((number for number, (old, new) in enumerate(pairs) if old != new), None)
+        if not file.startswith("src/") or at is None:
+            return None
+        modules = [it for it in file[len("src/") : -len(".rt")].split("/") if it not in ("lib", "main")]
+        return "::".join([*modules, *named]) if (named := function_at(text.split("\n"), at)) else None
+    return None
+
+
+def function_at(lines, at):
+    """The name of the function that has this line, after that of the type whose function it is, if one is. Empty: no function has it."""
+    number = next((number for number in range(at, -1, -1) if FUNCTION.match(lines[number])), None)
+    if number is None or any(line.startswith("}") for line in lines[number:at]):
+        return []
+    indent, name = FUNCTION.match(lines[number]).groups()
+    # a method stands in the nearest block before it that begins at the first column
+    block = next((line for line in reversed(lines[:number]) if line and line[0] not in " }/#"), "") if indent else ""
+    owner = IMPL.match(block)
+    return [name] if not indent else [f"{owner[2]}{owner[1] or ''}", name] if owner else []
+
+
 def folder_of(name):
     return f"{TOP}/crates/{name}"
 
@@ -149,15 +178,19 @@ class Kit:
         """Whether `rt ci` takes what was proved on this machine before, unless it is told to prove all anew."""
         return has(self.rt, "ci", (1,))
 
+    def checks_at_once(self):
+        """How many checks have processors and memory."""
+        return max(1, min(self.processors(), int(self.free_memory()) // CHECK_MEMORY))
+
     def check_by_one_process(self):
         """Has `rt ci` check each crate by one process, and as many crates at once as there are processors and memory for.
 
         Two processes check a crate in about the same time as one, and take half as much processor time again."""
-        os.environ.setdefault("RT_JOBS", str(max(1, min(self.processors(), int(self.free_memory()) // CHECK_MEMORY))))
+        os.environ.setdefault("RT_JOBS", str(self.checks_at_once()))
 
-    def prove_all(self):
-        """Does what `rt ci` does, from nothing, and returns its status."""
-        return self.rt.ci(True) if self.keeps_proofs() else self.rt.ci()
+    def prove_all(self, anew):
+        """Does what `rt ci` does, from nothing if `anew`, and returns its status."""
+        return self.rt.ci(anew) if self.keeps_proofs() else self.rt.ci()
 
     # ---- Crates
 
@@ -212,11 +245,29 @@ class Kit:
         """The texts of the files that an edit changes, by their paths in the crate's folder, or None; and why it cannot be applied."""
         return self.rt.read_edit(edit, folder)
 
+    def try_edits_by_function(self):
+        """Has an edit tried by a check of the function alone that it changes. What is rejected there is rejected in a check of the whole crate, which takes
+        ten times as long. An edit that is still proved so, or that changes no function, is tried by a check of the whole crate, as `rt` does."""
+        checked = self.rt.checked
+
+        def by_function(crate, texts, flags, kept):
+            path = changed_function(crate.folder, texts)
+            if path:
+                ran = checked(crate, texts, [*flags, "--only", path], None)
+                said, _, last = ran.stdout.rstrip("\n").rpartition("\n")
+                if ran.returncode == 1 and last.startswith("only="):
+                    # `rt` reads the last line of a whole check
+                    ran.stdout = f"{said}\nlogic=not-proved\n"
+                    return ran
+            return checked(crate, texts, flags, kept)
+
+        self.rt.checked = by_function
+        # no crate is proved once more for its edits
+        self.rt.seeded = lambda crate, flags, start=None: ""
+
     def try_edit(self, crate, edit):
-        """Tries an edit over what checks of the crate keep. Returns whether the prover rejects it, as it must, and what is to say."""
-        with tempfile.TemporaryDirectory(prefix="edit-") as room:
-            shutil.copytree(crate.kept(), f"{room}/kept")
-            result, said = self.rt.must_fail(crate.made, edit, ["--jobs", "1"], f"{room}/kept")
+        """Tries an edit over the libraries below the crate. Returns whether the prover rejects it, as it must, and what is to say."""
+        result, said = self.rt.must_fail(crate.made, edit, ["--jobs", "1"])
         # kits say so by True, or by names of their own
         is_rejected = result is True or any(result == getattr(self.rt, name, None) for name in ("REFUSED", "AT_LIMIT"))
         return is_rejected, said.replace("NOT REFUSED", "NOT REJECTED")

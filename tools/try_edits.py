@@ -9,11 +9,15 @@ that the prover rejects it, as it must, that it no longer applies, or NOT REJECT
 The folders edits/CRATE/by_tests have bugs that a test rejects, and maybe no contract: out of memory where memory is there. The first line of each
 names the test that rejects it. This script tries those only if they are named, and the prover may accept them.
 
-Each edit is tried over a copy of what `tools/check.py CRATE` keeps, which runs first: so only what the edit changes is proved.
+The libraries below a crate are proved first, if they have changed. Then each edit is tried by a check of the function alone that it changes, as many at once
+as there are processors and memory for. An edit that changes no function, or is proved so, is tried by a check of the whole crate.
 """
 import os
 import sys
 
+from concurrent.futures import ThreadPoolExecutor
+
+import build
 import check
 import kit
 
@@ -41,18 +45,22 @@ def named(names):
 
 def main(names):
     edits = named(names)
-    rt = check.opened("tries", instead="no edit can be tried; `rt must-fail` tries those of the gate")
+    rt = check.opened("edits", "tries", instead="no edit can be tried; `rt must-fail` tries those of the gate")
     if not rt:
         return 1
-    status = 0
-    for name, files in edits.items():
-        if check.check(rt, name, []):
-            return 1
-        for edit in files:
-            is_rejected, said = rt.try_edit(rt.crates[name], edit)
+    below = {it.name: it for name in edits for it in rt.crates[name].below()}
+    if not build.build(rt, [rt.crates[it] for it in rt.crates if it in below]):
+        return 1
+    rt.try_edits_by_function()
+    with ThreadPoolExecutor(rt.checks_at_once()) as pool:
+        tries = [pool.submit(rt.try_edit, rt.crates[name], edit) for name, files in edits.items() for edit in files]
+        passed = 0
+        for it in tries:
+            is_rejected, said = it.result()
             print(said, flush=True)
-            status = status or int(not is_rejected)
-    return status
+            passed += is_rejected
+    print(f"{passed} passed, {len(tries) - passed} failed")
+    return int(passed < len(tries))
 
 
 if __name__ == "__main__":

@@ -6,11 +6,11 @@ ghost use Rattle.uca_order.specs.Depths.{read_text, key_at, compared_at};
 ghost use Rattle.uca_order.specs.Fetched.{fetched_left, fetched_right};
 ghost use Rattle.uca_order.specs.Lengths.{HasShortRows};
 
-use crate::Settings;
 use std::alloc::{AllocError, Allocator};
 use uca_key::Compared;
 use uca_match::{Collator, Lookup};
 use uca_text::Normal;
+use uca_weights::Settings;
 
 /// Sort keys and comparisons of texts, as methods of a [`Collator`]. Bring it into scope by `use uca_collation::Collate`.
 pub trait Collate {

@@ -3,14 +3,14 @@
 //!
 //! A program that keeps a collator begins with `OwnedCollator`, which is opened by the bytes of two files. One that chooses its
 //! own lookup or memory takes a `Collator`. The crate passes on the calls and types of the crates below it. Its own are
-//! `Settings`, and the methods `key` and `compare` of a `Collator` (`Collate`).
+//! the methods `key` and `compare` of a `Collator` (`Collate`), and `compare_keys` and `level_count` of `Settings` (`StoredKeys`).
 #![tactic(auto)]
 
 mod collate;
-mod settings;
+mod stored;
 
 pub use collate::Collate;
-pub use settings::Settings;
+pub use stored::StoredKeys;
 pub use uca_audit::{AuditFault, Condition, Place, audit};
 pub use uca_certificates::{
     Certificate, CertificateFault, CertificateFaultKind, read_certificate, write_certificate,
@@ -28,6 +28,6 @@ pub use uca_table::{
 pub use uca_tailor::{TailorFault, TailorKind, tailor};
 pub use uca_text::{Normal, TextFault, normal};
 pub use uca_weights::{
-    Depth, Element, Level, MapFault, MapFaultKind, Message, ReadFault, Run, Sink, Source, Strength,
-    WeightMap, Weighting, WriteFault,
+    Depth, Element, Level, MapFault, MapFaultKind, Message, ReadFault, Run, Settings, Sink, Source,
+    Strength, WeightMap, Weighting, WriteFault,
 };
