@@ -9,7 +9,7 @@ use Rattle.uca_weights.specs.Levels.{weight}
 use Rattle.uca_weights.specs.Maps.{Sends}
 use Rattle.uca_values.specs.Content.{TableContent, Properties, Fits, IsEntry}
 use Rattle.uca_check.specs.WellFormed.{elements_of}
-use Rattle.uca_rules.specs.declared.relations.Relation.{Relation}
+use Rattle.uca_relations.specs.declared.Relation.{Relation}
 use Rattle.uca_weights.specs.PerLevel.{at_level}
 use Rattle.uca_tailorings.specs.Tailorings.{IsPairWeight, IsKnownWeight, IsImageOfBase}
 use Rattle.uca_weights.proofs.Lists.{each_contained}

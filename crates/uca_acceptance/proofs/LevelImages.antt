@@ -11,7 +11,7 @@ use Rattle.uca_weights.specs.Maps.{Sends}
 use Rattle.uca_weights.specs.Runs.{weight_image}
 use Rattle.uca_values.specs.Content.{TableContent, Properties, Fits}
 use Rattle.uca_check.specs.WellFormed.{elements_of}
-use Rattle.uca_rules.specs.declared.relations.Relation.{Relation}
+use Rattle.uca_relations.specs.declared.Relation.{Relation}
 use Rattle.uca_weights.specs.PerLevel.{at_level}
 use Rattle.uca_tailorings.specs.Images.{Maps, IsImage}
 use Rattle.uca_tailorings.specs.Inputs.{maps_of}

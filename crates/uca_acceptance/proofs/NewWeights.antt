@@ -4,7 +4,7 @@ use Rattle.std.proofs.lemmas.List.{append-nil, append_assoc, length-append}
 use Rattle.uca_weights.specs.declared.Level.{Level}
 use Rattle.uca_weights.specs.declared.Level.TheVariants.{One, Two, Three}
 use Rattle.uca_values.specs.Content.{TableContent, Properties}
-use Rattle.uca_rules.specs.declared.relations.Relation.{Relation}
+use Rattle.uca_relations.specs.declared.Relation.{Relation}
 use Rattle.uca_tailorings.specs.Placing.{IsLow}
 use Rattle.uca_tailorings.specs.Tailorings.{IsNewWeight, IsKnownWeight, IsBetween, IsFreshWeight, IsNearestWeight}
 use Rattle.uca_tailorings.specs.declared.conditions.Condition.TheVariants.{NotFresh, NotNearest}

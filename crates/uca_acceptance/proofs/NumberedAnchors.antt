@@ -7,7 +7,7 @@ use Rattle.uca_weights.specs.declared.Level.TheVariants.{One, Two, Three}
 use Rattle.uca_weights.specs.Kinds.{IsContinuation}
 use Rattle.uca_weights.specs.Levels.{weight}
 use Rattle.uca_values.specs.Content.{TableContent, Properties}
-use Rattle.uca_rules.specs.declared.relations.Relation.{Relation}
+use Rattle.uca_relations.specs.declared.Relation.{Relation}
 use Rattle.uca_tailorings.specs.Placing as placing
 use Rattle.uca_tailorings.specs.Placing.{IsIgnorableTo, IsLow}
 use Rattle.uca_tailorings.proofs.Sound.{reset_some}

@@ -5,7 +5,7 @@ use Rattle.uca_weights.specs.declared.Element.{Element}
 use Rattle.uca_weights.specs.Kinds.{IsContinuation}
 use Rattle.uca_values.specs.Content.{TableContent, Properties}
 use Rattle.uca_check.specs.WellFormed.{HasGap, EndsWithLead, MeetsWF1}
-use Rattle.uca_rules.specs.declared.relations.Relation.{Relation}
+use Rattle.uca_relations.specs.declared.Relation.{Relation}
 use Rattle.uca_plans.specs.declared.drafts.DraftElement.{DraftElement}
 use Rattle.uca_plans.specs.Drafts.{DraftRow}
 use Rattle.uca_plans.specs.Plans.{Plan, numbered_row}

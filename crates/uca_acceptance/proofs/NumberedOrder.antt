@@ -8,7 +8,7 @@ use Rattle.uca_weights.specs.Kinds.{IsPrimaryElement, IsSecondaryElement, IsTert
 use Rattle.uca_values.specs.Content.{TableContent, Properties}
 use Rattle.uca_check.specs.WellFormed.{elements_of, IsHighSecondary, IsHighTertiary, IsVariable, IsVariableBetween, MeetsWF2, MeetsWF3, MeetsWF4}
 use Rattle.uca_check.proofs.RowElements.{each_of_rows}
-use Rattle.uca_rules.specs.declared.relations.Relation.{Relation}
+use Rattle.uca_relations.specs.declared.Relation.{Relation}
 use Rattle.uca_plans.specs.declared.drafts.DraftWeight.{DraftWeight}
 use Rattle.uca_plans.specs.declared.drafts.DraftWeight.TheVariants.{Base, New}
 use Rattle.uca_plans.specs.declared.drafts.DraftElement.{DraftElement}

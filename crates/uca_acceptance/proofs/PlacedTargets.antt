@@ -6,7 +6,7 @@ use Rattle.uca_weights.specs.declared.Element.{Element}
 use Rattle.uca_weights.specs.declared.Level.{Level}
 use Rattle.uca_weights.specs.Levels.{level_of}
 use Rattle.uca_values.specs.Content.{TableContent, Properties}
-use Rattle.uca_rules.specs.declared.relations.Relation.{Relation}
+use Rattle.uca_relations.specs.declared.Relation.{Relation}
 use Rattle.uca_tailorings.specs.Placing as placing
 use Rattle.uca_tailorings.specs.Placing.{IsLow, IsAnchor, IsOnSide}
 use Rattle.uca_tailorings.specs.declared.conditions.Condition.TheVariants.{Anchor, NotPlaced}

@@ -5,7 +5,7 @@ use Rattle.uca_weights.specs.declared.Level.{Level}
 use Rattle.uca_weights.specs.declared.Level.TheVariants.{One, Two, Three}
 use Rattle.uca_values.specs.Content.{TableContent, Properties}
 use Rattle.uca_check.specs.WellFormed.{elements_of}
-use Rattle.uca_rules.specs.declared.relations.Relation.{Relation}
+use Rattle.uca_relations.specs.declared.Relation.{Relation}
 use Rattle.uca_tailorings.specs.Tailorings.{IsPlacedAt, IsNewWeight, IsBetween}
 use Rattle.uca_tailorings.proofs.Relating.{one_new}
 use Rattle.uca_tailorings.proofs.Relating.{one_old}

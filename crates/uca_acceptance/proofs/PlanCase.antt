@@ -4,8 +4,8 @@ use Rattle.uca_weights.specs.declared.Level.{Level}
 use Rattle.uca_weights.specs.declared.Level.TheVariants.{One, Two, Three}
 use Rattle.uca_values.specs.Content.{TableContent, Properties, IsTable}
 use Rattle.uca_check.specs.WellFormed.{elements_of, IsWellFormed}
-use Rattle.uca_rules.specs.declared.relations.Relation.{Relation}
-use Rattle.uca_rules.specs.Relations.{AreRules}
+use Rattle.uca_relations.specs.declared.Relation.{Relation}
+use Rattle.uca_relations.specs.Relations.{AreRules}
 use Rattle.uca_plans.specs.Lists.{level_has_room}
 use Rattle.uca_plans.specs.Plans.{Plan, LevelPlan, LevelPlans, level_plan}
 use Rattle.uca_plans.specs.Tailors.{basis_of}

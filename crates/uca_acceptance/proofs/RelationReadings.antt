@@ -5,8 +5,8 @@ use Rattle.uca_weights.proofs.Lists.{inside, each_parts}
 use Rattle.uca_values.specs.Content.{TableContent, Properties}
 use Rattle.uca_text.specs.Texts.{NfdText}
 use Rattle.uca_elements.specs.Rows.{rows_of}
-use Rattle.uca_rules.specs.declared.relations.Relation.{Relation}
-use Rattle.uca_rules.specs.Relations.{HasRuleTexts, AreRules}
+use Rattle.uca_relations.specs.declared.Relation.{Relation}
+use Rattle.uca_relations.specs.Relations.{HasRuleTexts, AreRules}
 use Rattle.uca_tailorings.specs.Tailorings.{tailored_reading, anchor_elements, expansion_elements, elements_of_expansion}
 use Rattle.uca_plans.specs.declared.drafts.DraftElement.{DraftElement}
 use Rattle.uca_plans.specs.Plans.{Plan, draft_expansion, begun}

@@ -8,8 +8,8 @@ use Rattle.uca_check.specs.WellFormed.{elements_of}
 use Rattle.uca_weights.proofs.Lists.{each_weaker, each_parts}
 use Rattle.uca_elements.specs.Rows.{IsKey, same_key, rows_of}
 use Rattle.uca_elements.proofs.RowsByKey.{same_key-itself, found_of_row, key_iff}
-use Rattle.uca_rules.specs.declared.relations.Relation.{Relation}
-use Rattle.uca_rules.specs.Relations.{IsTarget}
+use Rattle.uca_relations.specs.declared.Relation.{Relation}
+use Rattle.uca_relations.specs.Relations.{IsTarget}
 use Rattle.uca_tailorings.specs.Images.{Maps, AreImages, IsImage}
 use Rattle.uca_tailorings.specs.Tailorings.{IsCovered, IsCoveredRow, IsUnchangedRow, IsPresentRow, IsPresentTarget, IsExpectedRow}
 use Rattle.uca_tailorings.specs.declared.conditions.Condition.TheVariants.{BaseIllFormed, Header, Uncovered, RowChanged, RowMissing, RowExtra}

@@ -7,7 +7,7 @@ use Rattle.std.specs.List.{AllByRecursion}
 use Rattle.uca_values.specs.Content.{Entry, keys_of}
 use Rattle.uca_check.specs.WellFormed.{MeetsWF5}
 use Rattle.uca_weights.proofs.Lists.{each_weaker}
-use Rattle.uca_rules.specs.declared.relations.Relation.{Relation}
+use Rattle.uca_relations.specs.declared.Relation.{Relation}
 use Rattle.uca_elements.specs.Rows.{same_key}
 use Rattle.uca_plans.specs.Drafts.{DraftRow, has_key}
 use Rattle.uca_plans.specs.Keys.{keys_in, is_among, with_key}

@@ -8,7 +8,7 @@ use Rattle.uca_values.proofs.ImplicitPairs.{of_pair}
 use Rattle.uca_text.specs.Texts.{NfdText}
 use Rattle.uca_elements.specs.Collations as collations
 use Rattle.uca_elements.specs.Rows.{rows_of}
-use Rattle.uca_rules.specs.declared.relations.Relation.{Relation}
+use Rattle.uca_relations.specs.declared.Relation.{Relation}
 use Rattle.uca_tailorings.specs.Tailorings.{tailored_reading}
 use Rattle.uca_plans.specs.declared.drafts.DraftElement.{DraftElement}
 use Rattle.uca_plans.specs.Drafts.{as_draft, draft_at, draft_elements}

@@ -4,7 +4,7 @@ use Rattle.std.specs.List.{AllByRecursion}
 use Rattle.uca_values.specs.Content.{TableContent, Properties, keys_of}
 use Rattle.uca_check.specs.WellFormed.{MeetsWF1, MeetsWF5}
 use Rattle.uca_weights.proofs.Lists.{each_weaker}
-use Rattle.uca_rules.specs.declared.relations.Relation.{Relation}
+use Rattle.uca_relations.specs.declared.Relation.{Relation}
 use Rattle.uca_tailorings.specs.declared.conditions.Condition.TheVariants.{TailoredIllFormed}
 use Rattle.uca_plans.specs.Plans.{Plan, begun, numbered_row}
 use Rattle.uca_plans.specs.Tailors.{basis_of}

@@ -1,7 +1,7 @@
 -- The weights of a plan's drafts are in such an order that the numbered rows meet WF2, WF3 and WF4.
 use Rattle.std.proofs.Common.{List}
 use Rattle.uca_values.specs.Content.{TableContent, Properties}
-use Rattle.uca_rules.specs.declared.relations.Relation.{Relation}
+use Rattle.uca_relations.specs.declared.Relation.{Relation}
 use Rattle.uca_plans.specs.Plans.{Plan, begun}
 use Rattle.uca_plans.specs.Tailors.{basis_of}
 use Rattle.uca_plans.proofs.PlanHolds.{start}

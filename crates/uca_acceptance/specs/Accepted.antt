@@ -2,8 +2,8 @@
 use Rattle.std.specs.Prelude.{◌≡◌, List, Ok}
 use Rattle.uca_values.specs.Content.{TableContent, Properties, IsTable}
 use Rattle.uca_check.specs.WellFormed.{IsWellFormed}
-use Rattle.uca_rules.specs.declared.relations.Relation.{Relation}
-use Rattle.uca_rules.specs.Relations.{AreRules}
+use Rattle.uca_relations.specs.declared.Relation.{Relation}
+use Rattle.uca_relations.specs.Relations.{AreRules}
 use Rattle.uca_tailorings.specs.declared.conditions.Condition.{Condition}
 use Rattle.uca_tailorings.specs.Tailorings.{Tailoring, IsTailoring, Meets}
 use Rattle.uca_tailorings.specs.Meaning.{IsFaithful}

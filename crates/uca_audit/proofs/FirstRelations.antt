@@ -1,7 +1,7 @@
 -- Where a condition fails: the first row or relation without its property.
 use Rattle.std.proofs.Common.{◌≡◌, ℕ, suc, ◌+◌, ◌<◌, List, length, ap, arith}
 use Rattle.std.proofs.lemmas.List.{length-append}
-use Rattle.uca_rules.specs.declared.relations.Relation.{Relation}
+use Rattle.uca_relations.specs.declared.Relation.{Relation}
 use Rattle.uca_tailorings.specs.declared.conditions.Condition.{Condition}
 use Rattle.uca_tailorings.specs.Tailorings.{Tailoring}
 use Rattle.uca_audit.specs.declared.faults.AuditFault.{AuditFault}

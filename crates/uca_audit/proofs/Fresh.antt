@@ -6,7 +6,7 @@ use Rattle.std.specs.List.{AllZip}
 use Rattle.std.proofs.lemmas.Bool.{cases_lt, false≢true}
 use Rattle.uca_weights.specs.declared.Level.{Level}
 use Rattle.uca_weights.proofs.Lists.{split_at}
-use Rattle.uca_rules.specs.declared.relations.Relation.{Relation}
+use Rattle.uca_relations.specs.declared.Relation.{Relation}
 use Rattle.uca_tailorings.specs.Tailorings.{Tailoring, IsFreshWeight, IsFresh}
 use Rattle.uca_tailorings.proofs.Relating.{one_new}
 use Rattle.uca_audit.specs.declared.conditions.placements.Placement.{Placement}

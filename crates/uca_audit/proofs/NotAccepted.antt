@@ -3,7 +3,7 @@ use Rattle.std.proofs.Common.{⊎_elim, ℕ, List, subst}
 use Rattle.std.specs.List.{AllByRecursion}
 use Rattle.uca_weights.proofs.Lists.{inside}
 use Rattle.uca_check.proofs.WellFormedLemmas.{no_row_without, no_form_fails}
-use Rattle.uca_rules.specs.declared.relations.Relation.{Relation}
+use Rattle.uca_relations.specs.declared.Relation.{Relation}
 use Rattle.uca_tailorings.specs.declared.conditions.Condition.{Condition}
 use Rattle.uca_tailorings.specs.declared.conditions.Condition.TheVariants.{BaseIllFormed, TailoredIllFormed, Header, Uncovered, RowChanged, RowMissing, RowExtra, Anchor, NotPlaced, NotFresh, NotNearest}
 use Rattle.uca_tailorings.specs.Tailorings.{Tailoring, Meets, AllRelations}

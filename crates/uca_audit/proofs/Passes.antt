@@ -4,7 +4,7 @@ use Rattle.std.proofs.Common.{subst, ◌∙◌, append_assoc, arith}
 use Rattle.std.specs.List.{AllZip}
 use Rattle.std.proofs.lemmas.List.{same_from_push, take-append-drop, take_all, drop_all, append-nil}
 use Rattle.uca_weights.proofs.Lists.{not_nil, by_last}
-use Rattle.uca_rules.specs.declared.relations.Relation.{Relation}
+use Rattle.uca_relations.specs.declared.Relation.{Relation}
 use Rattle.uca_tailorings.specs.Tailorings.{AllRelations}
 use Rattle.uca_audit.specs.Refusals.{IsFirstRelationWithout}
 

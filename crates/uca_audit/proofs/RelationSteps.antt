@@ -7,7 +7,7 @@ use Rattle.uca_weights.specs.declared.Level.{Level}
 use Rattle.uca_weights.specs.Levels.{level_of}
 use Rattle.uca_weights.proofs.Lists.{split_at, each_push, taken_more}
 use Rattle.uca_text.specs.Texts.{NfdText}
-use Rattle.uca_rules.specs.declared.relations.Relation.{Relation}
+use Rattle.uca_relations.specs.declared.Relation.{Relation}
 use Rattle.uca_elements.specs.Collations.{Collation, elements_of}
 use Rattle.uca_tailorings.specs.Placing.{IsAnchor}
 use Rattle.uca_tailorings.specs.Tailorings.{Tailoring, anchor_elements, HasAnchorAt, HasAnchor}

@@ -4,7 +4,7 @@ use Rattle.uca_weights.specs.declared.Element.{Element}
 use Rattle.uca_weights.specs.declared.Level.{Level}
 use Rattle.uca_weights.specs.Levels.{level_of}
 use Rattle.uca_text.specs.Texts.{NfdText}
-use Rattle.uca_rules.specs.declared.relations.Relation.{Relation}
+use Rattle.uca_relations.specs.declared.Relation.{Relation}
 use Rattle.uca_elements.specs.Rows.{Rows, rows_of, is_key, IsKey}
 use Rattle.uca_elements.specs.Collations.{Collation}
 use Rattle.uca_tailorings.specs.Placing.{placed}

@@ -3,8 +3,8 @@ use Rattle.std.proofs.Common.{◌≡◌, ℕ, ◌+◌, ◌<◌, List, [], ◌∷
 use Rattle.std.proofs.Common.{Ordering, Equal}
 use Rattle.std.specs.BTreeSet.{insert_key}
 use Rattle.uca_weights.proofs.Lists.{taken_more}
-use Rattle.uca_rules.specs.declared.relations.Relation.{Relation}
-use Rattle.uca_rules.specs.Relations.{IsTarget}
+use Rattle.uca_relations.specs.declared.Relation.{Relation}
+use Rattle.uca_relations.specs.Relations.{IsTarget}
 use Rattle.uca_change_lists.proofs.TextSets.{inserted_iff}
 use Rattle.uca_audit.specs.inside.Chaining.{AreTargetsOf}
 

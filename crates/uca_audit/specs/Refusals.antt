@@ -2,7 +2,7 @@
 use Rattle.std.specs.Prelude.{◌≡◌, ◌⊎◌, ℕ, suc, ◌<◌, List, ◌∷◌, ◌++◌, length}
 use Rattle.std.specs.List.{AllByRecursion}
 use Rattle.uca_check.specs.WellFormed.{IsFirstWithout, IsFirstFailure}
-use Rattle.uca_rules.specs.declared.relations.Relation.{Relation as RelationType}
+use Rattle.uca_relations.specs.declared.Relation.{Relation as RelationType}
 use Rattle.uca_tailorings.specs.Tailorings.{Tailoring, IsCoveredRow, IsUnchangedRow, IsPresentRow, IsPresentTarget, IsExpectedRow, HasAnchor, IsPlaced, IsFresh, IsNearest, Meets, IsAccepted}
 use Rattle.uca_tailorings.specs.declared.conditions.Condition.{Condition}
 use Rattle.uca_tailorings.specs.declared.conditions.Condition.TheVariants.{BaseIllFormed, TailoredIllFormed, Header, Uncovered, RowChanged, RowMissing, RowExtra, Anchor, NotPlaced, NotFresh, NotNearest}

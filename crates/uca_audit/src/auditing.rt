@@ -31,7 +31,7 @@ use std::alloc::Allocator;
 use uca_elements::{Collator, Lookup};
 use uca_images::{Images, know_certificate, know_table};
 use uca_match::Trie;
-use uca_rules::Rules;
+use uca_relations::Rules;
 use uca_tailorings::accepted_tailorings_are_faithful;
 use uca_values::{Data, Table};
 

@@ -23,7 +23,7 @@ use std::alloc::Allocator;
 use uca_check::check;
 use uca_elements::{Collator, Lookup};
 use uca_match::Trie;
-use uca_rules::Rules;
+use uca_relations::Rules;
 use uca_values::Table;
 
 /// Condition 1.

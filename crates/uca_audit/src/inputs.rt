@@ -2,7 +2,7 @@
 
 use crate::Certificate;
 use std::alloc::Allocator;
-use uca_rules::Rules;
+use uca_relations::Rules;
 use uca_values::{Data, Table};
 
 /// What an audit is given.

@@ -7,7 +7,7 @@ ghost use Rattle.uca_tailorings.specs.Tailorings.{elements_of_expansion};
 use std::alloc::{AllocError, Allocator};
 use uca_elements::{Collator, Lookup};
 use uca_match::Trie;
-use uca_rules::Relation;
+use uca_relations::Relation;
 use uca_text::Normal;
 use uca_weights::Element;
 

@@ -6,7 +6,7 @@ ghost use Rattle.uca_audit.specs.inside.Chaining.{AreTargetsOf};
 use std::alloc::{AllocError, Allocator};
 use std::collections::BTreeSet;
 use std::marker::Model;
-use uca_rules::Relation;
+use uca_relations::Relation;
 
 /// The targets of relations, to be looked up by their code points.
 #[derive(Drop)]

@@ -3,8 +3,8 @@ use Rattle.std.proofs.Common.{inl, inr, ⊎_elim, ℕ, List, [], ◌∷◌, None
 use Rattle.std.specs.List.{AllByRecursion}
 use Rattle.std.proofs.lemmas.List.Elements.{Contains-append_right}
 use Rattle.uca_weights.proofs.Lists.{each_weaker}
-use Rattle.uca_rules.specs.declared.relations.Relation.{Relation}
-use Rattle.uca_rules.specs.Relations.{IsTarget}
+use Rattle.uca_relations.specs.declared.Relation.{Relation}
+use Rattle.uca_relations.specs.Relations.{IsTarget}
 use Rattle.uca_elements.specs.Rows.{IsKey, rows_of}
 use Rattle.uca_tailorings.specs.KeptRows.{IsKeptRow, IsKnownRow}
 use Rattle.uca_tailorings.specs.Tailorings.{Tailoring, IsCovered, IsCoveredRow, IsPresentRow, IsUnchangedRow, IsExpectedRow, IsAccepted}

@@ -4,7 +4,7 @@ use Rattle.uca_weights.specs.declared.Depth.{Depth}
 use Rattle.uca_weights.specs.declared.Depth.TheVariants.{Identical}
 use Rattle.uca_weights.specs.declared.Weighting.{Weighting}
 use Rattle.uca_text.specs.Texts.{AreCanonicallyEquivalent, nfd_text}
-use Rattle.uca_rules.specs.Relations.{IsUntouched}
+use Rattle.uca_relations.specs.Relations.{IsUntouched}
 use Rattle.uca_order.specs.Levels.{lexicographic}
 use Rattle.uca_tailorings.specs.Images.{KeepAllWeights}
 use Rattle.uca_tailorings.specs.Tailorings.{Tailoring, IsTailoring, IsAccepted}

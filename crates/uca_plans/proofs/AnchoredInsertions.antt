@@ -8,8 +8,8 @@ use Rattle.uca_weights.specs.declared.Level.TheVariants.{One, Two, Three}
 use Rattle.uca_weights.specs.Levels.{level_of}
 use Rattle.uca_values.specs.Content.{TableContent, Properties, IsTable, AreImplicitRanges}
 use Rattle.uca_check.specs.WellFormed.{elements_of, IsWellFormed}
-use Rattle.uca_rules.specs.declared.relations.Relation.{Relation}
-use Rattle.uca_rules.specs.Relations.{HasRuleTexts, AreRules}
+use Rattle.uca_relations.specs.declared.Relation.{Relation}
+use Rattle.uca_relations.specs.Relations.{HasRuleTexts, AreRules}
 use Rattle.uca_plans.specs.declared.drafts.DraftWeight.{DraftWeight}
 use Rattle.uca_plans.specs.declared.drafts.DraftWeight.TheVariants.{Base, New}
 use Rattle.uca_plans.specs.Lists.{Insertion, base_weights, same_level, inserted, all_inserted}

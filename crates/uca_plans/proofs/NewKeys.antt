@@ -6,8 +6,8 @@ use Rattle.std.proofs.lemmas.List.{append-nil}
 use Rattle.std.proofs.lemmas.List.Elements.{filter_agree}
 use Rattle.uca_values.specs.Content.{keys_of}
 use Rattle.uca_check.specs.WellFormed.{elements_of}
-use Rattle.uca_rules.specs.declared.relations.Relation.{Relation}
-use Rattle.uca_rules.specs.Relations.{AreDistinct}
+use Rattle.uca_relations.specs.declared.Relation.{Relation}
+use Rattle.uca_relations.specs.Relations.{AreDistinct}
 use Rattle.uca_elements.specs.Rows.{rows_of, is_key}
 use Rattle.uca_plans.specs.Plans.{Plan}
 use Rattle.uca_plans.specs.Keys.{is_among, with_key, with_targets}

@@ -11,8 +11,8 @@ use Rattle.uca_values.specs.Content.{AreImplicitRanges}
 use Rattle.uca_check.specs.WellFormed.{elements_of}
 use Rattle.uca_weights.proofs.Lists.{each_weaker, each_append, each_parts}
 use Rattle.uca_text.specs.Texts.{NfdText}
-use Rattle.uca_rules.specs.declared.relations.Relation.{Relation}
-use Rattle.uca_rules.specs.Relations.{IsRuleText, HasRuleTexts}
+use Rattle.uca_relations.specs.declared.Relation.{Relation}
+use Rattle.uca_relations.specs.Relations.{IsRuleText, HasRuleTexts}
 use Rattle.uca_plans.specs.declared.drafts.DraftWeight.{DraftWeight}
 use Rattle.uca_plans.specs.declared.drafts.DraftWeight.TheVariants.{Base, New}
 use Rattle.uca_plans.specs.declared.drafts.DraftElement.{DraftElement}

@@ -3,7 +3,7 @@ use Rattle.std.proofs.Common.{◌≡◌, ℕ, zero, suc, ◌+◌, ◌<◌, List,
 use Rattle.std.proofs.Common.{⊎_elim, arith, is_some, Some}
 use Rattle.std.proofs.lemmas.Bool.{false≢true, false_from_ne_true, or_cases, or_left, or_right, or_from}
 use Rattle.uca_values.specs.Content.{Entry, keys_of, AreDistinct}
-use Rattle.uca_rules.specs.declared.relations.Relation.{Relation}
+use Rattle.uca_relations.specs.declared.Relation.{Relation}
 use Rattle.uca_elements.specs.Rows.{rows_of, same_key}
 use Rattle.uca_elements.proofs.RowsByKey.{same_key-true, same_key-itself}
 use Rattle.uca_plans.specs.Drafts.{DraftRow, row_as_draft}

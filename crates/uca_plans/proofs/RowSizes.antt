@@ -11,8 +11,8 @@ use Rattle.uca_values.specs.declared.ImplicitRange.{ImplicitRange}
 use Rattle.uca_values.specs.Content.{Entry, Properties, IsEntry, AreRows, Fits}
 use Rattle.uca_check.specs.WellFormed.{elements_of}
 use Rattle.uca_text.specs.Texts.{Text, NfdText, classed}
-use Rattle.uca_rules.specs.declared.relations.Relation.{Relation}
-use Rattle.uca_rules.specs.Relations.{IsRuleText, HasRuleTexts}
+use Rattle.uca_relations.specs.declared.Relation.{Relation}
+use Rattle.uca_relations.specs.Relations.{IsRuleText, HasRuleTexts}
 use Rattle.uca_elements.specs.Rows.{same_key}
 use Rattle.uca_elements.specs.Parts.{Part, Row, Implicit, IsPartOf}
 use Rattle.uca_elements.specs.Reading.{Portion, portion, parts}

@@ -6,8 +6,8 @@ use Rattle.std.proofs.lemmas.Bool.{false≢true, or_left, or_right, or_cases, ca
 use Rattle.uca_weights.proofs.Lists.{each_parts, inside}
 use Rattle.uca_text.specs.Texts.{NfdText, code_points, classed}
 use Rattle.uca_text.specs.Occurring.{OccursInOrder}
-use Rattle.uca_rules.specs.declared.relations.Relation.{Relation}
-use Rattle.uca_rules.specs.Relations.{IsTarget, IsUntouched, IsUsedBy, IsRuleText, HasRuleTexts}
+use Rattle.uca_relations.specs.declared.Relation.{Relation}
+use Rattle.uca_relations.specs.Relations.{IsTarget, IsUntouched, IsUsedBy, IsRuleText, HasRuleTexts}
 use Rattle.uca_elements.specs.Rows.{same_key}
 use Rattle.uca_elements.proofs.Parts.{parts_same, key_is_part}
 use Rattle.uca_elements.proofs.RowsByKey.{same_key-true, same_key-itself}

@@ -4,8 +4,8 @@ use Rattle.std.specs.List.{flat_map}
 use Rattle.uca_values.specs.declared.ImplicitRange.{ImplicitRange}
 use Rattle.uca_values.specs.Content.{Properties}
 use Rattle.uca_text.specs.Texts.{NfdText, classed}
-use Rattle.uca_rules.specs.declared.relations.Relation.{Relation}
-use Rattle.uca_rules.specs.Relations.{AreRules}
+use Rattle.uca_relations.specs.declared.Relation.{Relation}
+use Rattle.uca_relations.specs.Relations.{AreRules}
 use Rattle.uca_elements.specs.Rows.{Keys, same_key}
 use Rattle.uca_elements.specs.Reading.{parts}
 use Rattle.uca_plans.specs.declared.drafts.DraftElement.{DraftElement}

@@ -4,8 +4,8 @@ use Rattle.std.specs.List.{filter}
 use Rattle.uca_weights.specs.declared.maps.Run.{Run}
 use Rattle.uca_values.specs.Content.{TableContent, Properties, keys_of}
 use Rattle.uca_elements.specs.Rows.{rows_of, is_key}
-use Rattle.uca_rules.specs.declared.relations.Relation.{Relation}
-use Rattle.uca_rules.specs.Relations.{AreDistinct}
+use Rattle.uca_relations.specs.declared.Relation.{Relation}
+use Rattle.uca_relations.specs.Relations.{AreDistinct}
 use Rattle.uca_certificates.specs.Certificates.{CertificateContent}
 use Rattle.uca_plans.specs.declared.drafts.DraftWeight.{DraftWeight}
 use Rattle.uca_plans.specs.declared.faults.TailorKind.TheVariants as kinds

@@ -16,7 +16,7 @@ use Rattle.uca_weights.specs.declared.maps.Run.{Run}
 use Rattle.uca_plans.specs.declared.faults.TailorKind.{TailorKind}
 use Rattle.uca_plans.specs.declared.faults.TailorKind.TheVariants as kinds
 use Rattle.uca_plans.specs.declared.faults.TailorFault.{TailorFault}
-use Rattle.uca_rules.specs.declared.relations.Relation.{Relation}
+use Rattle.uca_relations.specs.declared.Relation.{Relation}
 use Rattle.uca_weights.specs.Levels.{level_of}
 use Rattle.uca_weights.specs.PerLevel.{PerLevel}
 use Rattle.uca_plans.specs.Lists.{Insertion, members_of, level_has_room, level_numbers, number_in}

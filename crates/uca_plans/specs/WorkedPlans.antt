@@ -10,7 +10,7 @@ use Rattle.uca_elements.specs.WorkedTable.{plain, variable, row, small_rows, sma
 use Rattle.uca_weights.specs.declared.maps.Run.{Run}
 use Rattle.uca_plans.specs.declared.faults.TailorKind.TheVariants as kinds
 use Rattle.uca_plans.specs.declared.faults.TailorFault.{TailorFault}
-use Rattle.uca_rules.specs.declared.relations.Relation.{Relation}
+use Rattle.uca_relations.specs.declared.Relation.{Relation}
 use Rattle.uca_plans.specs.Lists.{low_segment, high_segment}
 use Rattle.uca_plans.specs.Plans.{Basis, Plan, planned}
 use Rattle.uca_plans.specs.Room.{places}

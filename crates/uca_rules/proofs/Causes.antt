@@ -2,8 +2,9 @@
 use Rattle.std.proofs.Common.{◌≡◌, ℕ, ◌≤◌, ⊎_elim, Bool, true, false, List, length, sym, subst, inl, inr, Result, Ok, Err, IfOk, IfErr}
 use Rattle.std.specs.Prelude.{IsUtf8}
 use Rattle.uca_values.specs.Content.{Properties}
+use Rattle.uca_relations.specs.declared.Relation.{Relation}
+use Rattle.uca_relations.specs.Relations.{AreRules}
 use Rattle.uca_rules.specs.declared.characters.Character.{Character}
-use Rattle.uca_rules.specs.declared.relations.Relation.{Relation}
 use Rattle.uca_rules.specs.declared.faults.RuleFault.{RuleFault}
 use Rattle.uca_rules.specs.declared.faults.RuleFaultKind.{RuleFaultKind}
 use Rattle.uca_rules.specs.declared.faults.RuleFaultKind.TheVariants as kinds
@@ -13,7 +14,6 @@ use Rattle.uca_rules.specs.Statements.{last_of}
 use Rattle.uca_rules.specs.Meaning.{Means, relations_of, taken}
 use Rattle.uca_rules.specs.Characters.{characters}
 use Rattle.uca_rules.specs.Faults.{TextCause, StatementCause, RelationCause, HasCause, IsInside, IsCause}
-use Rattle.uca_rules.specs.Relations.{AreRules}
 use Rattle.uca_rules.specs.inside.Reading.{IsReadingFault, ReadsAll}
 use Rattle.uca_rules.proofs.Suffixes.{place_within}
 

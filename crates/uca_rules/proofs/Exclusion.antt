@@ -11,8 +11,9 @@ use Rattle.unicode_normalization.specs.Forms.{nfd}
 use Rattle.uca_weights.specs.declared.Strength.{Strength}
 use Rattle.uca_values.specs.Content.{Properties}
 use Rattle.uca_text.specs.Occurring.{OccursInOrder}
+use Rattle.uca_relations.specs.declared.Relation.{Relation}
+use Rattle.uca_relations.specs.Relations.{AreRules, IsLate}
 use Rattle.uca_rules.specs.declared.characters.Character.{Character}
-use Rattle.uca_rules.specs.declared.relations.Relation.{Relation}
 use Rattle.uca_rules.specs.declared.signs.Preceding.{Preceding}
 use Rattle.uca_rules.specs.declared.signs.Preceding.TheVariants as lasts
 use Rattle.uca_rules.specs.declared.faults.RuleFaultKind.{RuleFaultKind}
@@ -20,7 +21,6 @@ use Rattle.uca_rules.specs.declared.faults.RuleFaultKind.TheVariants as kinds
 use Rattle.uca_rules.specs.Characters.{characters, after_gaps, ampersand, apostrophe, backslash, hyphen, bracket, less_than}
 use Rattle.uca_rules.specs.Pieces.{Symbol, Literal, Hyphen, Piece, is_plain, inside_quotes, after_apostrophe, number_at, numbered, after_backslash, piece_at, ArePieces, symbols_of, BeginsText}
 use Rattle.uca_rules.specs.Statements.{SignAt, sign_at, count_less, bracket_at, BeginsBracket, No_start, HasRanges, targets_of, Statement, Reset, Plain, Starred, BeginsStatement, Resets, Signs, opening, MayFollow, MayEnd, AreInOrder, last_is, last_of}
-use Rattle.uca_rules.specs.Relations.{AreRules, IsLate}
 use Rattle.uca_rules.specs.Meaning.{Anchor, Taken, after_target, one_letter, anchor_after, starred_relations, relations_in, relations_from, no_anchor, taken, relations_of, IsShort, HasShortTexts, Means}
 use Rattle.uca_rules.specs.Faults.{may_begin, IsMisplaced, IsWrongBracket, IsSign, IsWrongStrength, StatementCause, RelationCause, InText, InRelation, InStarred, HasCause}
 use Rattle.uca_rules.specs.Laws.{ACauseExcludesAMeaning}

@@ -5,9 +5,9 @@ use Rattle.std.proofs.lemmas.List.{length-append, take_more}
 use Rattle.std.proofs.lemmas.List.Elements.{Contains-push, Contains-push_cases, Contains-append_left}
 use Rattle.uca_text.specs.Texts.{NfdText}
 use Rattle.uca_text.specs.Occurring.{OccursInOrder}
-use Rattle.uca_rules.specs.declared.relations.Relation.{Relation}
+use Rattle.uca_relations.specs.declared.Relation.{Relation}
+use Rattle.uca_relations.specs.Relations.{IsTarget, IsUsedBy, IsUntouched, HasRuleTexts, AreRules, IsHeld}
 use Rattle.uca_rules.specs.declared.growing.RulesBuilder.{RulesBuilder}
-use Rattle.uca_rules.specs.Relations.{IsTarget, IsUsedBy, IsUntouched, HasRuleTexts, AreRules, IsHeld}
 use Rattle.uca_rules.specs.inside.Growing.{held_texts, AreGrowing}
 
 -- ---- The last of relations, or an earlier one

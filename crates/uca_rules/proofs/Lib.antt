@@ -1,4 +1,3 @@
-pub mod Searches
 pub mod HeldTexts
 pub mod Placing
 pub mod Quotes

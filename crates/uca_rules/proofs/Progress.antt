@@ -6,9 +6,9 @@ use Rattle.std.proofs.lemmas.List.{append_assoc, length-map, map-append, nil_fro
 use Rattle.uca_weights.specs.declared.Strength.{Strength}
 use Rattle.unicode_normalization.specs.Forms.{nfd}
 use Rattle.uca_values.specs.Content.{Properties, properties_of}
+use Rattle.uca_relations.specs.declared.Relation.{Relation}
 use Rattle.uca_rules.specs.declared.text_reader.TextReader.{TextReader}
 use Rattle.uca_rules.specs.declared.characters.Character.{Character}
-use Rattle.uca_rules.specs.declared.relations.Relation.{Relation}
 use Rattle.uca_rules.specs.declared.faults.RuleFault.{RuleFault}
 use Rattle.uca_rules.specs.declared.faults.RuleFaultKind.TheVariants as kinds
 use Rattle.uca_rules.specs.declared.signs.Preceding.{Preceding}

@@ -15,7 +15,7 @@ use Rattle.uca_text.specs.Texts.{NfdText, nfd_text}
 use Rattle.uca_text.specs.Limits.{IsAccepted}
 use Rattle.uca_text.specs.declared.normalize.TextFault.TheVariants.{TooLong, LongRun}
 use Rattle.uca_text.specs.Faults.{IsCause}
-use Rattle.uca_rules.specs.Relations.{IsRuleText}
+use Rattle.uca_relations.specs.Relations.{IsRuleText}
 use Rattle.uca_rules.specs.declared.characters.Character.{Character}
 use Rattle.uca_rules.specs.declared.faults.RuleFaultKind.{RuleFaultKind}
 use Rattle.uca_rules.specs.declared.faults.RuleFaultKind.TheVariants as kinds

@@ -8,8 +8,9 @@ use Rattle.std.proofs.lemmas.List.FromFn.{map-range_with_len_more}
 use Rattle.uca_weights.specs.declared.Strength.{Strength}
 use Rattle.uca_text.specs.Texts.{NfdText}
 use Rattle.uca_values.specs.Content.{Properties, properties_of}
+use Rattle.uca_relations.specs.declared.Relation.{Relation}
+use Rattle.uca_relations.specs.Relations.{IsRuleText}
 use Rattle.uca_rules.specs.declared.characters.Character.{Character}
-use Rattle.uca_rules.specs.declared.relations.Relation.{Relation}
 use Rattle.uca_rules.specs.declared.faults.RuleFault.{RuleFault}
 use Rattle.uca_rules.specs.declared.text_reader.TextReader.{TextReader}
 use Rattle.uca_rules.specs.declared.reader.Reader.{Reader}
@@ -18,7 +19,6 @@ use Rattle.uca_rules.specs.Pieces.{Symbol, Literal, Hyphen, BeginsText}
 use Rattle.uca_rules.specs.Statements.{Statement, Starred, between, placed_at, targets_of, HasRanges, IsRange, IsNoRange}
 use Rattle.uca_rules.specs.Meaning.{Anchor, Taken, IsShort, after_target, after_targets, one_letter, relations_of, starred_relations}
 use Rattle.uca_rules.specs.Faults.{RelationCause}
-use Rattle.uca_rules.specs.Relations.{IsRuleText}
 use Rattle.uca_rules.specs.inside.Views.{IsMemoryAt}
 use Rattle.uca_rules.proofs.Suffixes.{pieces_end}
 use Rattle.uca_rules.specs.inside.Reading.{Adds, AddsOne, HasRelationCause, HasTargetFault, IsOverLimit, IsReady, IsStarredFault, IsTextOf, Keeps, State, anchor_of, properties_in, relation_of, state_of}

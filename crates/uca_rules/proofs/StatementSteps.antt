@@ -5,8 +5,9 @@ use Rattle.std.proofs.lemmas.List.{append-nil}
 use Rattle.uca_weights.specs.declared.Strength.{Strength}
 use Rattle.uca_values.specs.Content.{Properties}
 use Rattle.uca_text.specs.Texts.{NfdText, nfd_text}
+use Rattle.uca_relations.specs.declared.Relation.{Relation}
+use Rattle.uca_relations.specs.Relations.{IsRuleText}
 use Rattle.uca_rules.specs.declared.characters.Character.{Character}
-use Rattle.uca_rules.specs.declared.relations.Relation.{Relation}
 use Rattle.uca_rules.specs.declared.faults.RuleFault.{RuleFault}
 use Rattle.uca_rules.specs.declared.signs.Preceding.{Preceding}
 use Rattle.uca_rules.specs.declared.signs.Preceding.TheVariants as lasts
@@ -18,7 +19,6 @@ use Rattle.uca_rules.specs.Pieces.{Symbol, Written, ArePieces, BeginsWritten}
 use Rattle.uca_rules.specs.Statements.{IsNotAt, Statement, Reset, Plain, Starred, Resets, Signs, IsAnchorDue, IsTargetDue, BeginsExpansion, BeginsStatement, IsExpansionDue, bracket_at, sign_at, MayFollow, last_is, opening, targets_of}
 use Rattle.uca_rules.specs.Meaning.{Anchor, IsShort, Taken, relations_in, relations_of, anchor_after}
 use Rattle.uca_rules.specs.inside.Views.{IsMemoryAt, IsTextFault}
-use Rattle.uca_rules.specs.Relations.{IsRuleText}
 use Rattle.uca_rules.specs.Faults.{IsWrongBracket, RelationCause}
 use Rattle.uca_rules.specs.inside.Reading
 use Rattle.uca_rules.specs.inside.Reading.{State, IsTextOf, BeginsNext, HasRelationCause, IsMemoryIn, IsPlainFault, IsStarredFault, IsNextFault, AreTextsOf, Keeps, Adds, AddsOne, AddsPlain, AddsStarred, GoesOn, first_code, relation_of, properties_in, anchor_of, state_of}

@@ -1,10 +1,10 @@
 -- What the definitions give for some rules.
 use Rattle.std.proofs.Common.{◌≡◌, ℕ, List, [], ◌∷◌, ◌++◌, codes, false, Some, None, inl, inr, refl, sym, ap, subst, arith}
 use Rattle.uca_weights.specs.declared.Strength.TheVariants.{Primary, Identical}
+use Rattle.uca_relations.specs.declared.Relation.{Relation}
+use Rattle.uca_relations.specs.Relations.{IsTarget, IsUsedBy, IsLate}
 use Rattle.uca_rules.specs.declared.characters.Character.{Character}
-use Rattle.uca_rules.specs.declared.relations.Relation.{Relation}
 use Rattle.uca_rules.specs.Pieces.{Literal, piece_at, EndsText, BeginsWritten}
-use Rattle.uca_rules.specs.Relations.{IsTarget, IsUsedBy, IsLate}
 use Rattle.uca_rules.specs.Statements.{BeginsReset, BeginsPlain}
 use Rattle.uca_rules.specs.Worked.{from, less, WorkedRules}
 

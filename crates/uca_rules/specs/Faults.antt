@@ -4,8 +4,9 @@ use Rattle.std.specs.Str.{IsValidUpTo}
 use Rattle.unicode_normalization.specs.Forms.{nfd}
 use Rattle.uca_weights.specs.declared.Strength.{Strength}
 use Rattle.uca_values.specs.Content.{Properties}
+use Rattle.uca_relations.specs.declared.Relation.{Relation}
+use Rattle.uca_relations.specs.Relations.{IsTarget, IsLate}
 use Rattle.uca_rules.specs.declared.characters.Character.{Character}
-use Rattle.uca_rules.specs.declared.relations.Relation.{Relation}
 use Rattle.uca_rules.specs.declared.signs.Preceding.{Preceding}
 use Rattle.uca_rules.specs.declared.signs.Preceding.TheVariants as lasts
 use Rattle.uca_rules.specs.declared.faults.RuleFaultKind.{RuleFaultKind}
@@ -13,7 +14,6 @@ use Rattle.uca_rules.specs.declared.faults.RuleFaultKind.TheVariants as kinds
 use Rattle.uca_rules.specs.Characters.{characters, place_of, after_gaps, ampersand, apostrophe, backslash, bracket, equals_sign, less_than, slash}
 use Rattle.uca_rules.specs.Pieces.{Symbol, Literal, Hyphen, piece_at, begins_piece, ArePieces, symbols_of, EndsText, BeginsText, points_of, Written, BeginsWritten}
 use Rattle.uca_rules.specs.Statements.{Statement, Starred, Opening, Resets, Signs, SignAt, sign_at, count_less, bracket_at, IsAnchorDue, IsTargetDue, IsExpansionDue, IsNoRange, AreStatements, MayFollow, AreInOrder, last_of, MayEnd}
-use Rattle.uca_rules.specs.Relations.{IsTarget, IsLate}
 use Rattle.uca_rules.specs.Meaning.{Taken, taken, relations_of}
 
 -- ---- Causes where a text must come

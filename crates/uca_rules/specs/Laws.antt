@@ -1,9 +1,9 @@
 -- Laws of rules, as statements.
 use Rattle.std.specs.Prelude.{◌≡◌, ◌≢◌, ℕ, List}
 use Rattle.uca_values.specs.Content.{Properties}
+use Rattle.uca_relations.specs.declared.Relation.{Relation}
 use Rattle.uca_rules.specs.declared.faults.RuleFaultKind.{RuleFaultKind}
 use Rattle.uca_rules.specs.declared.faults.RuleFaultKind.TheVariants as kinds
-use Rattle.uca_rules.specs.declared.relations.Relation.{Relation}
 use Rattle.uca_rules.specs.Meaning.{Means}
 use Rattle.uca_rules.specs.Faults.{IsCause}
 

@@ -1,7 +1,6 @@
 pub mod Characters
 pub mod Pieces
 pub mod Statements
-pub mod Relations
 pub mod Meaning
 pub mod Faults
 pub mod FaultText

@@ -5,11 +5,11 @@ use Rattle.unicode_normalization.specs.Forms.{nfd}
 use Rattle.uca_weights.specs.declared.Strength.{Strength}
 use Rattle.uca_values.specs.Content.{Properties}
 use Rattle.uca_text.specs.Texts.{NfdText, nfd_text}
+use Rattle.uca_relations.specs.declared.Relation.{Relation}
+use Rattle.uca_relations.specs.Relations.{AreRules}
 use Rattle.uca_rules.specs.declared.characters.Character.{Character}
-use Rattle.uca_rules.specs.declared.relations.Relation.{Relation}
 use Rattle.uca_rules.specs.Characters.{characters}
 use Rattle.uca_rules.specs.Statements.{Statement, Reset, Plain, Starred, AreStatements, AreChains}
-use Rattle.uca_rules.specs.Relations.{AreRules}
 
 -- a relation, and the position where its target is written
 pub record Taken : Type 0 where

@@ -1,11 +1,11 @@
 -- What the definitions give for some rules, worked out.
 use Rattle.std.specs.Prelude.{◌≡◌, ℕ, true, false, List, [], ◌∷◌, ◌++◌, codes, Some, None}
 use Rattle.uca_weights.specs.declared.Strength.TheVariants.{Primary, Secondary, Tertiary, Identical}
+use Rattle.uca_relations.specs.declared.Relation.{Relation}
+use Rattle.uca_relations.specs.Relations.{IsHeld, IsLate}
 use Rattle.uca_rules.specs.declared.characters.Character.{Character}
 use Rattle.uca_rules.specs.Characters.{placed_from, codes_of, after_gaps}
 use Rattle.uca_rules.specs.Pieces.{Symbol, Literal, Hyphen, piece_at}
-use Rattle.uca_rules.specs.declared.relations.Relation.{Relation}
-use Rattle.uca_rules.specs.Relations.{IsHeld, IsLate}
 use Rattle.uca_rules.specs.Statements.{Reset, Plain, sign_at, bracket_at, targets_of, AreStatements}
 
 -- the characters of ASCII text, from a position on

@@ -3,15 +3,15 @@
 
 ghost use Rattle.std.specs.Prelude.{◌≡◌, ◌<◌, ◌++◌, ◌∷◌, [], ◌⊎◌, ℕ, Contains, IfErr, IsFalse, IsTrue, List, OnOk, length};
 ghost use Rattle.uca_text.specs.Occurring.{OccursInOrder};
+ghost use Rattle.uca_relations.specs.Relations.{AreRules, HasRuleTexts};
 ghost use Rattle.uca_rules.specs.declared.faults.RuleFaultKind.{RuleFaultKind};
-ghost use Rattle.uca_rules.specs.Relations.{AreRules, HasRuleTexts};
 ghost use Rattle.uca_rules.specs.Faults.{RelationCause};
 ghost use Rattle.uca_rules.specs.inside.Growing.{Admits, AreGrowing, Holds, HoldsOwn};
 
 use crate::faults::RuleFaultKind;
-use crate::relations::{Relation, Rules, is_target};
 use std::alloc::{AllocError, Allocator};
 use std::marker::Model;
+use uca_relations::{Relation, Rules, is_target, rules_of};
 use uca_text::occurs_in_order;
 
 /// The relations that have been read.
@@ -129,9 +129,7 @@ impl<A: Allocator + Copy> RulesBuilder<A> {
         requires { AreGrowing self }
         ensures { result ≡ self.relations.items }
     {
-        Rules {
-            relations: self.relations,
-        }
+        rules_of(self.relations)
     }
 }
 

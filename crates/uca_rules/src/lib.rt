@@ -1,5 +1,5 @@
-//! Tailoring rules (UTS #35 Part 5, section 3): a reader for a profile of their syntax, the relations that they mean,
-//! and the texts that they leave as they are.
+//! The reader of tailoring rules (UTS #35 Part 5, section 3), for a profile of their syntax. What it reads, relations and
+//! rules, are values of `uca_relations`.
 //!
 //! Rules are read in steps of their own:
 //!
@@ -17,7 +17,6 @@ mod growing;
 mod laws;
 mod pieces;
 mod reader;
-mod relations;
 mod signs;
 mod starred;
 mod text_reader;
@@ -28,4 +27,4 @@ pub use laws::{
     bytes_mean_at_most_one_list_of_relations, bytes_with_a_fault_mean_nothing, worked_rules,
 };
 pub use reader::{read_rules, read_rules_in};
-pub use relations::{Relation, Rules};
+pub use uca_relations::{Relation, Rules};

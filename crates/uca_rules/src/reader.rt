@@ -4,11 +4,11 @@
 ghost use Rattle.std.specs.Prelude.{◌≡◌, ◌≢◌, ◌⊎◌, ◌<◌, ◌≤◌, ◌++◌, ◌∷◌, [], ℕ, List, None, Some, IsFalse, IsTrue, length, IfOk, IfErr, IfSome, OnOk, MatchResult};
 ghost use Rattle.uca_values.specs.Content.{properties_of};
 ghost use Rattle.uca_weights.specs.declared.Strength.{Strength};
-ghost use Rattle.uca_rules.specs.declared.relations.Relation.{Relation};
+ghost use Rattle.uca_relations.specs.declared.Relation.{Relation};
+ghost use Rattle.uca_relations.specs.Relations.{AreRules, IsRuleText};
 ghost use Rattle.uca_rules.specs.declared.signs.Preceding.{Preceding};
 ghost use Rattle.uca_rules.specs.declared.faults.RuleFaultKind.{RuleFaultKind};
 ghost use Rattle.uca_rules.specs.Characters;
-ghost use Rattle.uca_rules.specs.Relations.{AreRules, IsRuleText};
 ghost use Rattle.uca_rules.specs.Meaning.{Means};
 ghost use Rattle.uca_rules.specs.inside.Growing.{AreGrowing};
 ghost use Rattle.uca_rules.specs.Faults.{IsCause, IsWrongBracket, RelationCause, StatementCause};
@@ -20,12 +20,12 @@ ghost use Rattle.uca_rules.specs.inside.Reading.{AddsOne, AddsPlain, GoesOn, IsN
 use crate::characters::{Character, after_gaps, characters};
 use crate::faults::{RuleFault, RuleFaultKind};
 use crate::growing::RulesBuilder;
-use crate::relations::{Relation, Rules};
 use crate::signs::{BRACKET_LENGTH, Preceding, Sign, bracket_at, sign_at};
 use crate::text_reader::TextReader;
 use crate::texts::place_of;
 use std::alloc::{AllocError, Allocator, Global};
 use std::{mem, str};
+use uca_relations::{Relation, Rules};
 use uca_text::Normal;
 use uca_values::Data;
 use uca_weights::Strength;

@@ -1,9 +1,9 @@
 //! Reading the targets of a starred text, each range one code point at a time.
 
 ghost use Rattle.std.specs.Prelude.{◌≡◌, ◌≢◌, ◌<◌, ◌++◌, ◌∷◌, [], ℕ, List, length, IfErr, IfNone, IfOk, IfSome, OnOk};
+ghost use Rattle.uca_relations.specs.Relations.{IsRuleText};
 ghost use Rattle.uca_rules.specs.declared.characters.Character.{Character};
 ghost use Rattle.uca_rules.specs.declared.characters.Symbol.{Symbol};
-ghost use Rattle.uca_rules.specs.Relations.{IsRuleText};
 ghost use Rattle.uca_rules.specs.Statements.{HasRanges, IsRange, Starred, between, targets_of};
 ghost use Rattle.uca_rules.specs.inside.Reading.{Adds, AddsStarred, HasTargetFault, IsReady, IsStarredFault, properties_in, state_of};
 

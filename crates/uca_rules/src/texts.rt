@@ -4,10 +4,10 @@
 ghost use Rattle.std.specs.Prelude.{◌≡◌, ℕ, ◌<◌, ◌≤◌, ◌≢◌, ◌⊎◌, ◌∷◌, ◌++◌, [], ◌↔◌, take, IsTrue, IsFalse, Some, None, length, List, IfOk, IfErr, OnOk, MatchOption, true, false};
 ghost use Rattle.uca_values.specs.Content.{properties_of};
 ghost use Rattle.uca_text.specs.Texts.{nfd_text};
+ghost use Rattle.uca_relations.specs.Relations.{IsRuleText};
 ghost use Rattle.uca_rules.specs.Characters;
 ghost use Rattle.uca_rules.specs.Pieces.{BeginsText, EndsText, piece_at, points_of};
 ghost use Rattle.uca_rules.specs.Statements.{HasRanges, HasRangesSoFar, IsRange};
-ghost use Rattle.uca_rules.specs.Relations.{IsRuleText};
 ghost use Rattle.uca_rules.specs.Faults;
 ghost use Rattle.uca_rules.specs.Faults.{TextCause};
 ghost use Rattle.uca_rules.specs.inside.Reading.{IsNoRuleText};

@@ -7,8 +7,8 @@ use Rattle.std.proofs.lemmas.Bool.Decides.{Decides-eqb, Decides-and, Decides-or,
 use Rattle.uca_text.specs.Occurring.{OccursInOrder}
 use Rattle.uca_text.specs.Texts.{NfdText}
 use Rattle.uca_lines.specs.Lines.{ended}
-use Rattle.uca_rules.specs.declared.relations.Relation.{Relation}
-use Rattle.uca_rules.specs.Relations.{IsUntouched}
+use Rattle.uca_relations.specs.declared.Relation.{Relation}
+use Rattle.uca_relations.specs.Relations.{IsUntouched}
 use Rattle.uca_run_parts.specs.AffectedRun.{occurs_in_order, is_affected, if_so, AffectedTextsAreTheOthers}
 use Rattle.uca_weights.proofs.Tests.{by_cases}
 

@@ -5,8 +5,8 @@ use Rattle.uca_weights.specs.Streams.{SourceState, SinkState}
 use Rattle.uca_values.specs.Content.{Properties}
 use Rattle.uca_text.specs.Texts.{nfd_text}
 use Rattle.uca_lines.specs.Lines.{ended}
-use Rattle.uca_rules.specs.declared.relations.Relation.{Relation}
-use Rattle.uca_rules.specs.Relations.{IsUntouched}
+use Rattle.uca_relations.specs.declared.Relation.{Relation}
+use Rattle.uca_relations.specs.Relations.{IsUntouched}
 use Rattle.uca_run_parts.specs.declared.faults.RunFault.{RunFault}
 use Rattle.uca_run_parts.specs.EachLine.{RunsEach, PrintsEach, ended_before_input}
 use Rattle.uca_run_parts.specs.Files.{DataAndRules, data_and_rules, data_and_rules_roles}

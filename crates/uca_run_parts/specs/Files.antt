@@ -6,7 +6,7 @@ use Rattle.uca_values.specs.declared.faults.TableFault.{TableFault}
 use Rattle.uca_lines.specs.FileStops as lines
 use Rattle.uca_table.specs.TableLines as tables
 use Rattle.uca_table.specs.DataSoFar as data_files
-use Rattle.uca_rules.specs.declared.relations.Relation.{Relation}
+use Rattle.uca_relations.specs.declared.Relation.{Relation}
 use Rattle.uca_rules.specs.Meaning as rule_files
 use Rattle.uca_rules.specs.Faults as rule_faults
 use Rattle.uca_rules.specs.declared.faults.RuleFaultKind.TheVariants as rule_kinds

@@ -3,7 +3,7 @@ use Rattle.std.specs.Prelude.{◌≡◌, ℕ, ◌<◌, ◌≤◌, List, [], ◌�
 use Rattle.std.specs.Io.KnownBytes.{Consumes, IsAtEnd}
 use Rattle.uca_weights.specs.Streams.{SourceState}
 use Rattle.uca_values.specs.Content.{Properties, TableContent}
-use Rattle.uca_rules.specs.declared.relations.Relation.{Relation}
+use Rattle.uca_relations.specs.declared.Relation.{Relation}
 use Rattle.uca_certificates.specs.Certificates.{CertificateContent}
 use Rattle.uca_run_parts.specs.declared.faults.FileFault.{FileFault}
 use Rattle.uca_run_parts.specs.declared.faults.FileFault.TheVariants.{RulesRead, RulesMemory}

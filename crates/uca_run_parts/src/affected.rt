@@ -19,7 +19,7 @@ use crate::rule_file::read_data_and_rules;
 use std::alloc::{Allocator, Global};
 use std::io::{Read, Write};
 use uca_lines::{LINE_LIMIT, OutputBuffer};
-use uca_rules::Rules;
+use uca_relations::Rules;
 use uca_text::Normal;
 use uca_values::Data;
 use uca_weights::{Sink, Source};

@@ -12,7 +12,7 @@ use crate::tailor_files::{TailorFiles, read_files_over};
 use std::alloc::{Allocator, Global};
 use std::io::Read;
 use uca_certificates::Certificate;
-use uca_rules::Rules;
+use uca_relations::Rules;
 use uca_values::{Data, Table};
 use uca_weights::Source;
 

@@ -11,7 +11,8 @@ use crate::faults::{FileFault, Role, RunFault};
 use crate::files::read_data_file;
 use std::alloc::{Allocator, Global};
 use std::io::Read;
-use uca_rules::{Rules, read_rules_in};
+use uca_relations::Rules;
+use uca_rules::read_rules_in;
 use uca_values::Data;
 use uca_weights::Source;
 

@@ -10,7 +10,7 @@ use crate::files::read_table_file;
 use crate::rule_file::read_data_and_rules;
 use std::alloc::{Allocator, Global};
 use std::io::Read;
-use uca_rules::Rules;
+use uca_relations::Rules;
 use uca_values::{Data, Table};
 use uca_weights::Source;
 

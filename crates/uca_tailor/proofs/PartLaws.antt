@@ -1,7 +1,7 @@
 -- The parts of a plan: its drafts, its numbers and its certificate.
 use Rattle.std.proofs.Common.{◌≡◌, ◌∙◌, List, Ok, ap}
 use Rattle.uca_check.specs.WellFormed.{elements_of}
-use Rattle.uca_rules.specs.declared.relations.Relation.{Relation}
+use Rattle.uca_relations.specs.declared.Relation.{Relation}
 use Rattle.uca_certificates.specs.Certificates.{IsCertificate}
 use Rattle.uca_plans.specs.Drafts.{DraftRow}
 use Rattle.uca_plans.specs.Plans.{Basis, Drafting, with_relations, begun, LevelPlans, plan_of, plan_drafted, planned}

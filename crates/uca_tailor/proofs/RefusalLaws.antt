@@ -6,7 +6,7 @@ use Rattle.uca_values.specs.Content.{Entry, TableContent, Properties}
 use Rattle.uca_check.specs.declared.IllFormed.{IllFormed}
 use Rattle.uca_check.specs.WellFormed.{IsWellFormed, IsFirstFailure, elements_of}
 use Rattle.uca_check.proofs.WellFormedLemmas.{no_form_fails}
-use Rattle.uca_rules.specs.declared.relations.Relation.{Relation}
+use Rattle.uca_relations.specs.declared.Relation.{Relation}
 use Rattle.uca_weights.specs.declared.Level.TheVariants.{One, Two, Three}
 use Rattle.uca_plans.proofs.PlanSteps.{level_plans}
 use Rattle.uca_plans.proofs.RelationKinds.{IsRelationKind, relations_kind}

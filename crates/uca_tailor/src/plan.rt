@@ -21,7 +21,7 @@ use std::alloc::{AllocError, Allocator};
 use std::marker::Model;
 use uca_certificates::Certificate;
 use uca_plans::{DraftElement, Insertion, TailorFault, TailorKind};
-use uca_rules::Rules;
+use uca_relations::Rules;
 use uca_values::{Data, Header, Row, Table};
 use uca_weights::{Element, Level, Run, WeightMap};
 

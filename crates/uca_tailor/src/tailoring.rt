@@ -15,7 +15,7 @@ use uca_acceptance::{plans_are_accepted, plans_are_faithful};
 use uca_certificates::Certificate;
 use uca_check::check;
 use uca_plans::{TailorFault, TailorKind};
-use uca_rules::Rules;
+use uca_relations::Rules;
 use uca_values::{Data, Table};
 
 /// Makes a tailored table from a base and rules, and its certificate. The table has the base's header, then its rows in their

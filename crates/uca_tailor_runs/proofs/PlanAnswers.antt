@@ -1,7 +1,7 @@
 -- What a run returns for a plan, and for an error of the planner.
 use Rattle.std.proofs.Common.{◌≡◌, ℕ, List, false, Err, refl, ap, sym, ◌∙◌}
 use Rattle.uca_values.specs.Content.{HeaderContent, TableContent, Properties}
-use Rattle.uca_rules.specs.declared.relations.Relation.{Relation}
+use Rattle.uca_relations.specs.declared.Relation.{Relation}
 use Rattle.uca_certificates.specs.Certificates.{CertificateContent}
 use Rattle.uca_plans.specs.declared.faults.TailorFault.{TailorFault}
 use Rattle.uca_plans.specs.declared.faults.TailorKind.{TailorKind}

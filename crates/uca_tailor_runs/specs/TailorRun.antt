@@ -5,7 +5,7 @@ use Rattle.uca_weights.specs.Streams.{SourceState, SinkState}
 use Rattle.uca_weights.specs.Writes.{WentOut}
 use Rattle.uca_values.specs.Content.{TableContent, Properties}
 use Rattle.uca_table.specs.Canonical.{canonical}
-use Rattle.uca_rules.specs.declared.relations.Relation.{Relation}
+use Rattle.uca_relations.specs.declared.Relation.{Relation}
 use Rattle.uca_certificates.specs.Certificates.{CertificateContent}
 use Rattle.uca_certificates.specs.Texts.{certificate_text}
 use Rattle.uca_tailorings.specs.Tailorings.{IsAccepted}

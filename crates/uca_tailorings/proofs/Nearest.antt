@@ -11,8 +11,8 @@ use Rattle.uca_weights.specs.Levels.{weight, level_of}
 use Rattle.uca_weights.specs.Maps.{Sends, IsRisingMap}
 use Rattle.uca_values.specs.Content.{Entry}
 use Rattle.uca_values.specs.Implicit.{implicit_pair, implicit}
-use Rattle.uca_rules.specs.declared.relations.Relation.{Relation}
-use Rattle.uca_rules.specs.Relations.{IsTarget}
+use Rattle.uca_relations.specs.declared.Relation.{Relation}
+use Rattle.uca_relations.specs.Relations.{IsTarget}
 use Rattle.uca_elements.specs.Rows.{rows_of}
 use Rattle.uca_elements.specs.Laws.{AreRelatedRows}
 use Rattle.uca_weights.proofs.PerLevel.{holds_at}

@@ -10,8 +10,8 @@ use Rattle.uca_weights.specs.declared.Weighting.TheVariants.{NonIgnorable, Shift
 use Rattle.uca_weights.specs.Levels.{weight, level_of}
 use Rattle.uca_values.specs.Implicit.{implicit}
 use Rattle.uca_text.specs.Texts.{NfdText, code_points, classed}
-use Rattle.uca_rules.specs.declared.relations.Relation.{Relation}
-use Rattle.uca_rules.specs.Relations.{IsRuleText, HasRuleTexts}
+use Rattle.uca_relations.specs.declared.Relation.{Relation}
+use Rattle.uca_relations.specs.Relations.{IsRuleText, HasRuleTexts}
 use Rattle.uca_elements.specs.Rows.{rows_of}
 use Rattle.uca_elements.specs.Collations.{elements_of}
 use Rattle.uca_elements.proofs.ReadingLemmas.{key_reads_as_row}

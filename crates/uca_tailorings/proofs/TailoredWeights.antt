@@ -9,8 +9,8 @@ use Rattle.uca_values.specs.Implicit.{implicit}
 use Rattle.uca_weights.proofs.Lists.{each_weaker}
 use Rattle.uca_text.specs.Texts.{NfdText, code_points, classed}
 use Rattle.uca_text.specs.Occurring.{OccursInOrder}
-use Rattle.uca_rules.specs.declared.relations.Relation.{Relation}
-use Rattle.uca_rules.specs.Relations.{IsTarget, IsUntouched, IsRuleText, HasRuleTexts}
+use Rattle.uca_relations.specs.declared.Relation.{Relation}
+use Rattle.uca_relations.specs.Relations.{IsTarget, IsUntouched, IsRuleText, HasRuleTexts}
 use Rattle.uca_elements.specs.Rows.{IsKey, rows_of}
 use Rattle.uca_elements.specs.Collations.{elements_of}
 use Rattle.uca_elements.proofs.ReadingLemmas.{some_row}

@@ -13,8 +13,8 @@ use Rattle.uca_text.specs.Texts.{NfdText, with_classes, classed, code_points}
 use Rattle.uca_text.specs.Limits.{IsNormal}
 use Rattle.uca_text.specs.Occurring.{OccursInOrder}
 use Rattle.uca_text.proofs.Occurring.{occurs_trans, each_occurring}
-use Rattle.uca_rules.specs.declared.relations.Relation.{Relation}
-use Rattle.uca_rules.specs.Relations.{IsTarget, IsUntouched}
+use Rattle.uca_relations.specs.declared.Relation.{Relation}
+use Rattle.uca_relations.specs.Relations.{IsTarget, IsUntouched}
 use Rattle.uca_elements.specs.Rows.{rows_of}
 use Rattle.uca_elements.specs.Collations.{elements_of}
 use Rattle.uca_elements.proofs.RelatedReading.{read_related}

@@ -8,8 +8,8 @@ use Rattle.uca_weights.specs.declared.Level.TheVariants.{One, Two, Three}
 use Rattle.uca_weights.specs.Levels.{weight}
 use Rattle.uca_weights.specs.Runs.{weight_image}
 use Rattle.uca_text.specs.Occurring.{OccursInOrder}
-use Rattle.uca_rules.specs.declared.relations.Relation.{Relation}
-use Rattle.uca_rules.specs.Relations.{IsTarget, IsUsedBy, IsUntouched, AreRules}
+use Rattle.uca_relations.specs.declared.Relation.{Relation}
+use Rattle.uca_relations.specs.Relations.{IsTarget, IsUsedBy, IsUntouched, AreRules}
 use Rattle.uca_elements.specs.WorkedTable.{plain, small_properties}
 use Rattle.uca_tailorings.specs.Images.{IsImage}
 use Rattle.uca_tailorings.specs.Placing.{IsAnchor, IsLow}

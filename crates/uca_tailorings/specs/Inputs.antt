@@ -3,7 +3,7 @@ use Rattle.std.specs.Prelude.{List}
 use Rattle.uca_weights.specs.declared.Level.TheVariants.{One, Two, Three}
 use Rattle.uca_weights.specs.Runs.{weight_image}
 use Rattle.uca_values.specs.Content.{TableContent, Properties}
-use Rattle.uca_rules.specs.declared.relations.Relation.{Relation}
+use Rattle.uca_relations.specs.declared.Relation.{Relation}
 use Rattle.uca_certificates.specs.Certificates.{CertificateContent}
 use Rattle.uca_tailorings.specs.Images.{Maps}
 use Rattle.uca_tailorings.specs.Tailorings.{Tailoring}

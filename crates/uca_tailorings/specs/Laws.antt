@@ -4,7 +4,7 @@ use Rattle.uca_weights.specs.declared.Depth.{Depth}
 use Rattle.uca_weights.specs.declared.Weighting.{Weighting}
 use Rattle.uca_text.specs.Texts.{NfdText}
 use Rattle.uca_text.specs.Limits.{IsNormal}
-use Rattle.uca_rules.specs.Relations.{IsUntouched}
+use Rattle.uca_relations.specs.Relations.{IsUntouched}
 use Rattle.uca_elements.specs.Collations.{Collation}
 use Rattle.uca_order.specs.Levels.{lexicographic}
 use Rattle.uca_order.specs.Depths.{read_text, levels_at, compared_at, key_at}

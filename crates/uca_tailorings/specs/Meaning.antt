@@ -13,8 +13,8 @@ use Rattle.uca_values.specs.Implicit.{implicit}
 use Rattle.uca_check.specs.WellFormed.{IsWellFormed}
 use Rattle.uca_text.specs.Texts.{NfdText}
 use Rattle.uca_text.specs.Limits.{IsNormal}
-use Rattle.uca_rules.specs.declared.relations.Relation.{Relation}
-use Rattle.uca_rules.specs.Relations.{IsUntouched}
+use Rattle.uca_relations.specs.declared.Relation.{Relation}
+use Rattle.uca_relations.specs.Relations.{IsUntouched}
 use Rattle.uca_elements.specs.Collations.{elements_of}
 use Rattle.uca_order.specs.Levels.{Comparison, compared}
 use Rattle.uca_order.specs.Depths.{read_text, compared_at, key_at}

@@ -9,8 +9,8 @@ use Rattle.uca_weights.specs.Maps.{Sends}
 use Rattle.uca_values.specs.Content.{Entry, TableContent, Properties, IsTable}
 use Rattle.uca_check.specs.WellFormed.{IsWellFormed}
 use Rattle.uca_text.specs.Texts.{NfdText}
-use Rattle.uca_rules.specs.declared.relations.Relation.{Relation}
-use Rattle.uca_rules.specs.Relations.{IsTarget, AreRules}
+use Rattle.uca_relations.specs.declared.Relation.{Relation}
+use Rattle.uca_relations.specs.Relations.{IsTarget, AreRules}
 use Rattle.uca_elements.specs.Rows.{IsKey, rows_of}
 use Rattle.uca_elements.specs.Collations.{Collation, collation_under, elements_of}
 use Rattle.uca_weights.specs.PerLevel.{at_level}

@@ -49,7 +49,7 @@ use Rattle.uca_weights.specs.declared.Strength.TheVariants.{Primary, Secondary, 
 use Rattle.uca_weights.specs.declared.maps.Run.{Run}
 use Rattle.uca_values.specs.Content.{Entry}
 use Rattle.uca_text.specs.Texts.{NfdText}
-use Rattle.uca_rules.specs.declared.relations.Relation.{Relation}
+use Rattle.uca_relations.specs.declared.Relation.{Relation}
 use Rattle.uca_elements.specs.WorkedTable.{plain, row, small_header, small_properties}
 use Rattle.uca_certificates.specs.Certificates.{CertificateContent, IsCertificate}
 use Rattle.uca_tailorings.specs.Inputs.{maps_of}

@@ -7,7 +7,7 @@ use Rattle.unicode_normalization.specs.Forms.{nfd}
 use Rattle.uca_values.specs.Ranges.{is_within}
 use Rattle.uca_text.specs.Texts.{nfd_text}
 use Rattle.uca_order.specs.Depths.{read_text}
-use Rattle.uca_rules.specs.declared.relations.Relation.{Relation}
+use Rattle.uca_relations.specs.declared.Relation.{Relation}
 use Rattle.uca_tailorings.specs.Moves.{KeyMoves}
 use Rattle.uca_tailorings.specs.Tailorings.{IsAccepted}
 use Rattle.uca_changes.specs.Changes.{Change, IsChange, IsAcceptedChange, old_reading, new_reading}

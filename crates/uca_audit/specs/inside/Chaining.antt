@@ -1,8 +1,8 @@
 -- How an audit goes from one condition to the next, and what it looks up on the way.
 use Rattle.std.specs.Prelude.{◌≡◌, ◌⊎◌, ◌↔◌, ℕ, ◌<◌, List, Result, MatchResult, Contains}
 use Rattle.uca_values.specs.Content.{TableContent}
-use Rattle.uca_rules.specs.declared.relations.Relation.{Relation}
-use Rattle.uca_rules.specs.Relations.{IsTarget}
+use Rattle.uca_relations.specs.declared.Relation.{Relation}
+use Rattle.uca_relations.specs.Relations.{IsTarget}
 use Rattle.uca_elements.specs.Rows.{Rows, rows_of}
 use Rattle.uca_tailorings.specs.declared.conditions.Condition.{Condition}
 use Rattle.uca_tailorings.specs.Tailorings.{Tailoring, Meets}

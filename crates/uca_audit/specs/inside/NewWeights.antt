@@ -2,7 +2,7 @@
 use Rattle.std.specs.Prelude.{◌↔◌, ◌⊎◌, ⊤, ℕ, ◌≤◌, ◌&&◌, ◌==◌, Bool, false, List, Option, Some, None, MatchOption, count_by}
 use Rattle.uca_weights.specs.declared.Level.{Level}
 use Rattle.uca_weights.specs.Levels.{level_number}
-use Rattle.uca_rules.specs.declared.relations.Relation.{Relation}
+use Rattle.uca_relations.specs.declared.Relation.{Relation}
 use Rattle.uca_tailorings.specs.Placing.{IsLow}
 use Rattle.uca_tailorings.specs.Tailorings.{Tailoring, IsKnownWeight, IsNewWeight}
 use Rattle.uca_audit.specs.declared.conditions.placements.Placement.{Placement}

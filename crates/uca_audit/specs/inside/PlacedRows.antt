@@ -3,7 +3,7 @@ use Rattle.std.specs.Prelude.{◌≡◌, ℕ, List, Bool, Option, MatchOption}
 use Rattle.uca_weights.specs.declared.Element.{Element}
 use Rattle.uca_weights.specs.declared.Level.{Level}
 use Rattle.uca_weights.specs.Levels.{weight}
-use Rattle.uca_rules.specs.declared.relations.Relation.{Relation}
+use Rattle.uca_relations.specs.declared.Relation.{Relation}
 use Rattle.uca_tailorings.specs.Placing.{IsAnchor, placed, IsOnSide}
 use Rattle.uca_tailorings.specs.Tailorings.{Tailoring, IsPlaced}
 use Rattle.uca_audit.specs.declared.conditions.placements.Placement.{Placement}

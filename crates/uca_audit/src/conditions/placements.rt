@@ -17,7 +17,7 @@ use crate::readings::Readings;
 use std::alloc::{AllocError, Allocator};
 use uca_elements::{Collator, Lookup, row_of};
 use uca_match::Trie;
-use uca_rules::Relation;
+use uca_relations::Relation;
 use uca_weights::{Element, Level};
 
 /// Where a target was placed.

@@ -1,9 +1,9 @@
 -- Rules that grow by one relation after the other.
 use Rattle.std.specs.Prelude.{◌≡◌, ◌↔◌, ◌⊎◌, ℕ, List, Contains}
 use Rattle.uca_text.specs.Occurring.{OccursInOrder}
-use Rattle.uca_rules.specs.declared.relations.Relation.{Relation}
+use Rattle.uca_relations.specs.declared.Relation.{Relation}
+use Rattle.uca_relations.specs.Relations.{AreRules, IsTarget, IsUsedBy, IsHeld}
 use Rattle.uca_rules.specs.declared.growing.RulesBuilder.{RulesBuilder}
-use Rattle.uca_rules.specs.Relations.{AreRules, IsTarget, IsUsedBy, IsHeld}
 
 -- the texts that are kept
 abbrev pub held_texts : {A : Type 0} → RulesBuilder A → List (List ℕ)

@@ -5,8 +5,9 @@ use Rattle.unicode_normalization.specs.Forms.{nfd}
 use Rattle.uca_weights.specs.declared.Strength.{Strength}
 use Rattle.uca_values.specs.Content.{Properties, properties_of}
 use Rattle.uca_text.specs.Texts.{NfdText, nfd_text}
+use Rattle.uca_relations.specs.declared.Relation.{Relation}
+use Rattle.uca_relations.specs.Relations.{IsRuleText}
 use Rattle.uca_rules.specs.declared.characters.Character.{Character}
-use Rattle.uca_rules.specs.declared.relations.Relation.{Relation}
 use Rattle.uca_rules.specs.declared.faults.RuleFault.{RuleFault}
 use Rattle.uca_rules.specs.declared.faults.RuleFaultKind.{RuleFaultKind}
 use Rattle.uca_rules.specs.declared.faults.RuleFaultKind.TheVariants as kinds
@@ -17,7 +18,6 @@ use Rattle.uca_rules.specs.declared.reader.Reader.{Reader}
 use Rattle.uca_rules.specs.Characters.{place_of}
 use Rattle.uca_rules.specs.Pieces.{Symbol, Written, BeginsText, BeginsWritten}
 use Rattle.uca_rules.specs.Statements.{Statement, Plain, Starred, AreStatements, BeginsStatement, BeginsExpansion, IsExpansionDue, HasRanges, targets_of, MayFollow, AreChains, opening, last_is}
-use Rattle.uca_rules.specs.Relations.{IsRuleText}
 use Rattle.uca_rules.specs.Meaning.{Anchor, Taken, HasShortTexts, IsShort, anchor_after, no_anchor, relations_in, relations_of, taken}
 use Rattle.uca_rules.specs.Faults.{InText, StatementCause, RelationCause, TextCause, HasCause}
 use Rattle.uca_rules.specs.inside.Views.{IsMemoryAt}

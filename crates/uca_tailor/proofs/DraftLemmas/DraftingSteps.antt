@@ -6,7 +6,7 @@ use Rattle.std.proofs.lemmas.List.{length-map, drop_more, drop_all}
 use Rattle.uca_weights.specs.Levels.{level_of}
 use Rattle.uca_values.specs.Content.{keys_of}
 use Rattle.uca_check.specs.WellFormed.{elements_of}
-use Rattle.uca_rules.specs.declared.relations.Relation.{Relation}
+use Rattle.uca_relations.specs.declared.Relation.{Relation}
 use Rattle.uca_text.specs.Texts.{NfdText}
 use Rattle.uca_elements.specs.Positions.{Positions, place_at}
 use Rattle.uca_plans.specs.declared.drafts.DraftWeight.{DraftWeight}

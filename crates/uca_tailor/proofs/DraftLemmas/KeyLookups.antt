@@ -2,7 +2,7 @@
 use Rattle.std.proofs.Common.{◌≡◌, ℕ, suc, ◌+◌, List, [], ◌∷◌, ◌++◌, length, Bool, true, false, cond, ltb, ◌||◌, is_some, Option, Some, None, Result, Ok, Err, IfOk}
 use Rattle.std.proofs.Common.{MatchOption, refl, sym, ap, ◌∙◌, arith}
 use Rattle.std.proofs.lemmas.Bool.{false≢true, cond-false, or_parts, lt-ltb, le-ltb}
-use Rattle.uca_rules.specs.declared.relations.Relation.{Relation}
+use Rattle.uca_relations.specs.declared.Relation.{Relation}
 use Rattle.uca_elements.specs.Rows.{same_key}
 use Rattle.uca_elements.specs.Positions.{Positions, place_at}
 use Rattle.uca_match.proofs.PlacedKeys.{placed_within}

@@ -4,8 +4,8 @@ use Rattle.std.proofs.Common.{Bor, refl, sym, ap, ap₂, subst, ◌∙◌, ⊎_e
 use Rattle.std.proofs.lemmas.List.{take_more, take_all, length-map, map-append}
 use Rattle.std.proofs.lemmas.Bool.{false≢true, false_from_ne_true, cond-true, cond-false}
 use Rattle.uca_values.specs.Content.{Entry, keys_of, AreRows}
-use Rattle.uca_rules.specs.declared.relations.Relation.{Relation}
-use Rattle.uca_rules.specs.Relations.{AreDistinct}
+use Rattle.uca_relations.specs.declared.Relation.{Relation}
+use Rattle.uca_relations.specs.Relations.{AreDistinct}
 use Rattle.uca_elements.specs.Positions.{AreDistinctKeys, place_at}
 use Rattle.uca_match.specs.NumberedKeys.{points_of}
 use Rattle.uca_match.proofs.PlacedKeys.{distinct_keys}

@@ -4,8 +4,8 @@ use Rattle.std.proofs.Common.{inl, inr, arith, append-nil, append_assoc, length-
 use Rattle.std.proofs.lemmas.Bool.{false≢true}
 use Rattle.std.proofs.lemmas.List.{length-map}
 use Rattle.uca_values.specs.Content.{keys_of}
-use Rattle.uca_rules.specs.declared.relations.Relation.{Relation}
-use Rattle.uca_rules.specs.Relations.{AreRules}
+use Rattle.uca_relations.specs.declared.Relation.{Relation}
+use Rattle.uca_relations.specs.Relations.{AreRules}
 use Rattle.uca_elements.specs.Positions.{Positions, is_placed, place_at}
 use Rattle.uca_plans.specs.Drafts.{DraftRow}
 use Rattle.uca_plans.specs.Plans.{Basis, Drafting}

@@ -1,6 +1,6 @@
 -- The keys that have rows, and the row of each.
 use Rattle.std.specs.Prelude.{◌≡◌, ℕ, ◌<◌, ◌≤◌, ⊤, List, [], ◌∷◌, ◌++◌, length, false, Some}
-use Rattle.uca_rules.specs.declared.relations.Relation.{Relation}
+use Rattle.uca_relations.specs.declared.Relation.{Relation}
 use Rattle.uca_elements.specs.Positions.{Positions, place_at}
 use Rattle.uca_plans.specs.Keys.{is_among, with_targets}
 

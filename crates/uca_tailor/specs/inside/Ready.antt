@@ -2,7 +2,7 @@
 use Rattle.std.specs.Prelude.{◌≡◌, ◌⊎◌, ℕ, ◌+◌, ◌<◌, ◌≤◌, List, [], ◌∷◌, ◌++◌, length, slice_set, false, Result, Ok, Err, MatchResult}
 use Rattle.uca_values.specs.Content.{properties_of}
 use Rattle.uca_text.specs.Texts.{NfdText}
-use Rattle.uca_rules.specs.declared.relations.Relation.{Relation}
+use Rattle.uca_relations.specs.declared.Relation.{Relation}
 use Rattle.uca_elements.specs.Positions.{Positions, is_placed, place_at}
 use Rattle.uca_plans.specs.Drafts.{DraftRow, draft_elements}
 use Rattle.uca_plans.specs.Keys.{keys_in, is_among, read_over, IsTextOf}

@@ -24,7 +24,7 @@ use std::alloc::{AllocError, Allocator};
 use std::marker::Model;
 use uca_match::KeyMap;
 use uca_plans::{DraftElement, Insertion, TailorFault, TailorKind};
-use uca_rules::{Relation, Rules};
+use uca_relations::{Relation, Rules};
 use uca_text::Normal;
 use uca_values::limits::MOST_ELEMENTS;
 use uca_values::{Data, Row, Table};

@@ -2,7 +2,7 @@
 
 ghost use Rattle.std.specs.Prelude.{◌≡◌, ◌≤◌, ℕ, List, length, false, MatchOption, IfOk};
 ghost use Rattle.uca_values.specs.Content.{keys_of};
-ghost use Rattle.uca_rules.specs.Relations.{AreRules};
+ghost use Rattle.uca_relations.specs.Relations.{AreRules};
 ghost use Rattle.uca_elements.specs.Positions.{place_at, AreDistinctKeys};
 ghost use Rattle.uca_match.specs.Tries.{positions};
 ghost use Rattle.uca_match.specs.NumberedKeys.{points_of};
@@ -11,7 +11,7 @@ ghost use Rattle.uca_tailor.specs.inside.KeyRows.{IsRowOf, AreListed, ArePositio
 
 use std::alloc::{AllocError, Allocator};
 use uca_match::{KeyMap, key_list};
-use uca_rules::{Relation, Rules};
+use uca_relations::{Relation, Rules};
 use uca_values::Table;
 use uca_values::limits::MOST_ROWS;
 

@@ -14,7 +14,7 @@ use crate::drafts::readings::DraftBasis;
 use crate::drafts::row_drafts::RowDraft;
 use std::alloc::{AllocError, Allocator};
 use uca_plans::{DraftElement, DraftWeight, Insertion};
-use uca_rules::Relation;
+use uca_relations::Relation;
 use uca_weights::Level;
 
 /// What a relation gives its target, apart from the elements.

@@ -1,6 +1,6 @@
 use Rattle.std.proofs.Common.{◌≡◌, suc, List, Some, sym, ◌∙◌, subst, inl, ◌<◌, length}
 use Rattle.uca_weights.specs.Levels.{level_of}
-use Rattle.uca_rules.specs.declared.relations.Relation.{Relation}
+use Rattle.uca_relations.specs.declared.Relation.{Relation}
 use Rattle.uca_tailorings.specs.Tailorings.{HasAnchor, anchor_elements, tailored_reading}
 use Rattle.uca_audit.specs.Refusals.{IsFirstRelationWithout}
 use Rattle.uca_tailorings.specs.declared.conditions.Condition.TheVariants.{Anchor}

@@ -1,6 +1,6 @@
 use Rattle.std.proofs.Common.{suc, List, [], take, ◌+◌, sym, subst}
 use Rattle.std.specs.List.{AllZip}
-use Rattle.uca_rules.specs.declared.relations.Relation.{Relation}
+use Rattle.uca_relations.specs.declared.Relation.{Relation}
 use Rattle.uca_tailorings.specs.Tailorings.{IsPlaced}
 use Rattle.uca_audit.specs.declared.conditions.placements.Placement.{Placement}
 use Rattle.uca_audit.specs.Refusals.{IsFirstRelationWithout}

@@ -2,7 +2,7 @@
 use Rattle.std.proofs.Common.{suc, List, sym, subst, ◌∙◌}
 use Rattle.std.proofs.lemmas.Bool.{false≢true}
 use Rattle.uca_elements.specs.Rows.{rows_of}
-use Rattle.uca_rules.specs.declared.relations.Relation.{Relation}
+use Rattle.uca_relations.specs.declared.Relation.{Relation}
 use Rattle.uca_tailorings.specs.Tailorings.{IsPresentTarget}
 use Rattle.uca_audit.specs.Refusals.{IsFirstRelationWithout}
 use Rattle.uca_audit.specs.inside.Views.{tailoring_in}

@@ -1,7 +1,7 @@
 use Rattle.std.proofs.Common.{◌≡◌, ◌↔◌, ◌++◌, ◌∷◌, [], List, ℕ, Contains, ap, subst, sym, ◌∙◌, inl, inr, ⊎_elim}
-use Rattle.uca_rules.specs.declared.relations.Relation.{Relation}
+use Rattle.uca_relations.specs.declared.Relation.{Relation}
+use Rattle.uca_relations.specs.Relations.{AreRules, IsHeld}
 use Rattle.uca_rules.specs.inside.Growing.{held_texts, Admits}
-use Rattle.uca_rules.specs.Relations.{AreRules, IsHeld}
 use Rattle.uca_rules.proofs.HeldTexts.{held_more, rules_more}
 use Rattle.uca_rules.proofs.growing.RulesBuilder.add.Goals as goal
 

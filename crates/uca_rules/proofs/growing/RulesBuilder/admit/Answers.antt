@@ -1,8 +1,8 @@
 use Rattle.std.proofs.Common.{◌≡◌, List, ℕ, Contains, subst, sym, refl, inl, inr, ⊎_elim, true, false}
 use Rattle.uca_text.specs.Occurring.{OccursInOrder}
-use Rattle.uca_rules.specs.declared.relations.Relation.{Relation}
+use Rattle.uca_relations.specs.declared.Relation.{Relation}
+use Rattle.uca_relations.specs.Relations.{IsTarget}
 use Rattle.uca_rules.specs.inside.Growing.{held_texts, HoldsOwn}
-use Rattle.uca_rules.specs.Relations.{IsTarget}
 use Rattle.uca_rules.proofs.HeldTexts.{held_more}
 use Rattle.uca_rules.proofs.growing.RulesBuilder.admit.Goals as goal
 

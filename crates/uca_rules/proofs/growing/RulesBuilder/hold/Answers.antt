@@ -1,7 +1,7 @@
 use Rattle.std.proofs.Common.{◌≡◌, ◌++◌, ◌∷◌, [], ◌↔◌, ◌⊎◌, List, ℕ, Contains, ap, subst, sym, refl, ◌∙◌, true, false}
-use Rattle.uca_rules.specs.declared.relations.Relation.{Relation}
+use Rattle.uca_relations.specs.declared.Relation.{Relation}
+use Rattle.uca_relations.specs.Relations.{IsTarget}
 use Rattle.uca_rules.specs.inside.Growing.{held_texts}
-use Rattle.uca_rules.specs.Relations.{IsTarget}
 use Rattle.uca_rules.proofs.HeldTexts.{holds_one}
 use Rattle.uca_rules.proofs.growing.RulesBuilder.hold.Goals as goal
 

@@ -1,6 +1,6 @@
 -- The relation of the target is the one that is added.
 use Rattle.std.proofs.Common.{◌<◌, ◌++◌, ◌∷◌, [], length, ap, subst, sym, refl, ◌∙◌, inl}
-use Rattle.uca_rules.specs.declared.relations.Relation.{Relation}
+use Rattle.uca_relations.specs.declared.Relation.{Relation}
 use Rattle.uca_rules.specs.inside.Growing.{AreGrowing}
 use Rattle.uca_rules.proofs.reader.Reader.add.Goals as goal
 

@@ -2,11 +2,11 @@
 use Rattle.std.proofs.Common.{◌≡◌, ℕ, List, slice_index_or, sym, subst}
 use Rattle.std.proofs.lemmas.List.{take_all}
 use Rattle.std.proofs.lemmas.Result.{err_from_is_err_and}
+use Rattle.uca_relations.specs.Relations.{IsRuleText}
 use Rattle.uca_rules.specs.declared.characters.Character.{Character}
 use Rattle.uca_rules.specs.declared.reader.Reader.{Reader}
 use Rattle.uca_rules.specs.Pieces.{Symbol, Literal, Hyphen}
 use Rattle.uca_rules.specs.Statements.{Starred, between, targets_of}
-use Rattle.uca_rules.specs.Relations.{IsRuleText}
 use Rattle.uca_rules.specs.inside.Reading.{Adds, IsReady}
 use Rattle.uca_rules.proofs.StarredLemmas.{Before, adds_character, adds_none, fault_in_range, fault_of_character, further_hyphen, further_range, no_literal, none_before, range_at, range_before}
 use Rattle.uca_rules.proofs.reader.Reader.add_targets.Goals as goal

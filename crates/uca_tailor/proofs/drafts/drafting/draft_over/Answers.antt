@@ -8,8 +8,8 @@ use Rattle.uca_plans.specs.Drafts.{row_as_draft}
 use Rattle.uca_plans.specs.Plans.{Basis, begun, with_relations}
 use Rattle.uca_plans.specs.Tailors.{basis_of}
 use Rattle.uca_match.specs.Tries.{positions}
-use Rattle.uca_rules.specs.declared.relations.Relation.{Relation}
-use Rattle.uca_rules.specs.Relations.{AreRules}
+use Rattle.uca_relations.specs.declared.Relation.{Relation}
+use Rattle.uca_relations.specs.Relations.{AreRules}
 use Rattle.uca_plans.specs.Lists.{InsertsBelow}
 use Rattle.uca_tailor.specs.inside.KeyRows.{ArePositions}
 use Rattle.uca_tailor.specs.inside.Variables.{AreBounds}

@@ -1,6 +1,6 @@
 use Rattle.std.proofs.Common.{List, subst, sym}
 use Rattle.uca_values.specs.Content.{keys_of}
-use Rattle.uca_rules.specs.declared.relations.Relation.{Relation}
+use Rattle.uca_relations.specs.declared.Relation.{Relation}
 use Rattle.uca_elements.specs.Positions.{AreDistinctKeys}
 use Rattle.uca_match.specs.NumberedKeys.{points_of}
 use Rattle.uca_match.specs.Tries.{positions}

@@ -9,7 +9,7 @@ use Rattle.uca_plans.specs.declared.drafts.Insertion.{Insertion}
 use Rattle.uca_plans.specs.Drafts.{DraftRow, draft_elements}
 use Rattle.uca_plans.specs.Keys.{read_over}
 use Rattle.uca_plans.specs.Plans.{Basis, Drafted, Drafting, draft_expansion, drafted, drafted_at}
-use Rattle.uca_rules.specs.declared.relations.Relation.{Relation}
+use Rattle.uca_relations.specs.declared.Relation.{Relation}
 use Rattle.uca_weights.specs.declared.Level.{Level}
 use Rattle.uca_weights.specs.Levels.{level_of}
 use Rattle.uca_tailor.specs.inside.Ready.{ReadsAlike, basis_in}

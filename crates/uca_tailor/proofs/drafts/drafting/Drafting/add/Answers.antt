@@ -8,7 +8,7 @@ use Rattle.uca_plans.specs.declared.drafts.DraftWeight.TheVariants.{New}
 use Rattle.uca_plans.specs.declared.faults.TailorKind.{TailorKind}
 use Rattle.uca_plans.specs.Drafts.{DraftRow}
 use Rattle.uca_plans.specs.Plans.{Basis, Drafted, Drafting, drafted}
-use Rattle.uca_rules.specs.declared.relations.Relation.{Relation}
+use Rattle.uca_relations.specs.declared.Relation.{Relation}
 use Rattle.uca_tailor.specs.inside.Ready.{basis_in, ArePositionsWith, IsReady, IsRejected, ReadsAlike, TakesRow}
 use Rattle.uca_tailor.specs.declared.drafts.targets.TargetDraft.{TargetDraft}
 use Rattle.uca_tailor.specs.inside.Targets.{drafted_with}

@@ -2,8 +2,8 @@
 use Rattle.std.proofs.Common.{◌≡◌, ◌≢◌, ◌↔◌, ℕ, ◌+◌, ◌<◌, List, ◌∷◌, length, drop, get_or, sym, subst, inl, inr, ⊎_elim}
 use Rattle.std.proofs.lemmas.List.{drop_more}
 use Rattle.uca_text.specs.Occurring.{OccursInOrder}
-use Rattle.uca_rules.specs.declared.relations.Relation.{Relation}
-use Rattle.uca_rules.specs.Relations.{IsTarget, IsUntouched}
+use Rattle.uca_relations.specs.declared.Relation.{Relation}
+use Rattle.uca_relations.specs.Relations.{IsTarget, IsUntouched}
 
 -- a test of all relations is one of those that are left
 pub target_further : (relations : List Relation) (text : List ℕ) (i : ℕ) (r : Relation) → i < length relations → r ≡ get_or relations i r → r.target.points ≢ text

@@ -1,7 +1,7 @@
 use Rattle.std.proofs.Common.{ℕ, List, subst, sym, true, false, ◌≡◌}
 use Rattle.uca_text.specs.Occurring.{OccursInOrder}
-use Rattle.uca_rules.proofs.Searches.{untouched_further}
-use Rattle.uca_rules.proofs.relations.leave_untouched.Goals as goal
+use Rattle.uca_relations.proofs.Searches.{untouched_further}
+use Rattle.uca_relations.proofs.leave_untouched.Goals as goal
 
 pub loop-relation-preserved : goal.loop-relation-preserved
 loop-relation-preserved c =

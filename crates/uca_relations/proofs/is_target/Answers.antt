@@ -1,7 +1,7 @@
 use Rattle.std.proofs.Common.{◌≡◌, ℕ, List, bytes_eq, true, false, refl, sym, subst, ◌∙◌}
 use Rattle.std.proofs.lemmas.Slice.Eq.{bytes_eq-Decides}
-use Rattle.uca_rules.proofs.Searches.{target_here, target_further}
-use Rattle.uca_rules.proofs.relations.is_target.Goals as goal
+use Rattle.uca_relations.proofs.Searches.{target_here, target_further}
+use Rattle.uca_relations.proofs.is_target.Goals as goal
 
 pub returns-then-eq : goal.returns-then-eq
 returns-then-eq c =

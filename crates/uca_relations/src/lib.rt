@@ -1,7 +1,12 @@
-//! Relations, the rules that they make up, and which texts rules leave as they are.
+//! Relations between texts, and the rules that they make up (UTS #35 Part 5, section 3): the values of tailoring rules,
+//! and the texts that rules leave as they are.
+//!
+//! `specs/Relations.antt` says what is true of all rules. `uca_rules` reads them. It proves this of the relations that it
+//! has read, and then makes rules of them (`rules_of`).
+#![tactic(auto)]
 
 ghost use Rattle.std.specs.Prelude.{◌≡◌, ◌↔◌, ℕ, IsTrue, List};
-ghost use Rattle.uca_rules.specs.Relations.{AreRules, IsTarget, IsUntouched};
+ghost use Rattle.uca_relations.specs.Relations.{AreRules, IsTarget, IsUntouched};
 
 use std::alloc::{Allocator, Global};
 use std::marker::Model;
@@ -29,13 +34,13 @@ pub struct Relation {
 /// target or a later one. The exception is a text that is itself the target of a relation before that one.
 #[derive(Drop)]
 pub struct Rules<A: Allocator = Global> {
-    pub(crate) relations: Vec<Relation, A>,
+    relations: Vec<Relation, A>,
 }
 
 impl<A: Allocator> Model for Rules<A> {
     ghost use Rattle.std.specs.Prelude.{List};
-    ghost use Rattle.uca_rules.specs.declared.relations.Relation.{Relation};
-    ghost use Rattle.uca_rules.specs.Relations.{AreRules};
+    ghost use Rattle.uca_relations.specs.declared.Relation.{Relation};
+    ghost use Rattle.uca_relations.specs.Relations.{AreRules};
 
     ghost Value = { List Relation };
 
@@ -62,6 +67,14 @@ impl<A: Allocator> Rules<A> {
     }
 }
 
+/// The rules that these relations make up. What is true of all rules has to be true of them.
+pub fn rules_of<A: Allocator>(relations: Vec<Relation, A>) -> Rules<A>
+    requires { AreRules relations.items }
+    ensures { result ≡ relations.items }
+{
+    Rules { relations }
+}
+
 /// Whether no target occurs in order in the text.
 fn leave_untouched(relations: &[Relation], text: &[char]) -> bool
     ensures { IsTrue result ↔ IsUntouched relations.now text.now }
@@ -75,7 +88,7 @@ fn leave_untouched(relations: &[Relation], text: &[char]) -> bool
 }
 
 /// Whether the text is the target of a relation.
-pub(crate) fn is_target(relations: &[Relation], text: &[char]) -> bool
+pub fn is_target(relations: &[Relation], text: &[char]) -> bool
     ensures { IsTrue result ↔ IsTarget relations.now text.now }
 {
     for relation in relations {
