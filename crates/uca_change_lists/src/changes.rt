@@ -1,13 +1,13 @@
 //! `Changes`: the texts and the ranges of code points that a change names.
 
-ghost use Rattle.std.specs.Prelude.{◌≡◌, ◌↔◌, ◌⊎◌, ℕ, ◌<◌, ◌≤◌, List, [], ◌∷◌, ◌++◌, length, IsTrue, OnOk, IfErr, Contains};
-ghost use Rattle.std.specs.List.Sorted.{IsPartitionPoint};
+ghost use Rattle.std.specs.Prelude.{◌≡◌, ◌↔◌, ◌⊎◌, ℕ, List, [], ◌∷◌, ◌++◌, IsTrue, OnOk, IfErr, Contains};
 ghost use Rattle.uca_values.specs.Ranges.{is_within, AreRising};
 ghost use Rattle.uca_change_lists.specs.ChangeLists.{IsAfter, RefusesNext};
 
 use crate::TextSet;
 use std::alloc::{AllocError, Allocator, Global};
 use std::marker::Model;
+use uca_values::ranges::is_held;
 use uca_values::{CodePointRange, RangeFault};
 
 /// What a change lists: the changed texts, as code points in Normalization Form D, and the changed ranges of code points.
@@ -105,22 +105,4 @@ fn is_after(ranges: &[CodePointRange], range: CodePointRange) -> bool
         None => true,
         Some(last) => last.last < range.first,
     }
-}
-
-// The position of the first range that ends at the code point or above it.
-fn range_place(ranges: &[CodePointRange], point: char) -> usize
-    requires { AreRising ranges.now }
-    ensures bound { result ≤ length ranges.now }
-    ensures place { IsPartitionPoint (λ r. r.last < point) (λ r. point ≤ r.last) ranges.now result }
-{
-    ranges.partition_point(|range| range.last < point)
-}
-
-// Whether one of the ranges has the code point.
-fn is_held(ranges: &[CodePointRange], point: char) -> bool
-    requires { AreRising ranges.now }
-    ensures { result ≡ is_within ranges.now point }
-{
-    let at = range_place(ranges, point);
-    at < ranges.len() && ranges[at].first <= point
 }

@@ -9,12 +9,13 @@ ghost use Rattle.uca_change_runs.specs.AffectedRun.{is_affected_by};
 ghost use Rattle.uca_change_runs.specs.inside.Index.{IsFree};
 
 use crate::marks::{MARK_WORDS, is_marked, mark_changes};
-use crate::searches::{is_among, is_held, one_occurs};
+use crate::searches::{is_among, one_occurs};
 use std::alloc::{AllocError, Allocator, Global};
 use std::marker::Model;
 use uca_change_files::ChangeList;
 use uca_run_parts::Affects;
 use uca_text::Normal;
+use uca_values::ranges::is_held;
 
 /// A list of changes, ready to be looked up in texts. It has a mark for each code point that lies in a changed range or
 /// begins a changed text. So a text without such a code point costs one look a code point. The marks take 139,264 bytes.

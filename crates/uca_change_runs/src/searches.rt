@@ -1,33 +1,14 @@
-//! Looking for code points in ranges and in texts, and for the code points of changed texts.
+//! Looking for a code point among others, and for the changed texts that begin with it.
 
 ghost use Rattle.std.specs.Prelude.{◌≡◌, ◌↔◌, ℕ, ◌<◌, ◌≤◌, List, true, false, length, IsTrue, Contains};
 ghost use Rattle.std.specs.List.Sorted.{IsPartitionPoint};
-ghost use Rattle.uca_values.specs.Ranges.{is_within, AreRising};
 ghost use Rattle.uca_text.specs.Occurring.{OccursInOrder};
 ghost use Rattle.uca_change_files.specs.Changes.{AreInOrder, IsBelow};
 ghost use Rattle.uca_change_runs.specs.inside.Index.{first_of};
 
 use std::alloc::Allocator;
-use uca_change_files::{ChangedText, CodePointRange};
+use uca_change_files::ChangedText;
 use uca_text::occurs_in_order;
-
-/// Whether one of the ranges has the code point.
-pub(crate) fn is_held(ranges: &[CodePointRange], point: char) -> bool
-    requires { AreRising ranges.now }
-    ensures { result ≡ is_within ranges.now point }
-{
-    let at = range_place(ranges, point);
-    at < ranges.len() && ranges[at].first <= point
-}
-
-// The position of the first range that ends at the code point or above it.
-fn range_place(ranges: &[CodePointRange], point: char) -> usize
-    requires { AreRising ranges.now }
-    ensures bound { result ≤ length ranges.now }
-    ensures place { IsPartitionPoint (λ r. r.last < point) (λ r. point ≤ r.last) ranges.now result }
-{
-    ranges.partition_point(|range| range.last < point)
-}
 
 /// Whether the code point is one of these. It looks from the last one on.
 pub(crate) fn is_among(points: &[char], point: char) -> bool

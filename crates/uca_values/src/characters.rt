@@ -1,6 +1,6 @@
 //! The properties of code points that collation needs: combining classes and Han ranges.
 
-ghost use Rattle.std.specs.Prelude.{◌≡◌, ℕ, ◌<◌, ◌≤◌, List, length, nat_lt, true, false, [], ◌≢◌, ◌+◌, OnOk, IfErr, MatchOption, slice_index, if◌then◌else◌};
+ghost use Rattle.std.specs.Prelude.{◌≡◌, ℕ, ◌<◌, ◌≤◌, List, length, true, [], ◌≢◌, ◌+◌, OnOk, IfErr, MatchOption, slice_index, if◌then◌else◌};
 ghost use Rattle.std.specs.List.Sorted.{IsPartitionPoint};
 ghost use Rattle.uca_values.specs.Ranges.{is_between, is_within, class_in, AreRising, AreRisingClasses};
 ghost use Rattle.uca_values.specs.inside.LowClasses.{AreLowClasses};
@@ -10,6 +10,7 @@ ghost use Rattle.uca_values.specs.inside.Gaps.{HasRangeIn, IsGap, IsPut};
 ghost use Rattle.uca_values.specs.Content.{IsClass};
 ghost use Rattle.uca_values.specs.Adding.{AddsClass, AddsCore, AddsOther, RefusesClass, RefusesCore, RefusesOther, RefusesRange};
 
+use crate::ranges::{is_held, range_place};
 use crate::{ClassRange, CodePointRange};
 use std::alloc::{AllocError, Allocator, Global};
 use std::marker::Model;
@@ -222,15 +223,6 @@ fn class_place(ranges: &[ClassRange], point: char) -> usize
     ranges.partition_point(|range| range.last < point)
 }
 
-// The position of the first range without a class that ends at the code point or above it.
-fn range_place(ranges: &[CodePointRange], point: char) -> usize
-    requires { AreRising ranges.now }
-    ensures bound { result ≤ length ranges.now }
-    ensures place { IsPartitionPoint (λ r. r.last < point) (λ r. point ≤ r.last) ranges.now result }
-{
-    ranges.partition_point(|range| range.last < point)
-}
-
 // The position where the range fits between the others, unless it overlaps one of them.
 fn class_gap(ranges: &[ClassRange], range: ClassRange) -> Option<usize>
     requires rising { AreRisingClasses ranges.now }
@@ -309,15 +301,4 @@ fn class_at(ranges: &[ClassRange], point: char) -> u8
     } else {
         0
     }
-}
-
-fn is_held(ranges: &[CodePointRange], point: char) -> bool
-    requires { AreRising ranges.now }
-    ensures { result ≡ is_within ranges.now point }
-{
-    if ranges.is_empty() || point < ranges[0].first {
-        return false;
-    }
-    let at = range_place(ranges, point);
-    at < ranges.len() && ranges[at].first <= point
 }

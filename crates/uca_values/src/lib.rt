@@ -10,6 +10,7 @@ pub mod faults;
 pub mod implicit;
 pub mod limits;
 pub mod packed;
+pub mod ranges;
 pub mod tables;
 
 pub use characters::{Data, RangeFault};

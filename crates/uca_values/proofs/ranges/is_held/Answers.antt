@@ -1,8 +1,8 @@
 use Rattle.std.proofs.Common.{sym, arith}
 use Rattle.uca_values.specs.declared.CodePointRange.{CodePointRange}
 use Rattle.uca_values.proofs.Rising.{range_found, range_missed, range_below, empty_when, by_test, by_test_less}
-use Rattle.uca_values.proofs.characters.is_held.Goals as goal
-use Rattle.uca_values.proofs.characters.is_held.Goals.{then-is_empty-via-then-is_empty, then-is_empty-via-else-is_empty+then-point-ranges}
+use Rattle.uca_values.proofs.ranges.is_held.Goals as goal
+use Rattle.uca_values.proofs.ranges.is_held.Goals.{then-is_empty-via-then-is_empty, then-is_empty-via-else-is_empty+then-point-ranges}
 
 pub returns-then-is_empty : goal.returns-then-is_empty
 returns-then-is_empty c =

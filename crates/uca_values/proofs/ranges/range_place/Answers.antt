@@ -2,7 +2,7 @@ use Rattle.std.proofs.Common.{ltb, rules}
 use Rattle.std.proofs.lemmas.List.Sorted.{IsPartitionPoint-from_clause}
 use Rattle.uca_values.specs.declared.CodePointRange.{CodePointRange}
 use Rattle.uca_values.proofs.Rising.{parted, place_from_tests}
-use Rattle.uca_values.proofs.characters.range_place.Goals as goal
+use Rattle.uca_values.proofs.ranges.range_place.Goals as goal
 
 pub returns-clause-place : goal.returns-clause-place
 returns-clause-place c =
