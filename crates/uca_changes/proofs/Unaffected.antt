@@ -27,7 +27,7 @@ use Rattle.uca_tailorings.proofs.Parts.{each_of_both}
 use Rattle.uca_tailorings.proofs.UntouchedTexts.{letters_occur, images_compare}
 use Rattle.uca_tailorings.proofs.AgreeingReadings.{same_reading}
 use Rattle.uca_tailorings.proofs.Moves.{images_move, kept_is_new}
-use Rattle.uca_changes.specs.Changes.{Change, IsChange, old_reading, new_reading, old_weighting, new_weighting, IsChangedText, IsChangedPoint, IsAcceptedChange}
+use Rattle.uca_changes.specs.Changes.{Change, IsChange, old_reading, new_reading, old_weighting, new_weighting, new_settings, IsChangedText, IsChangedPoint, IsAcceptedChange}
 use Rattle.uca_change_lists.specs.Points.{IsSamePoint}
 use Rattle.uca_changes.specs.Laws.{IsUnaffectedText, IsStoredKey, UnaffectedTextsStay, ChangesKeepUnaffectedTexts}
 use Rattle.uca_changes.specs.declared.conditions.ChangeCondition.TheVariants.{RangeChanged, RowChanged, RowMissing, RowExtra, PointChanged, SettingChanged}
@@ -106,13 +106,13 @@ module _ (change : Change) (is : IsChange change) (accepted : IsAcceptedChange c
   -- so the keys of a store are those under the new reading
   stored_is_new : (depth : Depth) (asked : Option Weighting) (text key : List ℕ) →
       IsStoredKey change (old_reading change) (new_reading change) depth asked text key →
-      key ≡ text_key (new_reading change) depth (new_weighting change asked) text
+      key ≡ text_key (new_reading change) (new_settings change asked depth) text
   stored_is_new depth asked text key stored =
       ⊎_elim
       (λ made. made)
       (λ kept. kept_is_new change.maps (read_text (old_reading change) (nfd_text change.old_properties text))
       (read_text (new_reading change) (nfd_text change.new_properties text)) (moves text kept.0) depth (old_weighting change asked) key kept.1
-      ∙ ap (λ w. text_key (new_reading change) depth w text) (sym (chosen asked)))
+      ∙ ap (λ w. text_key (new_reading change) (record { weighting = w; depth = depth }) text) (sym (chosen asked)))
       stored
 
   -- the law for the lookups of the tables themselves
@@ -122,7 +122,7 @@ module _ (change : Change) (is : IsChange change) (accepted : IsAcceptedChange c
         chosen = chosen;
         moves = moves;
         compared = λ depth asked left right first second.
-            ap (λ w. texts_compared (new_reading change) depth w left right) (chosen asked)
+            ap (λ w. texts_compared (new_reading change) (record { weighting = w; depth = depth }) left right) (chosen asked)
             ∙ images_compare change.maps is.maps depth (old_weighting change asked) (nfd left) (nfd right)
             (elements_of (old_reading change) (nfd_text change.old_properties left)) (elements_of (old_reading change) (nfd_text change.old_properties right))
             (elements_of (new_reading change) (nfd_text change.new_properties left)) (elements_of (new_reading change) (nfd_text change.new_properties right))

@@ -13,7 +13,7 @@ use Rattle.uca_order.specs.StoredKeys.{stored_level}
 use Rattle.uca_tailorings.specs.Moves.{KeyMoves, IsKeptKey}
 use Rattle.uca_tailorings.specs.Tailorings.{Tailoring, IsTailoring, IsAccepted}
 use Rattle.uca_tailorings.specs.Laws.{ReadsAs}
-use Rattle.uca_changes.specs.Changes.{Change, IsChange, old_reading, new_reading, old_weighting, new_weighting, IsUnaffected, IsAcceptedChange}
+use Rattle.uca_changes.specs.Changes.{Change, IsChange, old_reading, new_reading, old_weighting, new_weighting, old_settings, new_settings, IsUnaffected, IsAcceptedChange}
 
 -- in Normalization Form D the text has Unicode scalar values alone, and the change leaves it as it is
 pub record IsUnaffectedText (change : Change) (text : List ℕ) : Type 0 where
@@ -24,7 +24,7 @@ pub record IsUnaffectedText (change : Change) (text : List ℕ) : Type 0 where
 -- Or the text is unaffected, and the key was kept from the old reading.
 abbrev pub IsStoredKey : Change → Collation → Collation → Depth → Option Weighting → List ℕ → List ℕ → Type 0
 IsStoredKey change old new depth asked text key =
-    (key ≡ text_key new depth (new_weighting change asked) text)
+    (key ≡ text_key new (new_settings change asked depth) text)
     ⊎ (IsUnaffectedText change text × IsKeptKey change.maps depth (old_weighting change asked) (read_text old (nfd_text old.properties text)) key)
 
 -- What an accepted change means, by lookups `old` of the old table and `new` of the new one. A weighting may be asked for, as by an
@@ -37,15 +37,15 @@ pub record UnaffectedTextsStay (change : Change) (old new : Collation) : Type 0 
       KeyMoves change.maps (read_text old (nfd_text old.properties text)) (read_text new (nfd_text new.properties text))
   -- two such texts compare as before, by order and level
   pub compared : (depth : Depth) (asked : Option Weighting) (left right : List ℕ) → IsUnaffectedText change left → IsUnaffectedText change right →
-      texts_compared new depth (new_weighting change asked) left right ≡ texts_compared old depth (old_weighting change asked) left right
+      texts_compared new (new_settings change asked depth) left right ≡ texts_compared old (old_settings change asked depth) left right
   -- the keys of a store compare as their texts do under the new reading
   pub ordered : (depth : Depth) (asked : Option Weighting) (left right left_key right_key : List ℕ) →
       IsStoredKey change old new depth asked left left_key → IsStoredKey change old new depth asked right right_key →
-      lexicographic left_key right_key ≡ (texts_compared new depth (new_weighting change asked) left right).order
+      lexicographic left_key right_key ≡ (texts_compared new (new_settings change asked depth) left right).order
   pub levels : (depth : Depth) (asked : Option Weighting) (left right left_key right_key : List ℕ) →
       IsStoredKey change old new depth asked left left_key → IsStoredKey change old new depth asked right right_key →
       stored_level (levels_at depth (new_weighting change asked)) left_key right_key
-      ≡ (texts_compared new depth (new_weighting change asked) left right).level
+      ≡ (texts_compared new (new_settings change asked depth) left right).level
 
 abbrev pub ChangesKeepUnaffectedTexts : Type 0
 ChangesKeepUnaffectedTexts = (change : Change) (old new : Collation) → IsChange change → IsAcceptedChange change →

@@ -5,7 +5,7 @@ use Rattle.hex.specs.Hex.{encode_lower}
 use Rattle.sha2.specs.Sha256.{sha256}
 use Rattle.uca_weights.specs.declared.Depth.{Depth}
 use Rattle.uca_weights.specs.declared.Depth.TheVariants.{Weights, Identical}
-use Rattle.uca_weights.specs.declared.Weighting.{Weighting}
+use Rattle.uca_weights.specs.declared.Settings.{Settings}
 use Rattle.uca_weights.specs.WeightingText.{weighting_text}
 
 -- the edition of Unicode by which texts are brought to Normalization Form D
@@ -26,15 +26,15 @@ abbrev pub value_line : List ℕ → List ℕ → List ℕ
 value_line name value = name ++ (value ++ 10 ∷ [])
 
 -- what keys are made by, in six lines; files are named by the SHA-256 of their bytes
-unfoldable pub fingerprint_text : Weighting → Depth → List ℕ → List ℕ → List ℕ
-fingerprint_text weighting depth table_sum data_sum =
+unfoldable pub fingerprint_text : Settings → List ℕ → List ℕ → List ℕ
+fingerprint_text settings table_sum data_sum =
     value_line (codes "uca keys ") (codes "1")
     ++ value_line (codes "unicode ") edition
-    ++ value_line (codes "weighting ") (weighting_text weighting)
-    ++ value_line (codes "depth ") (depth_text depth)
+    ++ value_line (codes "weighting ") (weighting_text settings.weighting)
+    ++ value_line (codes "depth ") (depth_text settings.depth)
     ++ value_line (codes "table ") (encode_lower table_sum)
     ++ value_line (codes "data ") (encode_lower data_sum)
 
--- the fingerprint of a weighting, a depth, and the bytes of a table and of a data file
-abbrev pub fingerprint : Weighting → Depth → List ℕ → List ℕ → List ℕ
-fingerprint weighting depth table_bytes data_bytes = sha256 (fingerprint_text weighting depth (sha256 table_bytes) (sha256 data_bytes))
+-- the fingerprint of settings, and the bytes of a table and of a data file
+abbrev pub fingerprint : Settings → List ℕ → List ℕ → List ℕ
+fingerprint settings table_bytes data_bytes = sha256 (fingerprint_text settings (sha256 table_bytes) (sha256 data_bytes))

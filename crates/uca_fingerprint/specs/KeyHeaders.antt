@@ -1,12 +1,11 @@
 -- The header of key lines: a first line that says what made the keys.
 use Rattle.std.specs.Prelude.{ℕ, List, ◌++◌, codes}
 use Rattle.hex.specs.Hex.{encode_lower}
-use Rattle.uca_weights.specs.declared.Depth.{Depth}
-use Rattle.uca_weights.specs.declared.Weighting.{Weighting}
+use Rattle.uca_weights.specs.declared.Settings.{Settings}
 use Rattle.uca_weights.specs.WeightingText.{weighting_text}
 use Rattle.uca_fingerprint.specs.Fingerprints.{depth_text}
 
 -- `#uca keys 1 shifted weights ` and the 64 digits of a fingerprint. In the order of bytes it comes before each line that begins with a key.
-abbrev pub key_header : Weighting → Depth → List ℕ → List ℕ
-key_header weighting depth sum =
-    codes "#uca keys 1 " ++ weighting_text weighting ++ codes " " ++ depth_text depth ++ codes " " ++ encode_lower sum
+abbrev pub key_header : Settings → List ℕ → List ℕ
+key_header settings sum =
+    codes "#uca keys 1 " ++ weighting_text settings.weighting ++ codes " " ++ depth_text settings.depth ++ codes " " ++ encode_lower sum

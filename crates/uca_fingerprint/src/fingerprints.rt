@@ -9,7 +9,7 @@ ghost use Rattle.uca_fingerprint.specs.Fingerprints.{fingerprint, fingerprint_te
 use crate::texts::{depth_name, edition};
 use hex::encode_to_slice;
 use sha2::{Digest, Sha256};
-use uca_weights::{Depth, Weighting};
+use uca_weights::Settings;
 
 /// The SHA-256 of the bytes of a file (FIPS 180-4).
 pub fn sum(bytes: &[u8]) -> [u8; 32]
@@ -36,7 +36,7 @@ fn add_line(hasher: &mut Sha256, name: &str, value: &[u8])
     hasher.update(b"\n");
 }
 
-/// The fingerprint of a weighting, a depth, and two files by the SHA-256 of each: the SHA-256 of a text in six lines.
+/// The fingerprint of settings and two files, these by the SHA-256 of each: the SHA-256 of a text in six lines.
 ///
 /// ```text
 /// uca keys 1
@@ -46,27 +46,26 @@ fn add_line(hasher: &mut Sha256, name: &str, value: &[u8])
 /// table 64 lower-case hexadecimal digits
 /// data 64 lower-case hexadecimal digits
 /// ```
-pub fn fingerprint_of_sums(
-    weighting: Weighting,
-    depth: Depth,
-    table: &[u8; 32],
-    data_file: &[u8; 32],
-) -> [u8; 32]
-    ensures { result ≡ sha256 (fingerprint_text weighting depth table.now data_file.now) }
+pub fn fingerprint_of_sums(settings: Settings, table: &[u8; 32], data_file: &[u8; 32]) -> [u8; 32]
+    ensures { result ≡ sha256 (fingerprint_text settings table.now data_file.now) }
 {
     let mut hasher = Sha256::new();
     add_line(&mut hasher, "uca keys ", b"1");
     add_line(&mut hasher, "unicode ", edition().as_bytes());
-    add_line(&mut hasher, "weighting ", weighting.name().as_bytes());
-    add_line(&mut hasher, "depth ", depth_name(depth).as_bytes());
+    add_line(
+        &mut hasher,
+        "weighting ",
+        settings.weighting.name().as_bytes(),
+    );
+    add_line(&mut hasher, "depth ", depth_name(settings.depth).as_bytes());
     add_line(&mut hasher, "table ", &digits(table));
     add_line(&mut hasher, "data ", &digits(data_file));
     hasher.finalize()
 }
 
-/// The fingerprint of a weighting, a depth, and the bytes of a table and of a data file.
-pub fn fingerprint(weighting: Weighting, depth: Depth, table: &[u8], data_file: &[u8]) -> [u8; 32]
-    ensures { result ≡ fingerprint weighting depth table.now data_file.now }
+/// The fingerprint of settings, and the bytes of a table and of a data file.
+pub fn fingerprint(settings: Settings, table: &[u8], data_file: &[u8]) -> [u8; 32]
+    ensures { result ≡ fingerprint settings table.now data_file.now }
 {
-    fingerprint_of_sums(weighting, depth, &sum(table), &sum(data_file))
+    fingerprint_of_sums(settings, &sum(table), &sum(data_file))
 }

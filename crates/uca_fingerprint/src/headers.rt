@@ -11,7 +11,7 @@ use crate::texts::depth_name;
 use arrayvec::ArrayVec;
 use hex::FromHex;
 use std::marker::Model;
-use uca_weights::{Depth, Weighting};
+use uca_weights::{Depth, Settings, Weighting};
 
 /// The header of key lines, without its LF: `#uca keys 1 shifted weights` and the digits of a fingerprint. It takes no memory.
 #[derive(Drop)]
@@ -28,27 +28,27 @@ impl Model for KeyHeader {
 }
 
 impl KeyHeader {
-    /// The header of keys that were made under a weighting and at a depth, by files and settings with this fingerprint.
-    pub fn new(weighting: Weighting, depth: Depth, fingerprint: &[u8; 32]) -> KeyHeader
-        ensures line { result ≡ key_header weighting depth fingerprint.now }
+    /// The header of keys that were made under these settings. The fingerprint is that of the settings and the files.
+    pub fn new(settings: Settings, fingerprint: &[u8; 32]) -> KeyHeader
+        ensures line { result ≡ key_header settings fingerprint.now }
         ensures short { length result ≤ 127 }
     {
         KeyHeader {
             line: ArrayVec::new(),
         }
         .then(b"#uca keys 1 ")
-        .then(name_of(weighting))
+        .then(name_of(settings.weighting))
         .then(b" ")
-        .then(depth_of(depth))
+        .then(depth_of(settings.depth))
         .then(b" ")
         .then(&digits(fingerprint))
     }
 
     /// The header that `new` makes, with an LF at its end.
-    pub fn ended(weighting: Weighting, depth: Depth, fingerprint: &[u8; 32]) -> KeyHeader
-        ensures { result ≡ key_header weighting depth fingerprint.now ++ 10 ∷ [] }
+    pub fn ended(settings: Settings, fingerprint: &[u8; 32]) -> KeyHeader
+        ensures { result ≡ key_header settings fingerprint.now ++ 10 ∷ [] }
     {
-        KeyHeader::new(weighting, depth, fingerprint).then(b"\n")
+        KeyHeader::new(settings, fingerprint).then(b"\n")
     }
 
     /// The bytes of the header.

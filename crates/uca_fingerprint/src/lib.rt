@@ -1,5 +1,5 @@
-//! The fingerprint of what keys are made by: 32 bytes that name a table, a data file, a weighting, a depth, and the
-//! edition of the normalization. It is the SHA-256 of a stated text. Two collators of one fingerprint make the same
+//! The fingerprint of what keys are made by: 32 bytes that name a table, a data file, settings, and the edition of the
+//! normalization. It is the SHA-256 of a stated text. Two collators of one fingerprint make the same
 //! keys. The header of key lines is here too.
 #![tactic(auto)]
 

@@ -1,18 +1,17 @@
 -- Keys that are put through maps level by level. Public contracts cite `MoverState` alone.
 use Rattle.std.specs.Prelude.{◌≡◌, ℕ, suc, ◌≤◌, List, ◌++◌, take, drop, Option, None, ⊤, option_map}
 use Rattle.uca_weights.specs.declared.Depth.{Depth}
-use Rattle.uca_weights.specs.declared.Weighting.{Weighting}
+use Rattle.uca_weights.specs.declared.Settings.{Settings}
 use Rattle.uca_certificates.specs.Certificates.{CertificateContent}
 use Rattle.uca_tailorings.specs.Images.{Maps}
 use Rattle.uca_tailorings.specs.Moves.{ended, moved_from}
 use Rattle.uca_images.specs.declared.levels.LevelEnd.{LevelEnd}
 use Rattle.uca_images.specs.declared.levels.LevelEnd.TheVariants.{Next, Key, Missing}
 
--- whose maps keys are put through, and how the keys were made
+-- whose maps keys are put through, and the settings that the keys were made under
 pub record MoverState : Type 0 where
   pub certificate : CertificateContent
-  pub depth : Depth
-  pub weighting : Weighting
+  pub settings : Settings
 
 -- The key put through the maps is what there is before `at`, and then the rest put through them. The rest is in this level, with
 -- this many levels of weights from there on.

@@ -16,7 +16,7 @@ use crate::levels::{LevelEnd, move_level};
 use std::alloc::{AllocError, Allocator, Global};
 use std::marker::Model;
 use uca_certificates::Certificate;
-use uca_weights::{Depth, Weighting};
+use uca_weights::{Depth, Settings, Weighting};
 
 /// Puts stored keys through the maps of a certificate. So the key of a text under an old table becomes its key under the
 /// new one, if each of its elements becomes its image. `keys_move_by_maps` of `uca_tailorings` says when they do. It holds
@@ -24,8 +24,7 @@ use uca_weights::{Depth, Weighting};
 #[derive(Drop)]
 pub struct KeyMover<A: Allocator = Global> {
     certificate: Certificate<A>,
-    depth: Depth,
-    weighting: Weighting,
+    settings: Settings,
     tables: LevelTables<A>,
 }
 
@@ -36,13 +35,13 @@ impl<A: Allocator> Model for KeyMover<A> {
 
     ghost Value = { MoverState };
 
-    ghost view = { λ m. record { certificate = m.certificate; depth = m.depth; weighting = m.weighting } };
+    ghost view = { λ m. record { certificate = m.certificate; settings = m.settings } };
 
     ghost invariant = { λ m. AreLevelTables (maps_of m.certificate) m.tables.primary.items m.tables.secondary.items m.tables.tertiary.items };
 }
 
 impl<A: Allocator + Copy> KeyMover<A> {
-    /// The maps of a certificate, for keys that were made at this depth and under this weighting.
+    /// The maps of a certificate, for keys that were made under these settings.
     ///
     /// # Errors
     ///
@@ -50,16 +49,14 @@ impl<A: Allocator + Copy> KeyMover<A> {
     pub fn new(
         alloc: A,
         certificate: Certificate<A>,
-        depth: Depth,
-        weighting: Weighting,
+        settings: Settings,
     ) -> Result<KeyMover<A>, AllocError>
-        ensures { IfOk result (λ mover. mover ≡ record { certificate = certificate; depth = depth; weighting = weighting }) }
+        ensures { IfOk result (λ mover. mover ≡ record { certificate = certificate; settings = settings }) }
     {
         match tables_of(alloc, &certificate) {
             Ok(tables) => Ok(KeyMover {
                 certificate,
-                depth,
-                weighting,
+                settings,
                 tables,
             }),
             Err(error) => Err(error),
@@ -75,19 +72,19 @@ impl<A: Allocator> KeyMover<A> {
     /// `false`. So it does at depth `Identical` if what follows the weights is not whole code points: three bytes each,
     /// high byte first, each a Unicode scalar value. The bytes are then unspecified.
     pub fn move_key(&self, key: &mut [u8]) -> bool
-        ensures { moved_key (maps_of self.now.certificate) self.now.depth self.now.weighting key.old
+        ensures { moved_key (maps_of self.now.certificate) self.now.settings.depth self.now.settings.weighting key.old
             ≡ (if result then Some key.new else None) }
     {
-        let levels = level_count(self.weighting);
+        let levels = level_count(self.settings.weighting);
         let mut at = 0;
         for level in 0..levels {
             match move_level(self.images(level), key, at) {
                 LevelEnd::Next(next) => at = next,
-                LevelEnd::Key => return may_end(self.depth, levels - (level + 1)),
+                LevelEnd::Key => return may_end(self.settings.depth, levels - (level + 1)),
                 LevelEnd::Missing => return false,
             }
         }
-        may_follow(self.depth, &key[at..])
+        may_follow(self.settings.depth, &key[at..])
     }
 
     /// Writes a key that was put through the maps over the bytes that were there, and returns `true`. The memory is used
@@ -103,7 +100,7 @@ impl<A: Allocator> KeyMover<A> {
         key: &[u8],
         moved: &mut Vec<u8, B>,
     ) -> Result<bool, AllocError>
-        ensures { IfOk result (λ found. moved_key (maps_of self.now.certificate) self.now.depth self.now.weighting key.now
+        ensures { IfOk result (λ found. moved_key (maps_of self.now.certificate) self.now.settings.depth self.now.settings.weighting key.now
             ≡ (if found then Some moved.new.items else None)) }
     {
         moved.clear();

@@ -2,8 +2,7 @@
 use Rattle.std.proofs.Common.{◌≡◌, ◌≢◌, ℕ, ◌+◌, false, ◌≤◌, List, [], ◌∷◌, ◌++◌, length, Option, Some, None, IfSome, Result, Ok, Err, inl, inr, refl, ap, sym, subst, ◌∙◌, append-nil, arith, length-append}
 use Rattle.std.specs.Io.KnownBytes.{Appends}
 use Rattle.std.specs.List.{flat_map}
-use Rattle.uca_weights.specs.declared.Depth.{Depth}
-use Rattle.uca_weights.specs.declared.Weighting.{Weighting}
+use Rattle.uca_weights.specs.declared.Settings.{Settings}
 use Rattle.uca_weights.specs.Streams.{SourceState, SinkState}
 use Rattle.hex.specs.Hex.{encode_lower, lower_digits}
 use Rattle.hex.proofs.HexLemmas.{length-encode_with}
@@ -26,10 +25,10 @@ use Rattle.uca_rekey.specs.RekeyRun.{IsLineFault}
 use Rattle.uca_rekey.specs.inside.RekeySoFar.{AreReplaced, HasReadHeader, HasRekeyed, IsUnread, RekeysRest, WritesLine, WritesReplaced, WrittenState, mover_of, moved_by}
 use Rattle.uca_rekey.proofs.Rekeying.{begins_with}
 
--- headers of one weighting and one depth are of one length
-pub header_length : (weighting : Weighting) (depth : Depth) (from to : List ℕ) → length from ≡ 32 → length to ≡ 32
-    → length (key_header weighting depth to) ≡ length (key_header weighting depth from)
-header_length weighting depth from to of_from of_to =
+-- headers of the same settings are of one length
+pub header_length : (settings : Settings) (from to : List ℕ) → length from ≡ 32 → length to ≡ 32
+    → length (key_header settings to) ≡ length (key_header settings from)
+header_length settings from to of_from of_to =
     let digits : length (encode_lower to) ≡ length (encode_lower from) = omega (arith, length-encode_with lower_digits from, length-encode_with lower_digits to) in
     simp length-append (omega (arith, digits))
 
@@ -146,11 +145,11 @@ writes_headed moved from to (Some bytes) left begun now (Err (Write written)) w 
 writes_headed moved from to (Some bytes) left begun now (Err _) w = absurd w
 
 -- what a run returns that ended by its lines
-pub runs_headed : {A : Type 0} (weighting : Weighting) (depth : Depth) (from to : List ℕ) (input input_new : SourceState) (out out_new : SinkState) (result : Result A RunFault)
+pub runs_headed : {A : Type 0} (settings : Settings) (from to : List ℕ) (input input_new : SourceState) (out out_new : SinkState) (result : Result A RunFault)
     (certificate : CertificateContent)
-    → IfSome input.remaining (λ bytes. WritesHeaded (moved_by (mover_of certificate depth weighting)) (key_header weighting depth from) (key_header weighting depth to)
+    → IfSome input.remaining (λ bytes. WritesHeaded (moved_by (mover_of certificate settings)) (key_header settings from) (key_header settings to)
     bytes input_new.remaining out.contents out_new.contents result)
-    → RunsHeaded weighting depth from to input input_new out out_new result certificate
-runs_headed weighting depth from to input input_new out out_new (Ok x) certificate writes = writes
-runs_headed weighting depth from to input input_new out out_new (Err Memory) certificate writes = tt
-runs_headed weighting depth from to input input_new out out_new (Err _) certificate writes = writes
+    → RunsHeaded settings from to input input_new out out_new result certificate
+runs_headed settings from to input input_new out out_new (Ok x) certificate writes = writes
+runs_headed settings from to input input_new out out_new (Err Memory) certificate writes = tt
+runs_headed settings from to input input_new out out_new (Err _) certificate writes = writes

@@ -7,8 +7,7 @@ use Rattle.std.specs.Option.{option_and_then}
 use Rattle.std.proofs.lemmas.Bool.{cond_both}
 use Rattle.std.proofs.lemmas.Grind.{flat_map-append}
 use Rattle.std.proofs.lemmas.List.{map_push}
-use Rattle.uca_weights.specs.declared.Depth.{Depth}
-use Rattle.uca_weights.specs.declared.Weighting.{Weighting}
+use Rattle.uca_weights.specs.declared.Settings.{Settings}
 use Rattle.uca_weights.specs.Streams.{SourceState, SinkState}
 use Rattle.uca_weights.proofs.Tests.{map_some}
 use Rattle.uca_lines.specs.Buffered.{HasWrittenThrough}
@@ -57,13 +56,13 @@ pub by_same : (by mover : MoverState) → mover ≡ by → (P : (List ℕ → Op
 by_same by mover same P h = subst (λ (m : MoverState). P (moved_by m)) (sym same) h
 
 -- what a run returns that ended by its lines
-pub runs_rekey : {A : Type 0} (weighting : Weighting) (depth : Depth) (input input_new : SourceState) (out out_new : SinkState) (result : Result A RunFault)
+pub runs_rekey : {A : Type 0} (settings : Settings) (input input_new : SourceState) (out out_new : SinkState) (result : Result A RunFault)
     (certificate : CertificateContent) → ended_before_input result ≡ false
-    → IfSome input.remaining (λ bytes. WritesRekeyed (moved_by (mover_of certificate depth weighting)) bytes input_new.remaining out.contents out_new.contents result)
-    → RunsRekey weighting depth input input_new out out_new result certificate
-runs_rekey weighting depth input input_new out out_new (Ok x) certificate lines writes = writes
-runs_rekey weighting depth input input_new out out_new (Err Memory) certificate lines writes = tt
-runs_rekey weighting depth input input_new out out_new (Err _) certificate lines writes = writes
+    → IfSome input.remaining (λ bytes. WritesRekeyed (moved_by (mover_of certificate settings)) bytes input_new.remaining out.contents out_new.contents result)
+    → RunsRekey settings input input_new out out_new result certificate
+runs_rekey settings input input_new out out_new (Ok x) certificate lines writes = writes
+runs_rekey settings input input_new out out_new (Err Memory) certificate lines writes = tt
+runs_rekey settings input input_new out out_new (Err _) certificate lines writes = writes
 
 -- an error of a line is none before the input
 pub not_before : (A B : Type 0) (fault : RunFault) → ended_before_input {A = A} (Err fault) ≡ false → ended_before_input {A = B} (Err fault) ≡ false

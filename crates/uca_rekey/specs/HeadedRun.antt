@@ -3,6 +3,7 @@ use Rattle.std.specs.Prelude.{◌≡◌, ◌≢◌, ◌⊎◌, ℕ, List, [], �
 use Rattle.std.specs.List.{flat_map}
 use Rattle.std.specs.Io.KnownBytes.{Appends}
 use Rattle.uca_weights.specs.declared.Depth.{Depth}
+use Rattle.uca_weights.specs.declared.Settings.{Settings}
 use Rattle.uca_weights.specs.declared.Weighting.{Weighting}
 use Rattle.uca_weights.specs.Streams.{SourceState, SinkState}
 use Rattle.uca_fingerprint.specs.KeyHeaders.{key_header}
@@ -50,15 +51,15 @@ WritesHeaded moved from to bytes left begun now (Err (Write written)) =
     (lines new rest : List (List ℕ)) × (lines_of bytes ≡ from ∷ lines ++ rest) × AreRekeyed moved lines new × PartWentOut begun now (flat_map ended (to ∷ new)) written
 WritesHeaded moved from to bytes left begun now (Err _) = ⊥
 
--- What a run returns under a certificate. The headers are those of the weighting, the depth and the two fingerprints. An allocation that failed
+-- What a run returns under a certificate. The headers are those of the settings and the two fingerprints. An allocation that failed
 -- before the input says nothing of the lines.
-abbrev pub RunsHeaded : {A : Type 0} → Weighting → Depth → List ℕ → List ℕ → SourceState → SourceState → SinkState → SinkState → Result A RunFault → CertificateContent → Type 0
-RunsHeaded weighting depth from to input input_new out out_new (Err Memory) certificate = ⊤
-RunsHeaded weighting depth from to input input_new out out_new result certificate =
-    IfSome input.remaining (λ bytes. WritesHeaded (moved_key (maps_of certificate) depth weighting) (key_header weighting depth from) (key_header weighting depth to)
+abbrev pub RunsHeaded : {A : Type 0} → Settings → List ℕ → List ℕ → SourceState → SourceState → SinkState → SinkState → Result A RunFault → CertificateContent → Type 0
+RunsHeaded settings from to input input_new out out_new (Err Memory) certificate = ⊤
+RunsHeaded settings from to input input_new out out_new result certificate =
+    IfSome input.remaining (λ bytes. WritesHeaded (moved_key (maps_of certificate) settings.depth settings.weighting) (key_header settings from) (key_header settings to)
     bytes input_new.remaining out.contents out_new.contents result)
 
 -- A run that rekeys the lines after a header. The old and the new header have the fingerprints `from` and `to`.
 abbrev pub RekeysHeaded : {A : Type 0} → Weighting → Depth → List ℕ → List ℕ → List SourceState → List SourceState → SourceState → SourceState → SinkState → SinkState → Result A RunFault → Type 0
 RekeysHeaded weighting depth from to olds news input input_new out out_new result =
-    PrintsEach certificate_file (roles.Certificate ∷ []) (RunsHeaded weighting depth from to input input_new out out_new result) olds news input input_new out out_new result
+    PrintsEach certificate_file (roles.Certificate ∷ []) (RunsHeaded (record { weighting = weighting; depth = depth }) from to input input_new out out_new result) olds news input input_new out out_new result

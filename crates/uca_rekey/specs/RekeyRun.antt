@@ -4,6 +4,7 @@ use Rattle.std.specs.List.{flat_map}
 use Rattle.std.specs.Prelude.{None}
 use Rattle.std.specs.Io.KnownBytes.{Appends}
 use Rattle.uca_weights.specs.declared.Depth.{Depth}
+use Rattle.uca_weights.specs.declared.Settings.{Settings}
 use Rattle.uca_weights.specs.declared.Weighting.{Weighting}
 use Rattle.uca_weights.specs.Streams.{SourceState, SinkState}
 use Rattle.uca_lines.specs.Lines.{is_lf, Lacks, ended, lines_of}
@@ -78,12 +79,12 @@ WritesRekeyed moved bytes left begun now (Err (Write written)) =
 WritesRekeyed moved bytes left begun now (Err _) = ⊥
 
 -- What a run returns under a certificate. An allocation that failed before the input says nothing of the lines.
-abbrev pub RunsRekey : {A : Type 0} → Weighting → Depth → SourceState → SourceState → SinkState → SinkState → Result A RunFault → CertificateContent → Type 0
-RunsRekey weighting depth input input_new out out_new (Err Memory) certificate = ⊤
-RunsRekey weighting depth input input_new out out_new result certificate =
-    IfSome input.remaining (λ bytes. WritesRekeyed (moved_key (maps_of certificate) depth weighting) bytes input_new.remaining out.contents out_new.contents result)
+abbrev pub RunsRekey : {A : Type 0} → Settings → SourceState → SourceState → SinkState → SinkState → Result A RunFault → CertificateContent → Type 0
+RunsRekey settings input input_new out out_new (Err Memory) certificate = ⊤
+RunsRekey settings input input_new out out_new result certificate =
+    IfSome input.remaining (λ bytes. WritesRekeyed (moved_key (maps_of certificate) settings.depth settings.weighting) bytes input_new.remaining out.contents out_new.contents result)
 
 -- A run that rekeys lines.
 abbrev pub RekeysLines : {A : Type 0} → Weighting → Depth → List SourceState → List SourceState → SourceState → SourceState → SinkState → SinkState → Result A RunFault → Type 0
 RekeysLines weighting depth olds news input input_new out out_new result =
-    PrintsEach certificate_file (roles.Certificate ∷ []) (RunsRekey weighting depth input input_new out out_new result) olds news input input_new out out_new result
+    PrintsEach certificate_file (roles.Certificate ∷ []) (RunsRekey (record { weighting = weighting; depth = depth }) input input_new out out_new result) olds news input input_new out out_new result

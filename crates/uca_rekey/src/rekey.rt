@@ -18,7 +18,7 @@ use uca_certificates::Certificate;
 use uca_fingerprint::KeyHeader;
 use uca_images::KeyMover;
 use uca_run_parts::{Role, RunFault, read_certificate_file};
-use uca_weights::{Depth, Sink, Source, Weighting};
+use uca_weights::{Depth, Settings, Sink, Source, Weighting};
 
 // The maps of the certificate, the lines of the input, and those that were written.
 #[derive(Drop)]
@@ -122,17 +122,16 @@ impl<A: Allocator> RekeyRun<A> {
 fn begin<A: Allocator + Copy, C: Read>(
     alloc: A,
     certificate: &mut Source<C>,
-    weighting: Weighting,
-    depth: Depth,
+    settings: Settings,
 ) -> Result<RekeyRun<A>, RunFault>
     ensures begun { Over certificate_file (certificate.old ∷ []) (certificate.new ∷ [])
-        (λ content. MatchResult result (λ run. IsBegun (mover_of content depth weighting) run.mover run.lines run.written)
+        (λ content. MatchResult result (λ run. IsBegun (mover_of content settings) run.mover run.lines run.written)
         (λ fault. fault ≡ RunFault.Memory)) result }
     ensures before_input { IfErr result (λ _. ended_before_input result ≡ true) }
     ensures failed { HaveFailed (Role.Certificate ∷ []) (certificate.old ∷ []) (certificate.new ∷ []) result }
 {
     match read_certificate_file(alloc, certificate) {
-        Ok(certificate) => begin_by(alloc, certificate, weighting, depth),
+        Ok(certificate) => begin_by(alloc, certificate, settings),
         Err(fault) => Err(fault),
     }
 }
@@ -141,13 +140,12 @@ fn begin<A: Allocator + Copy, C: Read>(
 fn begin_by<A: Allocator + Copy>(
     alloc: A,
     certificate: Certificate<A>,
-    weighting: Weighting,
-    depth: Depth,
+    settings: Settings,
 ) -> Result<RekeyRun<A>, RunFault>
-    ensures { MatchResult result (λ run. IsBegun (mover_of certificate depth weighting) run.mover run.lines run.written)
+    ensures { MatchResult result (λ run. IsBegun (mover_of certificate settings) run.mover run.lines run.written)
         (λ fault. fault ≡ RunFault.Memory) }
 {
-    match KeyMover::new(alloc, certificate, depth, weighting) {
+    match KeyMover::new(alloc, certificate, settings) {
         Ok(mover) => match KeyLines::new(alloc) {
             Ok(lines) => Ok(RekeyRun {
                 mover,
@@ -190,7 +188,8 @@ pub fn run_rekey<A: Allocator + Copy, C: Read, I: Read, W: Write>(
 ) -> Result<(), RunFault>
     ensures { RekeysLines weighting depth (certificate.old ∷ []) (certificate.new ∷ []) input.old input.new out.old out.new result }
 {
-    match begin(alloc, certificate, weighting, depth) {
+    let settings = Settings { weighting, depth };
+    match begin(alloc, certificate, settings) {
         Ok(mut run) => {
             let end = run.rekey_rest(input, out);
             let end = run.written.end(out, end);
@@ -220,10 +219,11 @@ pub fn run_headed_rekey<A: Allocator + Copy, C: Read, I: Read, W: Write>(
 ) -> Result<(), RunFault>
     ensures { RekeysHeaded weighting depth from.now to.now (certificate.old ∷ []) (certificate.new ∷ []) input.old input.new out.old out.new result }
 {
-    match begin(alloc, certificate, weighting, depth) {
+    let settings = Settings { weighting, depth };
+    match begin(alloc, certificate, settings) {
         Ok(mut run) => {
-            let old_header = KeyHeader::new(weighting, depth, from);
-            let new_header = KeyHeader::new(weighting, depth, to);
+            let old_header = KeyHeader::new(settings, from);
+            let new_header = KeyHeader::new(settings, to);
             let end = run.rekey_headed(input, out, old_header.as_bytes(), new_header.as_bytes());
             drop(run);
             end

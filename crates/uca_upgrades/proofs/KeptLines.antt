@@ -23,7 +23,7 @@ use Rattle.uca_elements.specs.Collations.{collation_under}
 use Rattle.uca_order.specs.Keyings.{Keying, keying}
 use Rattle.uca_key_runs.specs.Keys.{keyed_line, printed_key}
 use Rattle.uca_key_runs.proofs.NormalLines.{normal_line}
-use Rattle.uca_upgrades.specs.Upgrades.{Upgrade, AreUnaffectedLines, IsRekeyed, IsStoredLineKey, IsUnaffectedLine, KeepsOrder, new_key, new_settings, new_weighting, old_key, old_settings, stored_weighting}
+use Rattle.uca_upgrades.specs.Upgrades.{Upgrade, AreUnaffectedLines, IsRekeyed, IsStoredLineKey, IsUnaffectedLine, KeepsOrder, new_key, new_keying, new_weighting, old_key, old_keying, stored_weighting}
 use Rattle.uca_upgrades.proofs.KeyBytes.{text_key_is_bytes}
 use Rattle.uca_upgrades.proofs.Outputs.{keyed_body, keyed_body_lacks, keyed_is, lines_lack, output_rekeyed, printed_body, printed_body_lacks, printed_is}
 
@@ -45,8 +45,8 @@ abbrev pub KeepsWeighting : Upgrade → Type 0
 KeepsWeighting upgrade = (asked : Option Weighting) → new_weighting upgrade asked ≡ stored_weighting upgrade asked
 
 -- what keys go by under some files, by this weighting
-abbrev settings_by : TableAndData → Depth → Weighting → Keying
-settings_by files depth weighting = keying (Some weighting) depth files.table files.properties
+abbrev keying_under : TableAndData → Depth → Weighting → Keying
+keying_under files depth weighting = keying (Some weighting) depth files.table files.properties
 
 module _ (upgrade : Upgrade) (is : IsTable upgrade.old.table) (moves : Moves upgrade) (keeps : KeepsWeighting upgrade) (asked : Option Weighting)
     (depth : Depth) where
@@ -73,11 +73,11 @@ module _ (upgrade : Upgrade) (is : IsTable upgrade.old.table) (moves : Moves upg
   lines line unaffected = lines_move upgrade.maps (read_line upgrade.old line) (read_line upgrade.new line) (moves line unaffected)
 
   -- The line of output of an unaffected line, with its key alone or before a row, and how it changes.
-  printed_line : (line before after : List ℕ) → IsUnaffectedLine upgrade line → ended before ≡ printed_key (old_settings upgrade asked depth) line →
-      ended after ≡ printed_key (new_settings upgrade asked depth) line → rekeyed upgrade.maps depth weighting before ≡ Some after
+  printed_line : (line before after : List ℕ) → IsUnaffectedLine upgrade line → ended before ≡ printed_key (old_keying upgrade asked depth) line →
+      ended after ≡ printed_key (new_keying upgrade asked depth) line → rekeyed upgrade.maps depth weighting before ≡ Some after
   printed_line line before after unaffected was is_now =
       (lines line unaffected).printed depth weighting (old_bytes line unaffected) before after was
-      (is_now ∙ ap (λ w. printed_key (settings_by upgrade.new depth w) line) (keeps asked))
+      (is_now ∙ ap (λ w. printed_key (keying_under upgrade.new depth w) line) (keeps asked))
 
   keyed_row : (line row before after : List ℕ) → IsUnaffectedLine upgrade line → ended before ≡ keyed_line_of (old_key upgrade asked depth line) row →
       ended after ≡ keyed_line_of (new_key upgrade asked depth line) row → rekeyed upgrade.maps depth weighting before ≡ Some after
@@ -87,11 +87,11 @@ module _ (upgrade : Upgrade) (is : IsTable upgrade.old.table) (moves : Moves upg
 
   -- so the output of a run changes
   printed : (input : List ℕ) → AreUnaffectedLines upgrade input →
-      IsRekeyed upgrade asked depth (flat_map (printed_key (old_settings upgrade asked depth)) (lines_of input))
-      (flat_map (printed_key (new_settings upgrade asked depth)) (lines_of input))
+      IsRekeyed upgrade asked depth (flat_map (printed_key (old_keying upgrade asked depth)) (lines_of input))
+      (flat_map (printed_key (new_keying upgrade asked depth)) (lines_of input))
   printed input unaffected =
-      let old = old_settings upgrade asked depth in
-      let new = new_settings upgrade asked depth in
+      let old = old_keying upgrade asked depth in
+      let new = new_keying upgrade asked depth in
       output_rekeyed (moved_key upgrade.maps depth weighting) (printed_key old) (printed_body old) (printed_key new) (printed_body new)
       (printed_is old) (printed_is new) (lines_of input)
       (each_any (λ line. Lacks is_lf (printed_body old line)) (printed_body_lacks old) (lines_of input))
@@ -100,11 +100,11 @@ module _ (upgrade : Upgrade) (is : IsTable upgrade.old.table) (moves : Moves upg
       (lines_of input) unaffected)
 
   keyed : (input : List ℕ) → AreUnaffectedLines upgrade input →
-      IsRekeyed upgrade asked depth (flat_map (keyed_line (old_settings upgrade asked depth)) (lines_of input))
-      (flat_map (keyed_line (new_settings upgrade asked depth)) (lines_of input))
+      IsRekeyed upgrade asked depth (flat_map (keyed_line (old_keying upgrade asked depth)) (lines_of input))
+      (flat_map (keyed_line (new_keying upgrade asked depth)) (lines_of input))
   keyed input unaffected =
-      let old = old_settings upgrade asked depth in
-      let new = new_settings upgrade asked depth in
+      let old = old_keying upgrade asked depth in
+      let new = new_keying upgrade asked depth in
       output_rekeyed (moved_key upgrade.maps depth weighting) (keyed_line old) (keyed_body old) (keyed_line new) (keyed_body new)
       (keyed_is old) (keyed_is new) (lines_of input)
       (each_weaker (Lacks is_lf) (λ line. Lacks is_lf (keyed_body old line)) (keyed_body_lacks old) (lines_of input) (lines_lack input))

@@ -105,7 +105,7 @@ output_rekeyed moved old_bytes old new_bytes new old_prints new_prints lines lac
 pub printed_body : Keying → List ℕ → List ℕ
 printed_body c line =
     let text = nfd_text c.collation.properties (chars line) in
-    printed_groups (key_bytes c.weighting (elements_of c.collation text)) ++ printed_after c.depth text.points
+    printed_groups (key_bytes c.settings.weighting (elements_of c.collation text)) ++ printed_after c.settings.depth text.points
 
 pub keyed_body : Keying → List ℕ → List ℕ
 keyed_body c line = flat_map byte_digits (key_of_bytes c line) ++ 9 ∷ line
@@ -114,7 +114,7 @@ pub printed_is : (c : Keying) → Prints (printed_key c) (printed_body c)
 unfolding printed_body
 printed_is c line =
     let text = nfd_text c.collation.properties (chars line) in
-    sym (append_assoc (printed_groups (key_bytes c.weighting (elements_of c.collation text))) (printed_after c.depth text.points) (10 ∷ []))
+    sym (append_assoc (printed_groups (key_bytes c.settings.weighting (elements_of c.collation text))) (printed_after c.settings.depth text.points) (10 ∷ []))
 
 pub keyed_is : (c : Keying) → Prints (keyed_line c) (keyed_body c)
 unfolding keyed_body
@@ -124,7 +124,7 @@ pub printed_body_lacks : (c : Keying) (line : List ℕ) → Lacks is_lf (printed
 unfolding printed_body
 printed_body_lacks c line =
     let text = nfd_text c.collation.properties (chars line) in
-    printed_lacks c.depth (key_bytes c.weighting (elements_of c.collation text)) text.points
+    printed_lacks c.settings.depth (key_bytes c.settings.weighting (elements_of c.collation text)) text.points
 
 pub keyed_body_lacks : (c : Keying) (line : List ℕ) → Lacks is_lf line → Lacks is_lf (keyed_body c line)
 unfolding keyed_body

@@ -55,11 +55,11 @@ tailoring_upgrade tailoring = record {
 
 -- What keys go by under the old files, and under the new ones. Both runs are asked for this weighting, or for none: then each goes
 -- by what its table says, or else shifted.
-abbrev pub old_settings : Upgrade → Option Weighting → Depth → Keying
-old_settings upgrade asked depth = keying asked depth upgrade.old.table upgrade.old.properties
+abbrev pub old_keying : Upgrade → Option Weighting → Depth → Keying
+old_keying upgrade asked depth = keying asked depth upgrade.old.table upgrade.old.properties
 
-abbrev pub new_settings : Upgrade → Option Weighting → Depth → Keying
-new_settings upgrade asked depth = keying asked depth upgrade.new.table upgrade.new.properties
+abbrev pub new_keying : Upgrade → Option Weighting → Depth → Keying
+new_keying upgrade asked depth = keying asked depth upgrade.new.table upgrade.new.properties
 
 -- the weighting that the keys of a store were made by under the old files, and that of new keys
 abbrev pub stored_weighting : Upgrade → Option Weighting → Weighting
@@ -70,10 +70,10 @@ new_weighting upgrade asked = weighting_by asked upgrade.new.table.header.settin
 
 -- the key of a line under the old files, and under the new ones
 abbrev pub old_key : Upgrade → Option Weighting → Depth → List ℕ → List ℕ
-old_key upgrade asked depth line = key_of_bytes (old_settings upgrade asked depth) line
+old_key upgrade asked depth line = key_of_bytes (old_keying upgrade asked depth) line
 
 abbrev pub new_key : Upgrade → Option Weighting → Depth → List ℕ → List ℕ
-new_key upgrade asked depth line = key_of_bytes (new_settings upgrade asked depth) line
+new_key upgrade asked depth line = key_of_bytes (new_keying upgrade asked depth) line
 
 -- ---- What a store may have
 
@@ -126,28 +126,28 @@ pub record KeysAreUpgraded (upgrade : Upgrade) (asked : Option Weighting) (depth
   -- two keys of the store, compared as bytes, have the order of their lines under the new files
   pub ordered : (left right left_key right_key : List ℕ) →
       IsStoredLineKey upgrade asked depth left left_key → IsStoredLineKey upgrade asked depth right right_key →
-      lexicographic left_key right_key ≡ (bytes_compared (new_settings upgrade asked depth) left right).order
+      lexicographic left_key right_key ≡ (bytes_compared (new_keying upgrade asked depth) left right).order
   -- and they give the level at which these differ
   pub levels : (left right left_key right_key : List ℕ) →
       IsStoredLineKey upgrade asked depth left left_key → IsStoredLineKey upgrade asked depth right right_key →
-      stored_level (levels_at depth (stored_weighting upgrade asked)) left_key right_key ≡ (bytes_compared (new_settings upgrade asked depth) left right).level
+      stored_level (levels_at depth (stored_weighting upgrade asked)) left_key right_key ≡ (bytes_compared (new_keying upgrade asked depth) left right).level
   -- What `uca keys` printed of an unaffected line under the old files becomes, by `uca rekey`, what it prints under the new ones.
   -- Both are given here without their LF.
   pub printed_line : (line before after : List ℕ) → IsUnaffectedLine upgrade line →
-      ended before ≡ printed_key (old_settings upgrade asked depth) line →
-      ended after ≡ printed_key (new_settings upgrade asked depth) line → rekeyed upgrade.maps depth (stored_weighting upgrade asked) before ≡ Some after
+      ended before ≡ printed_key (old_keying upgrade asked depth) line →
+      ended after ≡ printed_key (new_keying upgrade asked depth) line → rekeyed upgrade.maps depth (stored_weighting upgrade asked) before ≡ Some after
   -- `uca rekey` puts the new key in place of the old one before a tab and what a store has after it, such as the line itself.
   pub keyed_row : (line row before after : List ℕ) → IsUnaffectedLine upgrade line →
       ended before ≡ keyed_line_of (old_key upgrade asked depth line) row →
       ended after ≡ keyed_line_of (new_key upgrade asked depth line) row → rekeyed upgrade.maps depth (stored_weighting upgrade asked) before ≡ Some after
   -- So the whole output of `uca keys` over an input of unaffected lines becomes its output under the new files.
   pub printed : (input : List ℕ) → AreUnaffectedLines upgrade input →
-      IsRekeyed upgrade asked depth (flat_map (printed_key (old_settings upgrade asked depth)) (lines_of input))
-      (flat_map (printed_key (new_settings upgrade asked depth)) (lines_of input))
+      IsRekeyed upgrade asked depth (flat_map (printed_key (old_keying upgrade asked depth)) (lines_of input))
+      (flat_map (printed_key (new_keying upgrade asked depth)) (lines_of input))
   -- the whole output of `uca keys --lines` over unaffected lines becomes its output under the new files
   pub keyed : (input : List ℕ) → AreUnaffectedLines upgrade input →
-      IsRekeyed upgrade asked depth (flat_map (keyed_line (old_settings upgrade asked depth)) (lines_of input))
-      (flat_map (keyed_line (new_settings upgrade asked depth)) (lines_of input))
+      IsRekeyed upgrade asked depth (flat_map (keyed_line (old_keying upgrade asked depth)) (lines_of input))
+      (flat_map (keyed_line (new_keying upgrade asked depth)) (lines_of input))
 
 -- that for each weighting that is asked for, for what the tables say where none is, and for each depth
 abbrev pub KeepsOrder : Upgrade → Type 0

@@ -2,8 +2,7 @@
 use Rattle.std.specs.Prelude.{◌≡◌, ℕ, suc, ◌+◌, ◌^◌, ◌<◌, Bool, MatchBool, List, [], ◌∷◌, ◌++◌, false, length, Option, Some, Result, Ok, Err, IfSome, ⊤}
 use Rattle.std.specs.Io.KnownBytes.{Appends}
 use Rattle.std.specs.List.{flat_map}
-use Rattle.uca_weights.specs.declared.Depth.{Depth}
-use Rattle.uca_weights.specs.declared.Weighting.{Weighting}
+use Rattle.uca_weights.specs.declared.Settings.{Settings}
 use Rattle.uca_weights.specs.Streams.{SourceState, SinkState}
 use Rattle.uca_lines.specs.Buffered.{HasWrittenThrough, FailsToWriteThrough, count_of}
 use Rattle.uca_lines.specs.Lines.{ended, lines_of}
@@ -24,11 +23,11 @@ use Rattle.uca_rekey.specs.inside.LinesInPlace.{LinesState, HasRead}
 
 -- the new key of a key, if it has one
 abbrev pub moved_by : MoverState → List ℕ → Option (List ℕ)
-moved_by mover = moved_key (maps_of mover.certificate) mover.depth mover.weighting
+moved_by mover = moved_key (maps_of mover.certificate) mover.settings.depth mover.settings.weighting
 
--- whose maps keys are put through, and how the keys were made
-abbrev pub mover_of : CertificateContent → Depth → Weighting → MoverState
-mover_of certificate depth weighting = record { certificate = certificate; depth = depth; weighting = weighting }
+-- whose maps keys are put through, and the settings that the keys were made under
+abbrev pub mover_of : CertificateContent → Settings → MoverState
+mover_of certificate chosen = record { certificate = certificate; settings = chosen }
 
 -- what was written to the output, and how many lines that is
 pub record WrittenState : Type 0 where

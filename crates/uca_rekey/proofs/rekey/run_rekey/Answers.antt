@@ -1,6 +1,7 @@
 -- The whole run, from what its certificate means and what is written of its lines.
 use Rattle.std.specs.Prelude.{⊤}
 use Rattle.std.proofs.Common.{◌≡◌, ◌||◌, [], ◌∷◌, Err, sym, subst}
+use Rattle.uca_weights.specs.declared.Settings.{Settings}
 use Rattle.uca_run_parts.specs.ReadFiles.{certificate_file}
 use Rattle.uca_run_parts.specs.declared.faults.Role.TheVariants as roles
 use Rattle.uca_run_parts.specs.declared.faults.RunFault.{RunFault}
@@ -14,20 +15,21 @@ use Rattle.uca_rekey.proofs.rekey.run_rekey.Goals as goal
 pub returns-in-Ok : goal.returns-in-Ok
 returns-in-Ok g c =
     let run = c.in-Ok.run' in
+    let settings : Settings = record { weighting = c.args.weighting; depth = c.args.depth } in
     let input = c.args.input.now in
     let out = c.args.out.now in
     let input_new = c.rekey_rest-end.new.input in
     let lines = c.end-end.ensures.of_lines c.rekey_rest-end.ensures.of_lines in
-    ended_by_lines certificate_file (roles.Certificate ∷ []) (λ content. IsBegun (mover_of content c.args.depth c.args.weighting) run.mover run.lines run.written)
-    (RunsRekey c.args.weighting c.args.depth input input_new out c.end-end.new.out c.end-end.result)
+    ended_by_lines certificate_file (roles.Certificate ∷ []) (λ content. IsBegun (mover_of content settings) run.mover run.lines run.written)
+    (RunsRekey settings input input_new out c.end-end.new.out c.end-end.result)
     (c.args.certificate.now ∷ []) (c.begin.new.certificate ∷ []) {B = ⊤} input input_new out c.end-end.new.out tt c.end-end.result lines
     (λ content begun.
-    let by = mover_of content c.args.depth c.args.weighting in
+    let by = mover_of content settings in
     let begin = by_same by run.mover begun.same (λ moved. HasRekeyed moved [] [] input.remaining out.contents [] [] run.lines input run.written out)
     (begun_so by run.mover run.lines run.written input out begun) in
     let rest = by_same run.mover by (sym begun.same) (λ moved. RekeysRest moved [] [] input.remaining out.contents input_new c.rekey_rest-end.new.self.written.buffer c.rekey_rest-end.new.out c.rekey_rest-end.result)
     (c.rekey_rest-end.ensures.rekeys [] [] input.remaining out.contents [] [] begin) in
-    runs_rekey c.args.weighting c.args.depth input input_new out c.end-end.new.out c.end-end.result content lines
+    runs_rekey settings input input_new out c.end-end.new.out c.end-end.result content lines
     (writes_rekeyed (moved_by by) input.remaining input_new.remaining out.contents c.end-end.new.out.contents c.end-end.result
     (c.end-end.ensures.writes (moved_by by) [] [] input.remaining out.contents input_new rest)))
     c.in-Ok.ensures.begun c.in-Ok.ensures.failed
@@ -36,9 +38,10 @@ returns-in-Ok g c =
 
 pub returns-in-Err : goal.returns-in-Err
 returns-in-Err g c =
+    let settings : Settings = record { weighting = c.args.weighting; depth = c.args.depth } in
     let fault = c.in-Err.fault in
     let input = c.args.input.now in
     let out = c.args.out.now in
-    ended_before certificate_file (roles.Certificate ∷ []) (λ content. fault ≡ Memory) (RunsRekey {A = ⊤} c.args.weighting c.args.depth input input out out (Err fault))
+    ended_before certificate_file (roles.Certificate ∷ []) (λ content. fault ≡ Memory) (RunsRekey {A = ⊤} settings input input out out (Err fault))
     (c.args.certificate.now ∷ []) (c.begin.new.certificate ∷ []) ⊤ ⊤ input out fault
-    (λ content is. subst (λ (f : RunFault). RunsRekey {A = ⊤} c.args.weighting c.args.depth input input out out (Err f) content) (sym is) tt) c.in-Err.ensures.begun c.in-Err.ensures.before_input c.in-Err.ensures.failed
+    (λ content is. subst (λ (f : RunFault). RunsRekey {A = ⊤} settings input input out out (Err f) content) (sym is) tt) c.in-Err.ensures.begun c.in-Err.ensures.before_input c.in-Err.ensures.failed

@@ -8,6 +8,6 @@ use Rattle.uca_images.proofs.mover.KeyMover.move_key.Given as goal
 abbrev pub invariant-loop-level : goal.invariant-loop-level
 invariant-loop-level g l = record {
   within : l.at ≤ length l.key;
-  moved : HasMoved (maps_of l.self.certificate) l.self.depth (suc l.level) (l.levels - l.level) l.at l.key
-      (moved_key (maps_of l.self.certificate) l.self.depth l.self.weighting l.initial.key);
+  moved : HasMoved (maps_of l.self.certificate) l.self.settings.depth (suc l.level) (l.levels - l.level) l.at l.key
+      (moved_key (maps_of l.self.certificate) l.self.settings.depth l.self.settings.weighting l.initial.key);
 }
