@@ -9,9 +9,9 @@ use Rattle.std.proofs.lemmas.Str.{encodes-chars, encodes-append, chars_from_enco
 use Rattle.std.proofs.lemmas.List.{length-map}
 use Rattle.unicode_normalization.specs.Forms.{nfd, Nfd}
 use Rattle.unicode_normalization.proofs.LengthLemmas.{length-normalize-chars}
-use Rattle.uca_weights.specs.declared.Depth.{Depth}
 use Rattle.uca_weights.specs.declared.Depth.TheVariants.{Weights}
 use Rattle.uca_weights.specs.declared.Element.{Element}
+use Rattle.uca_weights.specs.declared.Settings.{Settings}
 use Rattle.uca_weights.specs.declared.Weighting.{Weighting}
 use Rattle.uca_text.specs.Texts.{NfdText, nfd_text}
 use Rattle.uca_text.specs.Limits.{HasNoLongRun, IsAccepted}
@@ -20,7 +20,7 @@ use Rattle.uca_elements.specs.Collations.{Collation, elements_of}
 use Rattle.uca_plain.specs.declared.plain.KnownPoint.{KnownPoint}
 use Rattle.uca_key_writer.specs.declared.pieces.Piece.{Piece}
 use Rattle.uca_order.specs.Levels.{key_bytes}
-use Rattle.uca_order.specs.Depths.{read_text, key_at}
+use Rattle.uca_order.specs.Depths.{read_text, key_at, text_key}
 use Rattle.uca_order.specs.Lengths.{HasShortRows}
 use Rattle.uca_key_writer.specs.Buffers.{KeyState}
 use Rattle.uca_key_writer.specs.inside.LevelBuffers.{LevelState, HoldsLevels}
@@ -172,19 +172,19 @@ accepted_if_read c weighting true text b utf8 short read = record {
 }
 accepted_if_read c weighting false text b utf8 short read = tt
 
-pub key_if_read : (c : Collation) (held state : KeyState) (accepted : Bool) (xs key : List ℕ) (b : LevelState) → held ≡ state → held.depth ≡ Weights
-    → OnTrue accepted (HasRead c held.weighting xs b) → ((es : List Element) → HoldsLevels held.weighting es b → key ≡ key_bytes held.weighting es)
-    → OnTrue accepted (key ≡ key_at state.depth state.weighting (read_text c (nfd_text c.properties xs)))
+pub key_if_read : (c : Collation) (held state : KeyState) (accepted : Bool) (xs key : List ℕ) (b : LevelState) → held ≡ state → held.settings.depth ≡ Weights
+    → OnTrue accepted (HasRead c held.settings.weighting xs b) → ((es : List Element) → HoldsLevels held.settings.weighting es b → key ≡ key_bytes held.settings.weighting es)
+    → OnTrue accepted (key ≡ text_key c state.settings xs)
 unfolding HasRead
 key_if_read c held state true xs key b same depth read joined =
-    let by_weights : key ≡ key_at Weights held.weighting (read_text c (nfd_text c.properties xs)) = joined (elements_of c (nfd_text c.properties xs)) read.0 in
+    let by_weights : key ≡ key_at Weights held.settings.weighting (read_text c (nfd_text c.properties xs)) = joined (elements_of c (nfd_text c.properties xs)) read.0 in
     by_weights
-    ∙ ap (λ d. key_at d held.weighting (read_text c (nfd_text c.properties xs))) (sym depth)
-    ∙ ap (λ (s : KeyState). key_at s.depth s.weighting (read_text c (nfd_text c.properties xs))) same
+    ∙ ap (λ d. key_at d held.settings.weighting (read_text c (nfd_text c.properties xs))) (sym depth)
+    ∙ ap (λ (s : KeyState). text_key c s.settings xs) same
 key_if_read c held state false xs key b same depth read joined = tt
 
-pub short_if_read : (c : Collation) (depth : Depth) (weighting : Weighting) (accepted : Bool) (text : NfdText) (key : List ℕ) → HasShortRows c.rows
-    → OnTrue accepted (key ≡ key_at depth weighting (read_text c text)) → OnTrue accepted (IsAccepted text) → OnTrue accepted (length key < 2 ^ 40)
-short_if_read c depth weighting true text key short is accepted =
-    subst (λ (l : List ℕ). length l < 2 ^ 40) (sym is) (keys_short c depth weighting text short accepted)
-short_if_read c depth weighting false text key short is accepted = tt
+pub short_if_read : (c : Collation) (settings : Settings) (accepted : Bool) (text : NfdText) (key : List ℕ) → HasShortRows c.rows
+    → OnTrue accepted (key ≡ key_at settings.depth settings.weighting (read_text c text)) → OnTrue accepted (IsAccepted text) → OnTrue accepted (length key < 2 ^ 40)
+short_if_read c settings true text key short is accepted =
+    subst (λ (l : List ℕ). length l < 2 ^ 40) (sym is) (keys_short c settings.depth settings.weighting text short accepted)
+short_if_read c settings false text key short is accepted = tt

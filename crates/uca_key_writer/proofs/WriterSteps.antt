@@ -2,9 +2,7 @@
 use Rattle.std.proofs.Common.{◌≡◌, ℕ, List, Bool, Result, true, take, ap, subst, ◌∙◌}
 use Rattle.std.specs.Result.{OnOk, IfErr, IsErrAnd}
 use Rattle.std.specs.Bool.{OnTrue}
-use Rattle.uca_weights.specs.declared.Depth.{Depth}
-use Rattle.uca_weights.specs.declared.Weighting.{Weighting}
-use Rattle.uca_values.specs.Content.{properties_of}
+use Rattle.uca_weights.specs.declared.Settings.{Settings}
 use Rattle.uca_text.specs.Texts.{NfdText, nfd_text}
 use Rattle.uca_text.specs.Faults.{IsCause}
 use Rattle.uca_text.specs.declared.normalize.TextFault.{TextFault}
@@ -21,14 +19,14 @@ memory_is_cause s r is = fault_is (IsCause s) r Memory is tt
 
 -- the key of a text by a state
 abbrev pub key_by : {L : Type 0} → (L → Rows) → WriterState L → List ℕ → List ℕ
-key_by content w xs = key_at w.depth w.weighting (read_text (collation_by content w) (nfd_text (properties_of w.data_file) xs))
+key_by content w xs = text_key (collation_by content w) w.settings xs
 
 -- a whole key begins as it should
-pub beginning_of_whole : {T E : Type 0} (c : Collation) (at depth : Depth) (under weighting : Weighting) (xs key : List ℕ) (r : Result T E)
-    → at ≡ depth → under ≡ weighting → OnOk r (key ≡ text_key c at under xs) → OnOk r (take 16 key ≡ take 16 (text_key c depth weighting xs))
-beginning_of_whole c at depth under weighting xs key r same_depth same_weighting =
-    with_value r (key ≡ text_key c at under xs) (take 16 key ≡ take 16 (text_key c depth weighting xs))
-    (λ whole. ap (take 16) (whole ∙ (λ i. text_key c (same_depth i) (same_weighting i) xs)))
+pub beginning_of_whole : {T E : Type 0} (c : Collation) (at settings : Settings) (xs key : List ℕ) (r : Result T E)
+    → at ≡ settings → OnOk r (key ≡ text_key c at xs) → OnOk r (take 16 key ≡ take 16 (text_key c settings xs))
+beginning_of_whole c at settings xs key r same =
+    with_value r (key ≡ text_key c at xs) (take 16 key ≡ take 16 (text_key c settings xs))
+    (λ whole. ap (take 16) (whole ∙ ap (λ (s : Settings). text_key c s xs) same))
 
 -- ---- A key by pieces, or of a text that was normalized
 
@@ -36,7 +34,7 @@ beginning_of_whole c at depth under weighting xs key r same_depth same_weighting
 pub by_flag : (accepted : Bool) (P : Type 0) → accepted ≡ true → OnTrue accepted P → P
 by_flag accepted P flag says = subst (λ flag. OnTrue flag P) flag says
 
-pub key_of_normal : (c : Collation) (depth at : Depth) (weighting under : Weighting) (xs key : List ℕ) (text : NfdText) → text ≡ nfd_text c.properties xs
-    → at ≡ depth → under ≡ weighting → key ≡ key_at at under (read_text c text) → key ≡ key_at depth weighting (read_text c (nfd_text c.properties xs))
-key_of_normal c depth at weighting under xs key text found same_depth same_weighting wrote =
-    wrote ∙ (λ i. key_at (same_depth i) (same_weighting i) (read_text c (found i)))
+pub key_of_normal : (c : Collation) (settings at : Settings) (xs key : List ℕ) (text : NfdText) → text ≡ nfd_text c.properties xs
+    → at ≡ settings → key ≡ key_at at.depth at.weighting (read_text c text) → key ≡ text_key c settings xs
+key_of_normal c settings at xs key text found same wrote =
+    wrote ∙ (λ i. key_at (same i).depth (same i).weighting (read_text c (found i)))

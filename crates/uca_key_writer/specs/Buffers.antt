@@ -1,10 +1,8 @@
 -- What callers see of a buffer for keys.
 use Rattle.std.specs.Prelude.{ℕ, List}
-use Rattle.uca_weights.specs.declared.Depth.{Depth}
-use Rattle.uca_weights.specs.declared.Weighting.{Weighting}
+use Rattle.uca_weights.specs.declared.Settings.{Settings}
 
--- the weighting and the depth, and the bytes of the key that was written last
+-- the settings of its keys, and the bytes of the key that was written last
 pub record KeyState : Type 0 where
-  pub weighting : Weighting
-  pub depth : Depth
+  pub settings : Settings
   pub key : List ℕ

@@ -1,19 +1,17 @@
 -- What callers see of a value that writes keys of texts.
 use Rattle.std.specs.Prelude.{ℕ, List}
-use Rattle.uca_weights.specs.declared.Depth.{Depth}
-use Rattle.uca_weights.specs.declared.Weighting.{Weighting}
+use Rattle.uca_weights.specs.declared.Settings.{Settings}
 use Rattle.uca_values.specs.declared.ImplicitRange.{ImplicitRange}
 use Rattle.uca_values.specs.Content.{DataContent, properties_of}
 use Rattle.uca_elements.specs.Rows.{Rows}
 use Rattle.uca_elements.specs.Collations.{Collation}
 
--- what it reads texts by, the weighting and the depth of its keys, and the bytes of the key that was written last
+-- what it reads texts by, the settings of its keys, and the bytes of the key that was written last
 pub record WriterState (L : Type 0) : Type 0 where
   pub lookup : L
   pub ranges : List ImplicitRange
   pub data_file : DataContent
-  pub weighting : Weighting
-  pub depth : Depth
+  pub settings : Settings
   pub key : List ℕ
 
 -- what it reads texts by, where `content` is the map that its lookup is

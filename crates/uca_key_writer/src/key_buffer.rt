@@ -6,7 +6,7 @@ ghost use Rattle.uca_text.specs.Texts.{nfd_text};
 ghost use Rattle.uca_text.specs.Limits.{IsAccepted};
 ghost use Rattle.uca_text.specs.Faults.{IsCause};
 ghost use Rattle.uca_elements.specs.Collations.{collation_of};
-ghost use Rattle.uca_order.specs.Depths.{read_text, key_at};
+ghost use Rattle.uca_order.specs.Depths.{read_text, key_at, text_key};
 ghost use Rattle.uca_order.specs.Lengths.{HasShortRows};
 ghost use Rattle.uca_key_writer.specs.inside.LevelBuffers.{HoldsLevels};
 ghost use Rattle.uca_key_writer.specs.inside.Pieces.{ReadsTo, HasRead};
@@ -22,14 +22,13 @@ use uca_elements::{Collator, Lookup};
 use uca_plain::plain::{KnownPoint, PointCache, SHORT_TEXT};
 use uca_plain::points::split_first;
 use uca_text::{Normal, TextFault};
-use uca_weights::{Depth, Weighting};
+use uca_weights::{Depth, Settings, Weighting};
 
-/// Memory for sort keys (UTS #10, section 7.3) under one weighting and at one depth. Each key that is written replaces
-/// the one before, and the memory is used again.
+/// Memory for sort keys (UTS #10, section 7.3) under the same settings. Each key that is written replaces the one before,
+/// and the memory is used again.
 #[derive(Drop)]
 pub struct KeyBuffer<A: Allocator = Global> {
-    weighting: Weighting,
-    depth: Depth,
+    settings: Settings,
     levels: LevelBuffers<A>,
 }
 
@@ -38,19 +37,17 @@ impl<A: Allocator> Model for KeyBuffer<A> {
 
     ghost Value = { KeyState };
 
-    ghost view = { λ b. record { weighting = b.weighting; depth = b.depth; key = b.levels.key } };
+    ghost view = { λ b. record { settings = b.settings; key = b.levels.key } };
 }
 
 impl<A: Allocator + Copy> KeyBuffer<A> {
-    /// A buffer for keys under the weighting and at the depth, which takes no memory yet.
-    pub fn new(alloc: A, weighting: Weighting, depth: Depth) -> KeyBuffer<A>
-        ensures weighting { result.weighting ≡ weighting }
-        ensures depth { result.depth ≡ depth }
+    /// A buffer for keys under the settings, which takes no memory yet.
+    pub fn new(alloc: A, settings: Settings) -> KeyBuffer<A>
+        ensures settings { result.settings ≡ settings }
         ensures empty { result.key ≡ [] }
     {
         KeyBuffer {
-            weighting,
-            depth,
+            settings,
             levels: LevelBuffers::new(alloc),
         }
     }
@@ -67,17 +64,17 @@ impl<A: Allocator> KeyBuffer<A> {
         collator: &Collator<L, B>,
         text: &Normal,
     ) -> Result<(), AllocError>
-        ensures key { OnOk result (self.new.key ≡ key_at self.old.depth self.old.weighting
+        ensures key { OnOk result (self.new.key ≡ key_at self.old.settings.depth self.old.settings.weighting
             (read_text (collation_of L.content collator.now) text.now)) }
         ensures short { HasShortRows (collation_of L.content collator.now).rows →
             OnOk result (length self.new.key < 2 ^ 40) }
-        ensures weighting { self.new.weighting ≡ self.old.weighting }
-        ensures depth { self.new.depth ≡ self.old.depth }
+        ensures settings { self.new.settings ≡ self.old.settings }
     {
         // The text keeps the limits of `Normal`, so its key is short.
         let points = text.chars();
-        self.levels.write(self.weighting, collator.elements(text))?;
-        match self.depth {
+        self.levels
+            .write(self.settings.weighting, collator.elements(text))?;
+        match self.settings.depth {
             Depth::Weights => Ok(()),
             Depth::Identical => self.levels.push_points(points),
         }
@@ -99,31 +96,29 @@ impl<A: Allocator> KeyBuffer<A> {
         requires { AreTrueEntries (collation_of L.content collator.now) points.old.entries.items }
         ensures entries { AreTrueEntries (collation_of L.content collator.now) points.new.entries.items }
         ensures key { let c = collation_of L.content collator.now in
-            IfOk result (λ accepted. OnTrue accepted (self.new.key ≡ key_at self.old.depth self.old.weighting
-            (read_text c (nfd_text c.properties (chars text.now))))) }
+            IfOk result (λ accepted. OnTrue accepted (self.new.key ≡ text_key c self.old.settings (chars text.now))) }
         ensures accepted { let c = collation_of L.content collator.now in
             IfOk result (λ accepted. OnTrue accepted (IsAccepted (nfd_text c.properties (chars text.now)))) }
         ensures short { HasShortRows (collation_of L.content collator.now).rows →
             IfOk result (λ accepted. OnTrue accepted (length self.new.key < 2 ^ 40)) }
-        ensures weighting { self.new.weighting ≡ self.old.weighting }
-        ensures depth { self.new.depth ≡ self.old.depth }
+        ensures settings { self.new.settings ≡ self.old.settings }
     {
         if text.len() > SHORT_TEXT {
             return Ok(false);
         }
-        match self.depth {
+        match self.settings.depth {
             Depth::Identical => Ok(false),
             Depth::Weights => {
                 self.levels.clear();
                 let accepted = push_pieces(
                     &mut self.levels,
-                    self.weighting,
+                    self.settings.weighting,
                     collator,
                     points,
                     piece,
                     text,
                 )?;
-                self.levels.join(self.weighting)?;
+                self.levels.join(self.settings.weighting)?;
                 Ok(accepted)
             }
         }
@@ -146,13 +141,11 @@ impl<A: Allocator> KeyBuffer<A> {
     ) -> Result<(), TextFault>
         requires { AreTrueEntries (collation_of L.content collator.now) points.old.entries.items }
         ensures entries { AreTrueEntries (collation_of L.content collator.now) points.new.entries.items }
-        ensures key { let c = collation_of L.content collator.now in OnOk result (self.new.key ≡ key_at self.old.depth self.old.weighting
-            (read_text c (nfd_text c.properties (chars text.now)))) }
+        ensures key { let c = collation_of L.content collator.now in OnOk result (self.new.key ≡ text_key c self.old.settings (chars text.now)) }
         ensures accepted { let c = collation_of L.content collator.now in OnOk result (IsAccepted (nfd_text c.properties (chars text.now))) }
         ensures fault { let c = collation_of L.content collator.now in IfErr result (IsCause (nfd_text c.properties (chars text.now))) }
         ensures short { HasShortRows (collation_of L.content collator.now).rows → OnOk result (length self.new.key < 2 ^ 40) }
-        ensures weighting { self.new.weighting ≡ self.old.weighting }
-        ensures depth { self.new.depth ≡ self.old.depth }
+        ensures settings { self.new.settings ≡ self.old.settings }
     {
         match self.write_pieces(collator, points, piece, text) {
             Ok(true) => Ok(()),
@@ -181,12 +174,10 @@ impl<A: Allocator> KeyBuffer<A> {
         requires { AreTrueEntries (collation_of L.content collator.now) points.old.entries.items }
         ensures entries { AreTrueEntries (collation_of L.content collator.now) points.new.entries.items }
         ensures beginning { let c = collation_of L.content collator.now in
-            IfOk result (λ accepted. OnTrue accepted (take 16 self.new.key ≡ take 16 (key_at self.old.depth self.old.weighting
-            (read_text c (nfd_text c.properties (chars text.now)))))) }
+            IfOk result (λ accepted. OnTrue accepted (take 16 self.new.key ≡ take 16 (text_key c self.old.settings (chars text.now)))) }
         ensures accepted { let c = collation_of L.content collator.now in
             IfOk result (λ accepted. OnTrue accepted (IsAccepted (nfd_text c.properties (chars text.now)))) }
-        ensures weighting { self.new.weighting ≡ self.old.weighting }
-        ensures depth { self.new.depth ≡ self.old.depth }
+        ensures settings { self.new.settings ≡ self.old.settings }
     {
         if text.len() > SHORT_TEXT {
             return Ok(false);
@@ -194,7 +185,7 @@ impl<A: Allocator> KeyBuffer<A> {
         self.levels.clear();
         match push_beginning(
             &mut self.levels,
-            self.weighting,
+            self.settings.weighting,
             collator,
             points,
             piece,
@@ -208,10 +199,10 @@ impl<A: Allocator> KeyBuffer<A> {
             self.levels.join_beginning()?;
             return has_short_runs(collator, points, text);
         }
-        match self.depth {
+        match self.settings.depth {
             Depth::Identical => Ok(false),
             Depth::Weights => {
-                self.levels.join(self.weighting)?;
+                self.levels.join(self.settings.weighting)?;
                 Ok(true)
             }
         }

@@ -5,7 +5,7 @@ ghost use Rattle.uca_text.specs.Texts.{nfd_text};
 ghost use Rattle.uca_text.specs.Limits.{IsAccepted};
 ghost use Rattle.uca_text.specs.Faults.{IsCause};
 ghost use Rattle.uca_elements.specs.Collations.{Collation, collation_of};
-ghost use Rattle.uca_order.specs.Depths.{key_at, text_key};
+ghost use Rattle.uca_order.specs.Depths.{text_key};
 ghost use Rattle.uca_order.specs.Lengths.{HasShortRows};
 ghost use Rattle.uca_plain.specs.PointCache.{AreTrueEntries};
 
@@ -15,13 +15,13 @@ use std::alloc::{Allocator, Global};
 use uca_elements::{Collator, Lookup};
 use uca_plain::plain::PointCache;
 use uca_text::{Normal, TextFault};
-use uca_weights::{Depth, Weighting};
+use uca_weights::Settings;
 
 /// Memory for the keys of texts, and what is known of their code points. All texts have to be read by one collation: what is
 /// known of code points is true of that one alone.
 #[derive(Drop)]
 pub struct KeyMemory<A: Allocator = Global> {
-    /// The key that was written last, and the weighting and the depth of all keys.
+    /// The key that was written last, and the settings of all keys.
     pub buffer: KeyBuffer<A>,
     /// What is known of the code points of the texts so far.
     pub points: PointCache<A>,
@@ -31,15 +31,14 @@ pub struct KeyMemory<A: Allocator = Global> {
 }
 
 impl<A: Allocator + Copy> KeyMemory<A> {
-    /// Memory for keys under the weighting and at the depth. Nothing is known yet, and no memory is taken.
-    pub fn new(alloc: A, global: Global, weighting: Weighting, depth: Depth) -> KeyMemory<A>
+    /// Memory for keys under the settings. Nothing is known yet, and no memory is taken.
+    pub fn new(alloc: A, global: Global, settings: Settings) -> KeyMemory<A>
         ensures known { (c : Collation) → AreTrueEntries c result.points.entries.items }
-        ensures weighting { result.buffer.weighting ≡ weighting }
-        ensures depth { result.buffer.depth ≡ depth }
+        ensures settings { result.buffer.settings ≡ settings }
         ensures empty { result.buffer.key ≡ [] }
     {
         KeyMemory {
-            buffer: KeyBuffer::new(alloc, weighting, depth),
+            buffer: KeyBuffer::new(alloc, settings),
             points: PointCache::new(alloc, global),
             piece: Piece::new(global),
             text: Normal::new(global),
@@ -62,12 +61,11 @@ impl<A: Allocator> KeyMemory<A> {
         requires { AreTrueEntries (collation_of L.content collator.now) self.old.points.entries.items }
         ensures known { AreTrueEntries (collation_of L.content collator.now) self.new.points.entries.items }
         ensures key { OnOk result (self.new.buffer.key
-            ≡ text_key (collation_of L.content collator.now) self.old.buffer.depth self.old.buffer.weighting (chars text.now)) }
+            ≡ text_key (collation_of L.content collator.now) self.old.buffer.settings (chars text.now)) }
         ensures accepted { let c = collation_of L.content collator.now in OnOk result (IsAccepted (nfd_text c.properties (chars text.now))) }
         ensures fault { let c = collation_of L.content collator.now in IfErr result (IsCause (nfd_text c.properties (chars text.now))) }
         ensures short { HasShortRows (collation_of L.content collator.now).rows → OnOk result (length self.new.buffer.key < 2 ^ 40) }
-        ensures weighting { self.new.buffer.weighting ≡ self.old.buffer.weighting }
-        ensures depth { self.new.buffer.depth ≡ self.old.buffer.depth }
+        ensures settings { self.new.buffer.settings ≡ self.old.buffer.settings }
     {
         self.buffer.write_as_is(
             collator,
@@ -93,11 +91,10 @@ impl<A: Allocator> KeyMemory<A> {
         requires { AreTrueEntries (collation_of L.content collator.now) self.old.points.entries.items }
         ensures known { AreTrueEntries (collation_of L.content collator.now) self.new.points.entries.items }
         ensures beginning { OnOk result (take 16 self.new.buffer.key ≡ take 16
-            (text_key (collation_of L.content collator.now) self.old.buffer.depth self.old.buffer.weighting (chars text.now))) }
+            (text_key (collation_of L.content collator.now) self.old.buffer.settings (chars text.now))) }
         ensures accepted { let c = collation_of L.content collator.now in OnOk result (IsAccepted (nfd_text c.properties (chars text.now))) }
         ensures fault { let c = collation_of L.content collator.now in IfErr result (IsCause (nfd_text c.properties (chars text.now))) }
-        ensures weighting { self.new.buffer.weighting ≡ self.old.buffer.weighting }
-        ensures depth { self.new.buffer.depth ≡ self.old.buffer.depth }
+        ensures settings { self.new.buffer.settings ≡ self.old.buffer.settings }
     {
         let accepted = self
             .buffer

@@ -5,7 +5,7 @@ ghost use Rattle.uca_text.specs.Texts.{nfd_text};
 ghost use Rattle.uca_text.specs.Limits.{IsAccepted};
 ghost use Rattle.uca_text.specs.Faults.{IsCause};
 ghost use Rattle.uca_elements.specs.Collations.{collation_of};
-ghost use Rattle.uca_order.specs.Depths.{read_text, key_at};
+ghost use Rattle.uca_order.specs.Depths.{text_key};
 ghost use Rattle.uca_order.specs.Lengths.{HasShortRows};
 ghost use Rattle.uca_key_writer.specs.Writers.{collation_by};
 
@@ -14,10 +14,10 @@ use std::alloc::{Allocator, Global};
 use std::marker::Model;
 use uca_elements::{Collator, Lookup};
 use uca_text::TextFault;
-use uca_weights::{Depth, Weighting};
+use uca_weights::Settings;
 
-/// Writes the sort keys of texts (UTS #10, section 7.3), one after another, by one collator, under one weighting and
-/// at one depth. Each key that is written replaces the one before, and the memory is used again.
+/// Writes the sort keys of texts (UTS #10, section 7.3), one after another, by one collator and under the same settings.
+/// Each key that is written replaces the one before, and the memory is used again.
 #[derive(Drop)]
 pub struct KeyWriter<'a, L: Lookup, T: Allocator = Global, A: Allocator = Global> {
     collator: Collator<'a, L, T>,
@@ -35,8 +35,7 @@ impl<'a, L: Lookup, T: Allocator, A: Allocator> Model for KeyWriter<'a, L, T, A>
       lookup = w.collator.lookup.now;
       ranges = w.collator.header.now.ranges;
       data_file = w.collator.data.now;
-      weighting = w.memory.buffer.weighting;
-      depth = w.memory.buffer.depth;
+      settings = w.memory.buffer.settings;
       key = w.memory.buffer.key;
     } };
 
@@ -44,22 +43,15 @@ impl<'a, L: Lookup, T: Allocator, A: Allocator> Model for KeyWriter<'a, L, T, A>
 }
 
 impl<'a, L: Lookup, T: Allocator, A: Allocator + Copy> KeyWriter<'a, L, T, A> {
-    /// A writer of keys under the weighting and at the depth. It takes no memory yet.
-    pub fn new(
-        alloc: A,
-        global: Global,
-        collator: Collator<'a, L, T>,
-        weighting: Weighting,
-        depth: Depth,
-    ) -> Self
+    /// A writer of keys under the settings. It takes no memory yet.
+    pub fn new(alloc: A, global: Global, collator: Collator<'a, L, T>, settings: Settings) -> Self
         ensures collation { collation_by L.content result ≡ collation_of L.content collator.entry }
-        ensures weighting { result.weighting ≡ weighting }
-        ensures depth { result.depth ≡ depth }
+        ensures settings { result.settings ≡ settings }
         ensures empty { result.key ≡ [] }
     {
         KeyWriter {
             collator,
-            memory: KeyMemory::new(alloc, global, weighting, depth),
+            memory: KeyMemory::new(alloc, global, settings),
         }
     }
 }
@@ -72,15 +64,13 @@ impl<'a, L: Lookup, T: Allocator, A: Allocator> KeyWriter<'a, L, T, A> {
     /// Those of [`normal`](uca_text::normal), and `Memory` also if an allocation for the key failed. The bytes are then
     /// unspecified until the next successful write.
     pub fn write(&mut self, text: &str) -> Result<(), TextFault>
-        ensures key { OnOk result (self.new.key ≡ key_at self.old.depth self.old.weighting
-            (read_text (collation_by L.content self.old) (nfd_text (collation_by L.content self.old).properties (chars text.now)))) }
+        ensures key { OnOk result (self.new.key ≡ text_key (collation_by L.content self.old) self.old.settings (chars text.now)) }
         ensures accepted { OnOk result (IsAccepted (nfd_text (collation_by L.content self.old).properties (chars text.now))) }
         ensures fault { IfErr result (IsCause (nfd_text (collation_by L.content self.old).properties (chars text.now))) }
         ensures short { HasShortRows (collation_by L.content self.old).rows → OnOk result (length self.new.key < 2 ^ 40) }
 
         ensures collation { collation_by L.content self.new ≡ collation_by L.content self.old }
-        ensures weighting { self.new.weighting ≡ self.old.weighting }
-        ensures depth { self.new.depth ≡ self.old.depth }
+        ensures settings { self.new.settings ≡ self.old.settings }
     {
         self.memory.write(&self.collator, text)
     }
@@ -93,14 +83,13 @@ impl<'a, L: Lookup, T: Allocator, A: Allocator> KeyWriter<'a, L, T, A> {
     ///
     /// Those of [`write`](KeyWriter::write).
     pub fn write_beginning(&mut self, text: &str) -> Result<(), TextFault>
-        ensures beginning { OnOk result (take 16 self.new.key ≡ take 16 (key_at self.old.depth self.old.weighting
-            (read_text (collation_by L.content self.old) (nfd_text (collation_by L.content self.old).properties (chars text.now))))) }
+        ensures beginning { OnOk result (take 16 self.new.key ≡ take 16
+            (text_key (collation_by L.content self.old) self.old.settings (chars text.now))) }
         ensures accepted { OnOk result (IsAccepted (nfd_text (collation_by L.content self.old).properties (chars text.now))) }
         ensures fault { IfErr result (IsCause (nfd_text (collation_by L.content self.old).properties (chars text.now))) }
 
         ensures collation { collation_by L.content self.new ≡ collation_by L.content self.old }
-        ensures weighting { self.new.weighting ≡ self.old.weighting }
-        ensures depth { self.new.depth ≡ self.old.depth }
+        ensures settings { self.new.settings ≡ self.old.settings }
     {
         self.memory.write_beginning(&self.collator, text)
     }

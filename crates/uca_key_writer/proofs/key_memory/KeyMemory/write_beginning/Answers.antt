@@ -15,8 +15,7 @@ returns-in_err-accepted g c = record {
   accepted = no_result c.from_residual.result _ c.from_residual.ensures.0;
   fault = memory_is_cause (nfd_text (collation_of g.L.Lookup.content c.args.collator.now).properties (chars c.args.text.now)) c.from_residual.result
       c.from_residual.ensures.1;
-  weighting = c.write_beginning.ensures.weighting;
-  depth = c.write_beginning.ensures.depth;
+  settings = c.write_beginning.ensures.settings;
 }
 
 pub returns-then-accepted : goal.returns-then-accepted
@@ -26,21 +25,19 @@ returns-then-accepted g c =
     let buffer = c.args.self.now.buffer in
     record {
       known = c.write_beginning.ensures.entries;
-      beginning = by_flag c.in_ok-accepted.accepted (take 16 c.write_beginning.new.self.key ≡ take 16 (text_key by buffer.depth buffer.weighting xs))
+      beginning = by_flag c.in_ok-accepted.accepted (take 16 c.write_beginning.new.self.key ≡ take 16 (text_key by buffer.settings xs))
           c.if-accepted.true c.in_ok-accepted.ensures.beginning;
       accepted = by_flag c.in_ok-accepted.accepted (IsAccepted (nfd_text by.properties xs)) c.if-accepted.true c.in_ok-accepted.ensures.accepted;
       fault = tt;
-      weighting = c.write_beginning.ensures.weighting;
-      depth = c.write_beginning.ensures.depth;
+      settings = c.write_beginning.ensures.settings;
     }
 
 pub returns : goal.returns
 returns g c = record {
   known = c.write.ensures.known;
-  beginning = beginning_of_whole (collation_of g.L.Lookup.content c.args.collator.now) _ _ _ _ (chars c.args.text.now) _ c.write.result
-      c.write_beginning.ensures.depth c.write_beginning.ensures.weighting c.write.ensures.key;
+  beginning = beginning_of_whole (collation_of g.L.Lookup.content c.args.collator.now) _ _ (chars c.args.text.now) _ c.write.result
+      c.write_beginning.ensures.settings c.write.ensures.key;
   accepted = c.write.ensures.accepted;
   fault = c.write.ensures.fault;
-  weighting = c.write.ensures.weighting ∙ c.write_beginning.ensures.weighting;
-  depth = c.write.ensures.depth ∙ c.write_beginning.ensures.depth;
+  settings = c.write.ensures.settings ∙ c.write_beginning.ensures.settings;
 }

@@ -23,6 +23,5 @@ returns g c =
       fault = subst (λ (w : WriterState _). IfErr r (IsCause (nfd_text (properties_of w.data_file) xs))) c.self.view_is c.write.ensures.fault;
       short = subst (λ (w : WriterState _). HasShortRows (content w.lookup) → OnOk r (length key < 2 ^ 40)) c.self.view_is c.write.ensures.short;
       collation = ap (collation_by content) c.self.view_is;
-      weighting = c.write.ensures.weighting ∙ ap (λ (w : WriterState _). w.weighting) c.self.view_is;
-      depth = c.write.ensures.depth ∙ ap (λ (w : WriterState _). w.depth) c.self.view_is;
+      settings = c.write.ensures.settings ∙ ap (λ (w : WriterState _). w.settings) c.self.view_is;
     }

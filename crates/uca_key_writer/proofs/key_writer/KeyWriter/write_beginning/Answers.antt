@@ -22,6 +22,5 @@ returns g c =
           c.write_beginning.ensures.accepted;
       fault = subst (λ (w : WriterState _). IfErr r (IsCause (nfd_text (properties_of w.data_file) xs))) c.self.view_is c.write_beginning.ensures.fault;
       collation = ap (collation_by content) c.self.view_is;
-      weighting = c.write_beginning.ensures.weighting ∙ ap (λ (w : WriterState _). w.weighting) c.self.view_is;
-      depth = c.write_beginning.ensures.depth ∙ ap (λ (w : WriterState _). w.depth) c.self.view_is;
+      settings = c.write_beginning.ensures.settings ∙ ap (λ (w : WriterState _). w.settings) c.self.view_is;
     }
