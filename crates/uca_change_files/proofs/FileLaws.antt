@@ -15,7 +15,8 @@ use Rattle.uca_lines.specs.declared.files.TheConstants.{TABLE_FORM}
 use Rattle.uca_lines.proofs.DigitLemmas.{length-digits}
 use Rattle.uca_lines.proofs.LineLemmas.{Lacks-append}
 use Rattle.uca_lines.proofs.FileLemmas.{one_value, only_result}
-use Rattle.uca_table.specs.Canonical.{point_width, point_text}
+use Rattle.uca_lines.specs.Numbers.{point_width}
+use Rattle.uca_table.specs.Canonical.{point_text}
 use Rattle.uca_table.proofs.CanonicalBytes.{list_lacks, lacks_digits, digit_no_lf, point_all}
 use Rattle.uca_change_files.specs.Changes.{ChangeContent, Item, OfText, OfRange, IsItem, IsText, IsRange, IsChangeList}
 use Rattle.uca_change_files.specs.ChangeTexts.{Said, Says, Cause, IsUnfinished, Means, Refuses, AreScalars, HasScalars, header, spaced, text_line, range_line, item_line, change_lines}

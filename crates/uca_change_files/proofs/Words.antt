@@ -17,8 +17,8 @@ use Rattle.uca_values.specs.declared.CodePointRange.{CodePointRange}
 use Rattle.uca_lines.specs.Lines.{Lacks}
 use Rattle.uca_lines.specs.Fields.{up_to, from_first, halves}
 use Rattle.uca_lines.proofs.FieldLemmas.{parts_of_cut, length-from_first}
-use Rattle.uca_lines.specs.Numbers.{digits, is_hex_digit, is_code_point, code_point_of}
-use Rattle.uca_table.specs.Canonical.{point_text, point_width}
+use Rattle.uca_lines.specs.Numbers.{digits, is_hex_digit, is_code_point, code_point_of, point_width}
+use Rattle.uca_table.specs.Canonical.{point_text}
 use Rattle.uca_table.proofs.CanonicalDigits.{point_is}
 use Rattle.uca_table.proofs.CanonicalBytes.{code_point_again, point_all, lacks_digits, up_to_lacks, from_first_lacks, halves_are, digit_no_dot}
 use Rattle.uca_change_files.specs.ChangeTexts.{spaced}

@@ -1,27 +1,13 @@
 //! Code points in a line, each in its one spelling.
 
-ghost use Rattle.std.specs.Prelude.{◌≡◌, ◌-◌, ℕ, List, MatchOption, IfOk};
+ghost use Rattle.std.specs.Prelude.{◌≡◌, ℕ, List, MatchOption, IfOk};
 ghost use Rattle.std.specs.Option.{option_map};
 ghost use Rattle.uca_values.specs.declared.CodePointRange.{CodePointRange};
-ghost use Rattle.uca_table.specs.Canonical.{point_width};
 ghost use Rattle.uca_change_files.specs.Steps.{IsPoint, ArePoints, AreEnds, space_at};
 
 use std::alloc::{AllocError, Allocator};
-use uca_lines::fields::{code_point, cut_at, halves, six_digits};
+use uca_lines::fields::{code_point, cut_at, halves, six_digits, spare_digits};
 use uca_values::CodePointRange;
-
-/// How many of six digits a code point does not need: it has four at least.
-pub(crate) fn spare_digits(point: char) -> usize
-    ensures { result ≡ 6 - point_width point }
-{
-    if point < '\u{10000}' {
-        2
-    } else if point < '\u{100000}' {
-        1
-    } else {
-        0
-    }
-}
 
 // The code point that a word spells; `None` if it spells none.
 fn point_of(word: &[u8]) -> Option<char>

@@ -10,12 +10,11 @@ ghost use Rattle.uca_table.specs.Canonical.{point_text};
 ghost use Rattle.uca_change_files.specs.ChangeTexts.{AreScalars, Means, changes_text, text_line, range_line};
 ghost use Rattle.uca_change_files.specs.Steps.{text_lines, range_lines};
 
-use crate::points::spare_digits;
 use crate::{ChangeList, ChangedText};
 use std::alloc::Allocator;
 use std::io::Write;
 use uca_lines::OutputBuffer;
-use uca_lines::fields::six_digits;
+use uca_lines::fields::{six_digits, spare_digits};
 use uca_values::CodePointRange;
 use uca_weights::{Sink, WriteFault};
 

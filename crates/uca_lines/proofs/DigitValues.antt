@@ -1,5 +1,5 @@
 -- The number of some bytes is that of their digits, or more if one of them is no digit.
-use Rattle.std.proofs.Common.{◌≡◌, ℕ, zero, suc, ◌+◌, ◌*◌, ◌^◌, ◌<◌, ◌≤◌, Bool, true, false, List, [], ◌∷◌, map, length, get_or, Some, None, refl, ap, ◌∙◌, arith, lit≤}
+use Rattle.std.proofs.Common.{◌≡◌, ℕ, zero, suc, ◌+◌, ◌*◌, ◌^◌, ◌<◌, ◌≤◌, Bool, true, false, List, [], ◌∷◌, map, length, get_or, Some, None, refl, ap, sym, ◌∙◌, arith, lit≤}
 use Rattle.std.specs.List.{list_all, range_with_len}
 use Rattle.std.specs.Option.{unwrap_or}
 use Rattle.std.specs.Char.{digit_value}
@@ -92,6 +92,21 @@ hex_not_read word few large = cases (list_all is_hex_digit word) refl
 -- a number that is read is below 16 to the number of its digits
 pub hex-lt : (word : List ℕ) (n : ℕ) → hex_of word ≡ Some n → n < 16 ^ length word
 hex-lt word n h = (hex_takes (length word) word n refl h).1
+
+two_values : (a b : ℕ) → number_or_more 0 (a ∷ b ∷ []) ≡ value_or_more a * 16 + value_or_more b
+unfolding number_or_more
+two_values a b = omega arith
+
+-- two digits are a byte
+pub digits_read : (a b n : ℕ) → n ≡ value_or_more a * 16 + value_or_more b → n < 0x100_0000 → (Some n ≡ hex_of (a ∷ b ∷ [])) × (n < 256)
+digits_read a b n is small =
+    let same : number_or_more 0 (a ∷ b ∷ []) ≡ n = two_values a b ∙ sym is in
+    let read : hex_of (a ∷ b ∷ []) ≡ Some n = hex_read (a ∷ b ∷ []) (omega (arith, same)) ∙ ap (λ m. Some m) same in
+    (sym read, hex-lt (a ∷ b ∷ []) n read)
+
+-- two bytes, at least one of them no digit
+pub no_digits_read : (a b n : ℕ) → n ≡ value_or_more a * 16 + value_or_more b → 0x100_0000 ≤ n → None ≡ hex_of (a ∷ b ∷ [])
+no_digits_read a b n is large = sym (hex_not_read (a ∷ b ∷ []) (omega arith) (omega (arith, two_values a b, is)))
 
 -- no value is greater than that of a byte that is no digit
 pub value-le : (x : ℕ) → value_or_more x ≤ 0x100_0000

@@ -46,3 +46,7 @@ upper_digit d = if nat_lt d 10 then 48 + d else 55 + d
 unfoldable pub digits : ℕ → ℕ → List ℕ
 digits zero n = []
 digits (suc k) n = digits k (n / 16) ++ upper_digit (n % 16) ∷ []
+
+-- how many digits a code point is written with: four, or as many as it needs
+abbrev pub point_width : ℕ → ℕ
+point_width c = if nat_lt c 0x1_0000 then 4 else (if nat_lt c 0x10_0000 then 5 else 6)

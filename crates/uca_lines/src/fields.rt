@@ -10,7 +10,10 @@ mod numbers;
 mod ranges;
 
 pub use cuts::{cut_at, cut_word, halves, line_text, skip_blanks, trim};
-pub use numbers::{class_number, code_point, four_digits, hexadecimal_digit, six_digits, weight};
+pub use numbers::{
+    class_number, code_point, four_digits, hexadecimal_byte, hexadecimal_digit, six_digits,
+    spare_digits, weight,
+};
 pub use ranges::code_point_range;
 use std::fmt;
 use thiserror::Error;

@@ -1,25 +1,15 @@
 -- The key of a line, read and written digit by digit.
-use Rattle.std.proofs.Common.{◌≡◌, ℕ, ◌+◌, ◌*◌, ◌<◌, ◌≤◌, List, [], ◌∷◌, ◌++◌, length, take, drop, get_or, map, Option, Some, None, refl, ap, sym, ◌∙◌, append_assoc, append-nil, arith, take-append-drop}
+use Rattle.std.proofs.Common.{◌≡◌, ℕ, ◌<◌, ◌≤◌, List, [], ◌∷◌, ◌++◌, length, take, drop, get_or, map, Option, Some, None, refl, ap, sym, ◌∙◌, append_assoc, append-nil, arith, take-append-drop}
 use Rattle.std.specs.List.{flat_map, range_with_len}
 use Rattle.std.specs.Option.{option_and_then, option_map}
 use Rattle.std.proofs.lemmas.List.{drop_all}
 use Rattle.std.proofs.lemmas.List.FromFn.{get_or-map-range_with_len}
 use Rattle.uca_lines.specs.Numbers.{hex_of, upper_digit}
-use Rattle.uca_lines.specs.inside.DigitValues.{value_or_more, number_or_more}
-use Rattle.uca_lines.proofs.DigitValues.{hex_read, hex_not_read, hex-lt}
 use Rattle.uca_run_parts.specs.Print.{byte_digits}
-use Rattle.uca_rekey.specs.declared.line.TheConstants.{DIGITS, VALUES}
+use Rattle.uca_rekey.specs.declared.line.TheConstants.{DIGITS}
 use Rattle.uca_rekey.specs.RekeyedLines.{digits_of, byte_before, bytes_of, key_in, rekeyed_by, with_digits, with_key}
 
 -- ---- Digits
-
-values_are : VALUES ≡ map value_or_more (range_with_len 0 256)
-unfolding value_or_more
-values_are = refl
-
--- the table has the value of each byte
-pub value_in_table : (byte : ℕ) → byte < 256 → get_or VALUES byte 0 ≡ value_or_more byte
-value_in_table byte h = ap (λ t. get_or t byte 0) values_are ∙ get_or-map-range_with_len value_or_more 0 256 byte byte 0 h (omega arith)
 
 digits_are : DIGITS ≡ map upper_digit (range_with_len 0 16)
 digits_are = refl
@@ -27,21 +17,6 @@ digits_are = refl
 -- the table has the digit of each value
 pub digit_in_table : (value : ℕ) → value < 16 → get_or DIGITS value 0 ≡ upper_digit value
 digit_in_table value h = ap (λ t. get_or t value 0) digits_are ∙ get_or-map-range_with_len upper_digit 0 16 value value 0 h (omega arith)
-
-two_values : (a b : ℕ) → number_or_more 0 (a ∷ b ∷ []) ≡ value_or_more a * 16 + value_or_more b
-unfolding number_or_more
-two_values a b = omega arith
-
--- two digits
-pub digits_read : (a b n : ℕ) → n ≡ value_or_more a * 16 + value_or_more b → n < 0x100_0000 → (Some n ≡ hex_of (a ∷ b ∷ [])) × (n < 256)
-digits_read a b n is small =
-    let same : number_or_more 0 (a ∷ b ∷ []) ≡ n = two_values a b ∙ sym is in
-    let read : hex_of (a ∷ b ∷ []) ≡ Some n = hex_read (a ∷ b ∷ []) (omega (arith, same)) ∙ ap (λ m. Some m) same in
-    (sym read, hex-lt (a ∷ b ∷ []) n read)
-
--- two bytes, at least one of them no digit
-pub no_digits_read : (a b n : ℕ) → n ≡ value_or_more a * 16 + value_or_more b → 0x100_0000 ≤ n → None ≡ hex_of (a ∷ b ∷ [])
-no_digits_read a b n is large = sym (hex_not_read (a ∷ b ∷ []) (omega arith) (omega (arith, two_values a b, is)))
 
 -- ---- The key of a line
 

@@ -2,8 +2,7 @@
 
 ghost use Rattle.std.specs.Prelude.{◌≡◌, ℕ, List, Option, [], ◌∷◌, ◌++◌, Some, OnOk, IfErr, MatchOption, ◌≤◌, ◌<◌, length, take, drop};
 ghost use Rattle.std.specs.List.{flat_map};
-ghost use Rattle.uca_lines.specs.Numbers.{hex_of, upper_digit};
-ghost use Rattle.uca_lines.specs.inside.DigitValues.{value_or_more};
+ghost use Rattle.uca_lines.specs.Numbers.{upper_digit};
 ghost use Rattle.uca_run_parts.specs.Print.{byte_digits};
 ghost use Rattle.uca_rekey.specs.RekeyedLines.{digits_of, key_in, rekeyed_by, with_digits, with_key};
 ghost use Rattle.uca_rekey.specs.RekeyRun.{IsLineCause};
@@ -11,6 +10,7 @@ ghost use Rattle.uca_rekey.specs.inside.RekeySoFar.{moved_by};
 
 use std::alloc::Allocator;
 use uca_images::KeyMover;
+use uca_lines::fields::hexadecimal_byte;
 use uca_run_parts::StoredKeyKind;
 
 /// Puts the key of a line through the maps, in place. The bytes of the key need room, which is used again.
@@ -46,7 +46,7 @@ fn read_key<A: Allocator>(line: &[u8], key: &mut Vec<u8, A>) -> Result<(), Store
         let Some((low, rest)) = next_digit(rest) else {
             return Err(StoredKeyKind::NoKey);
         };
-        let Some(byte) = byte_of(high, low) else {
+        let Some(byte) = hexadecimal_byte(high, low) else {
             return Err(StoredKeyKind::NoKey);
         };
         if key.push(byte).is_err() {
@@ -75,51 +75,6 @@ fn next_digit(text: &[u8]) -> Option<(u8, &[u8])>
     }
     None
 }
-
-// The byte that two digits stand for.
-#[inline]
-fn byte_of(high: u8, low: u8) -> Option<u8>
-    ensures { result ≡ hex_of (high ∷ low ∷ []) }
-{
-    let number = value(high) * 16 + value(low);
-    if number >= NO {
-        return None;
-    }
-    Some(number as u8)
-}
-
-// The value of a digit. That of another byte is `NO`.
-#[inline]
-fn value(byte: u8) -> u32
-    ensures value { result ≡ value_or_more byte }
-    ensures small { result ≤ NO }
-{
-    VALUES[byte as usize]
-}
-
-// The value of a byte that is no digit.
-const NO: u32 = 0x100_0000;
-
-// The value of each byte.
-#[rattlefmt::skip]
-static VALUES: [u32; 256] = [
-    NO, NO, NO, NO, NO, NO, NO, NO, NO, NO, NO, NO, NO, NO, NO, NO,
-    NO, NO, NO, NO, NO, NO, NO, NO, NO, NO, NO, NO, NO, NO, NO, NO,
-    NO, NO, NO, NO, NO, NO, NO, NO, NO, NO, NO, NO, NO, NO, NO, NO,
-    0, 1, 2, 3, 4, 5, 6, 7, 8, 9, NO, NO, NO, NO, NO, NO,
-    NO, 10, 11, 12, 13, 14, 15, NO, NO, NO, NO, NO, NO, NO, NO, NO,
-    NO, NO, NO, NO, NO, NO, NO, NO, NO, NO, NO, NO, NO, NO, NO, NO,
-    NO, NO, NO, NO, NO, NO, NO, NO, NO, NO, NO, NO, NO, NO, NO, NO,
-    NO, NO, NO, NO, NO, NO, NO, NO, NO, NO, NO, NO, NO, NO, NO, NO,
-    NO, NO, NO, NO, NO, NO, NO, NO, NO, NO, NO, NO, NO, NO, NO, NO,
-    NO, NO, NO, NO, NO, NO, NO, NO, NO, NO, NO, NO, NO, NO, NO, NO,
-    NO, NO, NO, NO, NO, NO, NO, NO, NO, NO, NO, NO, NO, NO, NO, NO,
-    NO, NO, NO, NO, NO, NO, NO, NO, NO, NO, NO, NO, NO, NO, NO, NO,
-    NO, NO, NO, NO, NO, NO, NO, NO, NO, NO, NO, NO, NO, NO, NO, NO,
-    NO, NO, NO, NO, NO, NO, NO, NO, NO, NO, NO, NO, NO, NO, NO, NO,
-    NO, NO, NO, NO, NO, NO, NO, NO, NO, NO, NO, NO, NO, NO, NO, NO,
-    NO, NO, NO, NO, NO, NO, NO, NO, NO, NO, NO, NO, NO, NO, NO, NO,
-];
 
 // Writes the digits of a key in place of those of a line's key.
 fn write_key(line: &mut [u8], key: &[u8])

@@ -1,13 +1,12 @@
 //! The texts of errors of changes.
 
-ghost use Rattle.std.specs.Prelude.{◌≡◌, ◌-◌, ◌≤◌, length};
-ghost use Rattle.uca_table.specs.Canonical.{point_width};
+ghost use Rattle.std.specs.Prelude.{◌≡◌, ◌≤◌, length};
 ghost use Rattle.uca_changes.specs.Changes.{number_of};
 ghost use Rattle.uca_run_parts.specs.ChangeFaultText.{change_fault_text, change_place_text, change_verdict_text, condition_text};
 
 use std::str;
 use uca_changes::{ChangeCondition, ChangeFault, ChangePlace};
-use uca_lines::fields::six_digits;
+use uca_lines::fields::{six_digits, spare_digits};
 use uca_weights::Message;
 
 /// The text of an error of a change: `RowChanged old row 3`, `PointChanged code point 00E9`, `SettingChanged`.
@@ -93,17 +92,4 @@ fn point_message(point: char) -> Message
     let digits = six_digits(u32::from(point));
     let text = str::from_utf8(&digits[spare_digits(point)..]).unwrap();
     Message::of(" code point ").text(text)
-}
-
-// How many of six digits a code point does not need: it has four at least.
-fn spare_digits(point: char) -> usize
-    ensures { result ≡ 6 - point_width point }
-{
-    if point < '\u{10000}' {
-        2
-    } else if point < '\u{100000}' {
-        1
-    } else {
-        0
-    }
 }

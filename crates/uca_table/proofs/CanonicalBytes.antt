@@ -9,9 +9,9 @@ use borrow.Table.Char.{scalar_below}
 use borrow.Author.Tests.{ltb-true}
 use Rattle.uca_lines.specs.Lines.{is_lf, Lacks}
 use Rattle.uca_lines.specs.Fields.{is_blank, is_hash, is_semicolon, up_to, from_first, skip_blanks, no_end_blanks, trim, text_of, halves}
-use Rattle.uca_lines.specs.Numbers.{is_hex_digit, code_point_of, digits}
+use Rattle.uca_lines.specs.Numbers.{is_hex_digit, code_point_of, digits, point_width}
 use Rattle.uca_lines.proofs.DigitLemmas.{IsNumber, number_is, hex_of-digits, length-digits}
-use Rattle.uca_table.specs.Canonical.{point_width, point_text}
+use Rattle.uca_table.specs.Canonical.{point_text}
 
 -- ---- Cuts
 

@@ -1,26 +1,16 @@
 -- Digits of code points and of weights in texts.
-use Rattle.std.proofs.Common.{◌≡◌, ℕ, ◌-◌, Bool, true, false, List, [], ◌∷◌, ◌++◌, get_or, take, drop, refl}
-use Rattle.std.specs.Prelude.{nat_lt}
+use Rattle.std.proofs.Common.{◌≡◌, ℕ, ◌-◌, List, [], ◌∷◌, ◌++◌, get_or, take, drop, refl}
 use Rattle.uca_weights.specs.declared.Element.{Element}
-use Rattle.uca_lines.specs.Numbers.{digits}
-use Rattle.uca_lines.proofs.ManyDigits.{four_digits_are, five_digits_are, six_digits_are}
+use Rattle.uca_lines.specs.Numbers.{digits, point_width}
+use Rattle.uca_lines.proofs.ManyDigits.{four_digits_are, point_digits_are}
 use Rattle.uca_table.specs.CanonicalElements.{mark_byte, element_text}
-use Rattle.uca_table.specs.Canonical.{point_width, point_text}
+use Rattle.uca_table.specs.Canonical.{point_text}
 
 -- ---- Code points
 
--- the last four, five or six of six digits
-point_digits : (c first : ℕ) (six : List ℕ) → first ≡ 6 - point_width c → six ≡ digits 6 c → take (6 - first) (drop first six) ≡ digits (point_width c) c
-point_digits c first six h e = cases (nat_lt c 0x1_0000) refl (nat_lt c 0x10_0000) refl
-  where
-    cases : (a : Bool) → nat_lt c 0x1_0000 ≡ a → (b : Bool) → nat_lt c 0x10_0000 ≡ b → take (6 - first) (drop first six) ≡ digits (point_width c) c
-    cases true p b q = rw (h, e, p, six_digits_are c, four_digits_are c) refl
-    cases false p true q = rw (h, e, p, q, six_digits_are c, five_digits_are c) refl
-    cases false p false q = rw (h, e, p, q, six_digits_are c) refl
-
 pub point_is : (c first : ℕ) (six : List ℕ) → first ≡ 6 - point_width c → six ≡ digits 6 c → take (6 - first) (drop first six) ≡ point_text c
 unfolding point_text
-point_is c first six h e = point_digits c first six h e
+point_is c first six h e = point_digits_are c first six h e
 
 -- ---- Elements
 

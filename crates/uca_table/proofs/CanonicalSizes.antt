@@ -8,12 +8,12 @@ use Rattle.uca_weights.specs.declared.Element.{Element}
 use Rattle.uca_weights.specs.declared.Weighting.{Weighting}
 use Rattle.uca_weights.specs.declared.Weighting.TheVariants as weightings
 use Rattle.uca_lines.specs.Lines.{ended}
-use Rattle.uca_lines.specs.Numbers.{digits}
+use Rattle.uca_lines.specs.Numbers.{digits, point_width}
 use Rattle.uca_lines.proofs.DigitLemmas.{length-digits}
 use Rattle.uca_values.specs.declared.ImplicitRange.{ImplicitRange}
 use Rattle.uca_values.specs.Content.{Entry, HeaderContent, IsEntry, IsHeader, AreRows, is_version_name}
 use Rattle.uca_table.specs.CanonicalElements.{element_text}
-use Rattle.uca_table.specs.Canonical.{point_width, point_text, key_point_text, key_text, version_line, setting_line, range_line, row_line}
+use Rattle.uca_table.specs.Canonical.{point_text, key_point_text, key_text, version_line, setting_line, range_line, row_line}
 use Rattle.uca_weights.specs.Streams.{SinkState}
 use Rattle.uca_lines.specs.OutputBuffer.{BufferState}
 use Rattle.uca_lines.specs.Buffered.{count_of, HasRoom, HasWrittenThrough}

@@ -1,19 +1,16 @@
 -- The one canonical text of a table (UTS #10, section 9.1): each line of it in its one spelling.
-use Rattle.std.specs.Prelude.{ℕ, List, [], ◌∷◌, ◌++◌, map, nat_lt, if◌then◌else◌}
+use Rattle.std.specs.Prelude.{ℕ, List, [], ◌∷◌, ◌++◌, map}
 use Rattle.std.specs.List.{flat_map}
 use Rattle.std.specs.Option.{option_to_list}
 use Rattle.uca_weights.specs.declared.Weighting.{Weighting}
 use Rattle.uca_lines.specs.Lines.{ended}
-use Rattle.uca_lines.specs.Numbers.{digits}
+use Rattle.uca_lines.specs.Numbers.{digits, point_width}
 use Rattle.uca_values.specs.declared.ImplicitRange.{ImplicitRange}
 use Rattle.uca_values.specs.Content.{Entry, HeaderContent, TableContent}
 use Rattle.uca_table.specs.CanonicalWords.{at_version, at_variable, at_ranges, setting_word}
 use Rattle.uca_table.specs.CanonicalElements.{element_text}
 
 -- a code point: four digits, or as many as it needs
-abbrev pub point_width : ℕ → ℕ
-point_width c = if nat_lt c 0x1_0000 then 4 else (if nat_lt c 0x10_0000 then 5 else 6)
-
 unfoldable pub point_text : ℕ → List ℕ
 point_text c = digits (point_width c) c
 

@@ -1,8 +1,8 @@
 //! Reads numbers of a file, such as `1C47`, from their digits, and gives the digits of a number.
 
-ghost use Rattle.std.specs.Prelude.{◌≡◌, ◌*◌, ◌≤◌, ◌<◌, ◌^◌, ◌%◌, length, IfSome, [], ◌∷◌};
+ghost use Rattle.std.specs.Prelude.{◌≡◌, ◌-◌, ◌*◌, ◌≤◌, ◌<◌, ◌^◌, ◌%◌, length, IfSome, [], ◌∷◌};
 ghost use Rattle.uca_lines.specs.inside.DigitValues.{value_or_more, number_or_more};
-ghost use Rattle.uca_lines.specs.Numbers.{hex_of, code_point_of, weight_of, decimal_of, class_of, upper_digit, digits};
+ghost use Rattle.uca_lines.specs.Numbers.{hex_of, code_point_of, weight_of, decimal_of, class_of, upper_digit, digits, point_width};
 
 /// The code point that a word of four to six digits stands for; `None` if the word is another text, a
 /// surrogate or a number above 10FFFF.
@@ -36,6 +36,18 @@ pub fn class_number(word: &[u8]) -> Option<u8>
     }
     let number = decimal(word)?;
     if number == 0 || number > 254 {
+        return None;
+    }
+    Some(number as u8)
+}
+
+/// The byte that two digits stand for; `None` if one of the two is no digit.
+#[inline]
+pub fn hexadecimal_byte(high: u8, low: u8) -> Option<u8>
+    ensures { result ≡ hex_of (high ∷ low ∷ []) }
+{
+    let number = value(high) * 16 + value(low);
+    if number >= NO {
         return None;
     }
     Some(number as u8)
@@ -77,6 +89,7 @@ fn four_values(a: u8, b: u8, c: u8, d: u8) -> u64
 }
 
 // The value of a digit. That of another byte is `NO`.
+#[inline]
 fn value(byte: u8) -> u64
     ensures value { result ≡ value_or_more byte }
     ensures small { result ≤ NO }
@@ -154,6 +167,21 @@ pub fn six_digits(number: u32) -> [u8; 6]
         last_digit(number / 0x10),
         last_digit(number),
     ]
+}
+
+/// How many of the six digits of a code point ([`six_digits`]) its text leaves out at the front. The text has four
+/// digits, or as many as the code point needs.
+#[inline]
+pub fn spare_digits(point: char) -> usize
+    ensures { result ≡ 6 - point_width point }
+{
+    if point < '\u{10000}' {
+        2
+    } else if point < '\u{100000}' {
+        1
+    } else {
+        0
+    }
 }
 
 /// The digits of a number of 16 bits.

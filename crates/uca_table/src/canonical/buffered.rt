@@ -1,12 +1,12 @@
 //! Code points that are written to a buffer.
 
-ghost use Rattle.std.specs.Prelude.{◌≡◌, ◌-◌, length};
-ghost use Rattle.uca_table.specs.Canonical.{point_width, point_text};
+ghost use Rattle.std.specs.Prelude.{length};
+ghost use Rattle.uca_table.specs.Canonical.{point_text};
 ghost use Rattle.uca_lines.specs.Buffered.{HasRoom, WritesThrough};
 
 use std::io::Write;
 use uca_lines::OutputBuffer;
-use uca_lines::fields::six_digits;
+use uca_lines::fields::{six_digits, spare_digits};
 use uca_weights::{Sink, WriteFault};
 
 /// Writes a code point: four digits, or as many as it needs.
@@ -24,17 +24,4 @@ pub fn write_point<W: Write>(
 {
     let digits = six_digits(u32::from(point));
     buffer.write(out, &digits[spare_digits(point)..])
-}
-
-// How many of six digits a code point does not need: it has four at least.
-fn spare_digits(point: char) -> usize
-    ensures { result ≡ 6 - point_width point }
-{
-    if point < '\u{10000}' {
-        2
-    } else if point < '\u{100000}' {
-        1
-    } else {
-        0
-    }
 }

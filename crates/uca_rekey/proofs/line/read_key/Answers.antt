@@ -6,10 +6,10 @@ use Rattle.uca_rekey.proofs.line.read_key.Goals as goal
 
 pub loop-high-preserved : goal.loop-high-preserved
 loop-high-preserved g c =
-    let pushed : c.push.new.self.items ≡ c.loop-high.key.items ++ c.in-Some-byte_of.byte ∷ [] = search rules in
+    let pushed : c.push.new.self.items ≡ c.loop-high.key.items ++ c.in-Some-hexadecimal_byte.byte ∷ [] = search rules in
     byte_read (key_in c.args.line.now) c.loop-high.key.items c.loop-high.text.now c.loop-high.invariant c.in-Some.high c.in-Some-next_digit.low
-    c.in-Some.rest.now c.in-Some-next_digit.rest.now c.in-Some.ensures.digits c.in-Some-next_digit.ensures.digits c.in-Some-byte_of.byte
-    c.push.new.self.items c.in-Some-byte_of.ensures pushed
+    c.in-Some.rest.now c.in-Some-next_digit.rest.now c.in-Some.ensures.digits c.in-Some-next_digit.ensures.digits c.in-Some-hexadecimal_byte.byte
+    c.push.new.self.items c.in-Some-hexadecimal_byte.ensures pushed
 
 pub loop-high-init : goal.loop-high-init
 loop-high-init g c = none_read (key_in c.args.line.now) c.clear.new.self.items c.clear.ensures.items
@@ -22,10 +22,10 @@ returns-in_default-next_digit-clause-cause g c = λ moved before.
     one_digit_left (key_in c.args.line.now) c.loop-high.key.items c.loop-high.text.now c.loop-high.invariant c.in-Some.high c.in-Some.rest.now
     c.in-Some.ensures.digits c.in_default-next_digit.ensures.digits
 
-pub returns-in_default-byte_of-clause-cause : goal.returns-in_default-byte_of-clause-cause
-returns-in_default-byte_of-clause-cause g c = λ moved before.
+pub returns-in_default-hexadecimal_byte-clause-cause : goal.returns-in_default-hexadecimal_byte-clause-cause
+returns-in_default-hexadecimal_byte-clause-cause g c = λ moved before.
     no_byte_read (key_in c.args.line.now) c.loop-high.key.items c.loop-high.text.now c.loop-high.invariant c.in-Some.high c.in-Some-next_digit.low
-    c.in-Some.rest.now c.in-Some-next_digit.rest.now c.in-Some.ensures.digits c.in-Some-next_digit.ensures.digits c.in_default-byte_of.ensures
+    c.in-Some.rest.now c.in-Some-next_digit.rest.now c.in-Some.ensures.digits c.in-Some-next_digit.ensures.digits c.in_default-hexadecimal_byte.ensures
 
 pub returns-clause-key : goal.returns-clause-key
 returns-clause-key g c =

@@ -1,7 +1,7 @@
 -- What two digits stand for is below the value of another byte.
 use Rattle.std.proofs.Common.{◌+◌, ◌*◌, arith}
-use Rattle.uca_rekey.proofs.LineKeys.{digits_read, no_digits_read}
-use Rattle.uca_rekey.proofs.line.byte_of.Goals as goal
+use Rattle.uca_lines.proofs.DigitValues.{digits_read, no_digits_read}
+use Rattle.uca_lines.proofs.fields.numbers.hexadecimal_byte.Goals as goal
 
 pub returns-then-number-ge-NO : goal.returns-then-number-ge-NO
 returns-then-number-ge-NO c = no_digits_read c.args.high c.args.low _ (omega (arith, c.value.ensures.value, c.value-2.ensures.value)) c.if-number-ge-NO.true
