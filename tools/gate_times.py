@@ -5,8 +5,8 @@
 
 It loads the command `rt` of the kit, and each task of `rt` then counts the user and system time of the processes that it
 starts. With --anew nothing is taken of what was proved on this machine before. A must-fail edit is tried by a check of the
-function alone that it changes, and if it is proved so, by a check of the whole crate: `rt ci` itself checks each crate once
-more for its edits. What `rt ci` prints comes first, and the status is that of `rt ci`. docs/GATE.md has the table that this
+function alone that it changes. If that is proved, the whole crate is checked. `rt ci` itself checks each crate once more for
+its edits. What `rt ci` prints comes first, and the status is that of `rt ci`. docs/GATE.md has the table that this
 prints last, and says what a yardstick is.
 """
 import collections
