@@ -21,6 +21,7 @@ use uca_tailor::{TailorFault, tailor};
 use uca_text::{Normal, TextFault};
 use uca_values::{ClassRange, CodePointRange, Data, RangeFault, Table, TableFault};
 use uca_weights::Depth::{Identical, Weights};
+use uca_weights::Settings;
 use uca_weights::Weighting::Shifted;
 
 // What is said of a result.
@@ -348,7 +349,11 @@ fn writes_key(
     collator: &Collator<RowList>,
     text: &Normal,
 ) -> Result<(), AllocError> {
-    let mut buffer = KeyBuffer::new(memory.tried, Shifted, Identical);
+    let settings = Settings {
+        weighting: Shifted,
+        depth: Identical,
+    };
+    let mut buffer = KeyBuffer::new(memory.tried, settings);
     let written = write_twice(&mut buffer, collator, text);
     if written.is_ok() {
         show(streams, buffer.bytes());
@@ -373,7 +378,11 @@ fn writes_by_writer(
     streams: &mut Streams,
     collator: &Collator<Trie>,
 ) -> Result<(), TextFault> {
-    let mut writer = KeyWriter::new(memory.tried, memory.ample, *collator, Shifted, Weights);
+    let settings = Settings {
+        weighting: Shifted,
+        depth: Weights,
+    };
+    let mut writer = KeyWriter::new(memory.tried, memory.ample, *collator, settings);
     let written = write_by_writer_twice(&mut writer);
     if written.is_ok() {
         show(streams, writer.bytes());

@@ -12,8 +12,14 @@ use uca_key::{Compared, TextComparer};
 use uca_match::{Collator, Lookup};
 use uca_text::TextFault;
 use uca_weights::Depth::{Identical, Weights};
-use uca_weights::Weighting;
 use uca_weights::Weighting::{NonIgnorable, Shifted};
+use uca_weights::{Settings, Weighting};
+
+/// The settings of the comparers of long texts.
+const SETTINGS: Settings = Settings {
+    weighting: NonIgnorable,
+    depth: Weights,
+};
 
 /// A comparer at each depth.
 #[derive(Drop)]
@@ -27,9 +33,17 @@ fn at_each_depth<'a, L: Lookup>(
     collator: &Collator<'a, L>,
     weighting: Weighting,
 ) -> Comparers<'a, L> {
+    let weights = Settings {
+        weighting,
+        depth: Weights,
+    };
+    let identical = Settings {
+        weighting,
+        depth: Identical,
+    };
     Comparers {
-        weights: TextComparer::new(alloc, alloc, *collator, weighting, Weights),
-        identical: TextComparer::new(alloc, alloc, *collator, weighting, Identical),
+        weights: TextComparer::new(alloc, alloc, *collator, weights),
+        identical: TextComparer::new(alloc, alloc, *collator, identical),
     }
 }
 
@@ -203,7 +217,7 @@ fn check_long<L: Lookup>(alloc: Global, comparer: &mut TextComparer<L>) -> Resul
 
 impl Check for Long {
     fn check<L: Lookup>(&self, alloc: Global, collator: &Collator<L>) -> Result<(), Fail> {
-        let mut comparer = TextComparer::new(alloc, alloc, *collator, NonIgnorable, Weights);
+        let mut comparer = TextComparer::new(alloc, alloc, *collator, SETTINGS);
         let checked = check_long(alloc, &mut comparer);
         drop(comparer);
         checked
@@ -260,7 +274,7 @@ fn check_long_runs<L: Lookup>(alloc: Global, comparer: &mut TextComparer<L>) -> 
 
 impl Check for LongRuns {
     fn check<L: Lookup>(&self, alloc: Global, collator: &Collator<L>) -> Result<(), Fail> {
-        let mut comparer = TextComparer::new(alloc, alloc, *collator, NonIgnorable, Weights);
+        let mut comparer = TextComparer::new(alloc, alloc, *collator, SETTINGS);
         let checked = check_long_runs(alloc, &mut comparer);
         drop(comparer);
         checked

@@ -10,7 +10,7 @@ use uca_key::KeyWriter;
 use uca_match::{Collator, Lookup};
 use uca_text::TextFault;
 use uca_weights::Weighting::{NonIgnorable, Shifted};
-use uca_weights::{Depth, Weighting};
+use uca_weights::{Depth, Settings, Weighting};
 
 /// Texts and the first sixteen bytes of their keys under each weighting, or all bytes of a shorter key. There are texts with
 /// fewer than eight weights at level 1, with eight, and with more. A contraction, a mark or a letter with a class is at the
@@ -59,18 +59,20 @@ fn check_cases<L: Lookup>(
     depth: Depth,
     cases: &str,
 ) -> Result<(), Fail> {
-    check_weighting(alloc, collator, (NonIgnorable, depth), cases)?;
-    check_weighting(alloc, collator, (Shifted, depth), cases)
+    for weighting in [NonIgnorable, Shifted] {
+        check_settings(alloc, collator, Settings { weighting, depth }, cases)?;
+    }
+    Ok(())
 }
 
-fn check_weighting<L: Lookup>(
+fn check_settings<L: Lookup>(
     alloc: Global,
     collator: &Collator<L>,
-    (weighting, depth): (Weighting, Depth),
+    settings: Settings,
     cases: &str,
 ) -> Result<(), Fail> {
-    let mut writer = KeyWriter::new(alloc, alloc, *collator, weighting, depth);
-    let checked = check_lines(alloc, &mut writer, weighting, cases);
+    let mut writer = KeyWriter::new(alloc, alloc, *collator, settings);
+    let checked = check_lines(alloc, &mut writer, settings.weighting, cases);
     drop(writer);
     checked
 }
@@ -175,7 +177,11 @@ fn check_longer<L: Lookup>(alloc: Global, writer: &mut KeyWriter<L>) -> Result<(
 
 impl Check for Longer {
     fn check<L: Lookup>(&self, alloc: Global, collator: &Collator<L>) -> Result<(), Fail> {
-        let mut writer = KeyWriter::new(alloc, alloc, *collator, NonIgnorable, Depth::Weights);
+        let settings = Settings {
+            weighting: NonIgnorable,
+            depth: Depth::Weights,
+        };
+        let mut writer = KeyWriter::new(alloc, alloc, *collator, settings);
         let checked = check_longer(alloc, &mut writer);
         drop(writer);
         checked

@@ -10,7 +10,7 @@ use uca_match::{Collator, Lookup};
 use uca_text::Normal;
 use uca_values::Table;
 use uca_weights::Weighting::{NonIgnorable, Shifted};
-use uca_weights::{Depth, Element, Weighting};
+use uca_weights::{Depth, Element, Settings, Weighting};
 
 /// The elements that are written so in a row.
 pub fn elements_of(alloc: Global, text: &str) -> Result<Vec<Element>, Fail> {
@@ -82,11 +82,11 @@ fn keys_of_elements(rt: HostRuntime) -> Result<(), Fail> {
 fn check_made<L: Lookup>(
     alloc: Global,
     collator: &Collator<L>,
-    (weighting, depth): (Weighting, Depth),
+    settings: Settings,
     text: &Normal,
     wanted: &str,
 ) -> Result<(), Fail> {
-    let made = key(alloc, collator, weighting, depth, text)?;
+    let made = key(alloc, collator, settings.weighting, settings.depth, text)?;
     same_bytes(alloc, &made, wanted, "a key made at once")
 }
 
@@ -105,13 +105,13 @@ fn check_written<L: Lookup>(
 fn check_key<L: Lookup>(
     alloc: Global,
     collator: &Collator<L>,
-    ways: (Weighting, Depth),
+    settings: Settings,
     buffer: &mut KeyBuffer,
     points: &str,
     wanted: &str,
 ) -> Result<(), Fail> {
     let text = normal_of(alloc, points, collator.data)?;
-    check_made(alloc, collator, ways, &text, wanted)?;
+    check_made(alloc, collator, settings, &text, wanted)?;
     check_written(alloc, collator, buffer, &text, wanted)
 }
 
@@ -119,12 +119,12 @@ fn check_key<L: Lookup>(
 fn check_keys<L: Lookup>(
     alloc: Global,
     collator: &Collator<L>,
-    ways: (Weighting, Depth),
+    settings: Settings,
     buffer: &mut KeyBuffer,
     (texts, wanted): (&str, &str),
 ) -> Result<(), Fail> {
     for points in texts.split(" = ") {
-        check_key(alloc, collator, ways, buffer, points, wanted)?;
+        check_key(alloc, collator, settings, buffer, points, wanted)?;
     }
     Ok(())
 }
@@ -133,16 +133,15 @@ fn check_keys<L: Lookup>(
 fn check_case<L: Lookup>(
     alloc: Global,
     collator: &Collator<L>,
-    (weighting, depth): (Weighting, Depth),
+    settings: Settings,
     buffer: &mut KeyBuffer,
     case: &str,
 ) -> Result<(), Fail> {
     let (texts, keys) = halves(case)?;
     let (plain, shifted) = halves(keys)?;
-    let ways = (weighting, depth);
-    match weighting {
-        NonIgnorable => check_keys(alloc, collator, ways, buffer, (texts, plain)),
-        Shifted => check_keys(alloc, collator, ways, buffer, (texts, shifted)),
+    match settings.weighting {
+        NonIgnorable => check_keys(alloc, collator, settings, buffer, (texts, plain)),
+        Shifted => check_keys(alloc, collator, settings, buffer, (texts, shifted)),
     }
 }
 
@@ -156,9 +155,13 @@ struct Keys<'a> {
 impl<'a> Check for Keys<'a> {
     fn check<L: Lookup>(&self, alloc: Global, collator: &Collator<L>) -> Result<(), Fail> {
         for weighting in [NonIgnorable, Shifted] {
-            let mut buffer = KeyBuffer::new(alloc, weighting, self.depth);
+            let settings = Settings {
+                weighting,
+                depth: self.depth,
+            };
+            let mut buffer = KeyBuffer::new(alloc, settings);
             for case in self.cases.lines() {
-                check_case(alloc, collator, (weighting, self.depth), &mut buffer, case)?;
+                check_case(alloc, collator, settings, &mut buffer, case)?;
             }
         }
         Ok(())

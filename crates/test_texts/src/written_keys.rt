@@ -9,7 +9,7 @@ use uca_key::KeyWriter;
 use uca_match::{Collator, Lookup};
 use uca_text::TextFault;
 use uca_weights::Weighting::{NonIgnorable, Shifted};
-use uca_weights::{Depth, Weighting};
+use uca_weights::{Depth, Settings, Weighting};
 
 /// `ab` and `c` with an acute accent are contractions.
 pub const TABLE: &str = "@version 1\n\
@@ -67,7 +67,11 @@ fn check_weighting<L: Lookup>(
     collator: &Collator<L>,
     weighting: Weighting,
 ) -> Result<(), Fail> {
-    let mut writer = KeyWriter::new(alloc, alloc, *collator, weighting, Depth::Weights);
+    let settings = Settings {
+        weighting,
+        depth: Depth::Weights,
+    };
+    let mut writer = KeyWriter::new(alloc, alloc, *collator, settings);
     let checked = check_cases(alloc, &mut writer, weighting);
     drop(writer);
     checked
@@ -116,7 +120,11 @@ fn check_long_run<L: Lookup>(alloc: Global, writer: &mut KeyWriter<L>) -> Result
 
 impl Check for LongRun {
     fn check<L: Lookup>(&self, alloc: Global, collator: &Collator<L>) -> Result<(), Fail> {
-        let mut writer = KeyWriter::new(alloc, alloc, *collator, NonIgnorable, Depth::Weights);
+        let settings = Settings {
+            weighting: NonIgnorable,
+            depth: Depth::Weights,
+        };
+        let mut writer = KeyWriter::new(alloc, alloc, *collator, settings);
         let checked = check_long_run(alloc, &mut writer);
         drop(writer);
         checked

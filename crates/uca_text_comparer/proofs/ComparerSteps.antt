@@ -2,7 +2,7 @@
 use Rattle.std.proofs.Common.{◌≡◌, ◌⊎◌, inl, inr, ℕ, List, Result, subst, ◌∙◌, min}
 use Rattle.std.specs.Result.{IfErr, IsErrAnd}
 use Rattle.std.specs.declared.cmp.Ordering.{Ordering}
-use Rattle.uca_weights.specs.declared.Depth.{Depth}
+use Rattle.uca_weights.specs.declared.Settings.{Settings}
 use Rattle.uca_weights.specs.declared.Weighting.{Weighting}
 use Rattle.uca_values.specs.Content.{Properties, properties_of}
 use Rattle.uca_text.specs.Texts.{NfdText, nfd_text}
@@ -44,9 +44,9 @@ pub normals_accepted : (properties : Properties) (xs ys : List ℕ) (s t : NfdTe
 normals_accepted properties xs ys s t found also keeps too = (subst IsAccepted found keeps, subst IsAccepted also too)
 
 -- how they compare, and what is fetched of them
-abbrev pub Compares : Collation → Depth → Weighting → NfdText → NfdText → Ordering → ℕ → Type 0
-Compares c depth weighting s t order level =
-    let answer = compared_at depth weighting (read_text c s) (read_text c t) in (order ≡ answer.order) × (level ≡ answer.level)
+abbrev pub Compares : Collation → Settings → NfdText → NfdText → Ordering → ℕ → Type 0
+Compares c settings s t order level =
+    let answer = compared_at settings.depth settings.weighting (read_text c s) (read_text c t) in (order ≡ answer.order) × (level ≡ answer.level)
 
 abbrev pub Fetches : Collation → Weighting → NfdText → NfdText → ℕ → ℕ → Type 0
 Fetches c weighting s t left right =
@@ -54,17 +54,17 @@ Fetches c weighting s t left right =
     × (right ≡ min 18446744073709551615 (fetched_right weighting (elements_of c s) (elements_of c t)))
 
 abbrev pub ComparesBy : {L : Type 0} → (L → Rows) → ComparerState L → List ℕ → List ℕ → Ordering → ℕ → Type 0
-ComparesBy content s xs ys = Compares (collation_by content s) s.depth s.weighting (nfd_text (properties_of s.data_file) xs) (nfd_text (properties_of s.data_file) ys)
+ComparesBy content s xs ys = Compares (collation_by content s) s.settings (nfd_text (properties_of s.data_file) xs) (nfd_text (properties_of s.data_file) ys)
 
 abbrev pub FetchesBy : {L : Type 0} → (L → Rows) → ComparerState L → List ℕ → List ℕ → ℕ → ℕ → Type 0
-FetchesBy content s xs ys = Fetches (collation_by content s) s.weighting (nfd_text (properties_of s.data_file) xs) (nfd_text (properties_of s.data_file) ys)
+FetchesBy content s xs ys = Fetches (collation_by content s) s.settings.weighting (nfd_text (properties_of s.data_file) xs) (nfd_text (properties_of s.data_file) ys)
 
-pub normals_compare : (c : Collation) (depth : Depth) (weighting : Weighting) (xs ys : List ℕ) (s t : NfdText) (order : Ordering) (level : ℕ)
-    → s ≡ nfd_text c.properties xs → t ≡ nfd_text c.properties ys → Compares c depth weighting s t order level
-    → Compares c depth weighting (nfd_text c.properties xs) (nfd_text c.properties ys) order level
-normals_compare c depth weighting xs ys s t order level found also pair =
-    subst (λ (t : NfdText). Compares c depth weighting (nfd_text c.properties xs) t order level) also
-    (subst (λ (s : NfdText). Compares c depth weighting s t order level) found pair)
+pub normals_compare : (c : Collation) (settings : Settings) (xs ys : List ℕ) (s t : NfdText) (order : Ordering) (level : ℕ)
+    → s ≡ nfd_text c.properties xs → t ≡ nfd_text c.properties ys → Compares c settings s t order level
+    → Compares c settings (nfd_text c.properties xs) (nfd_text c.properties ys) order level
+normals_compare c settings xs ys s t order level found also pair =
+    subst (λ (t : NfdText). Compares c settings (nfd_text c.properties xs) t order level) also
+    (subst (λ (s : NfdText). Compares c settings s t order level) found pair)
 
 pub normals_fetch : (c : Collation) (weighting : Weighting) (xs ys : List ℕ) (s t : NfdText) (left right : ℕ)
     → s ≡ nfd_text c.properties xs → t ≡ nfd_text c.properties ys → Fetches c weighting s t left right

@@ -1,19 +1,17 @@
 -- What callers see of a value that compares texts.
 use Rattle.std.specs.Prelude.{List}
-use Rattle.uca_weights.specs.declared.Depth.{Depth}
-use Rattle.uca_weights.specs.declared.Weighting.{Weighting}
+use Rattle.uca_weights.specs.declared.Settings.{Settings}
 use Rattle.uca_values.specs.declared.ImplicitRange.{ImplicitRange}
 use Rattle.uca_values.specs.Content.{DataContent, properties_of}
 use Rattle.uca_elements.specs.Rows.{Rows}
 use Rattle.uca_elements.specs.Collations.{Collation}
 
--- what it reads texts by, the weighting, and the depth
+-- what it reads texts by, and the settings
 pub record ComparerState (L : Type 0) : Type 0 where
   pub lookup : L
   pub ranges : List ImplicitRange
   pub data_file : DataContent
-  pub weighting : Weighting
-  pub depth : Depth
+  pub settings : Settings
 
 -- what it reads texts by, where `content` is the map that its lookup is
 abbrev pub collation_by : {L : Type 0} → (L → Rows) → ComparerState L → Collation

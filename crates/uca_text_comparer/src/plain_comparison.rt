@@ -27,7 +27,7 @@ use uca_comparison::stored::level_count;
 use uca_comparison::walk::{Walked, walk_fronts};
 use uca_elements::{Collator, Lookup};
 use uca_plain::plain::{KnownPoint, PointCache, SHORT_TEXT};
-use uca_weights::{Depth, Element, Weighting};
+use uca_weights::{Depth, Element, Settings, Weighting};
 
 /// Memory for comparing texts of plain code points. All texts have to be read by one collation: what is known of code points is
 /// true of that one alone.
@@ -64,27 +64,26 @@ impl<A: Allocator> PlainComparison<A> {
     pub fn compare_texts<L: Lookup, T: Allocator>(
         &mut self,
         collator: &Collator<L, T>,
-        weighting: Weighting,
-        depth: Depth,
+        settings: Settings,
         left: &str,
         right: &str,
     ) -> Result<Option<Compared>, AllocError>
         requires { AreTrueEntries (collation_of L.content collator.now) self.old.points.entries.items }
         ensures known { AreTrueEntries (collation_of L.content collator.now) self.new.points.entries.items }
         ensures compared { let c = collation_of L.content collator.now in IfOk result (λ found. IfSome found (λ compared.
-            let answer = texts_compared c depth weighting (chars left.now) (chars right.now) in
+            let answer = texts_compared c settings (chars left.now) (chars right.now) in
             (compared.order ≡ answer.order) × (compared.level ≡ answer.level))) }
         ensures fetched { let c = collation_of L.content collator.now in IfOk result (λ found. IfSome found (λ compared.
             let es = elements_of c (nfd_text c.properties (chars left.now)) in
             let fs = elements_of c (nfd_text c.properties (chars right.now)) in
-            (compared.fetched_left ≡ min (2 ^ 64 - 1) (fetched_left weighting es fs))
-            × (compared.fetched_right ≡ min (2 ^ 64 - 1) (fetched_right weighting es fs)))) }
+            (compared.fetched_left ≡ min (2 ^ 64 - 1) (fetched_left settings.weighting es fs))
+            × (compared.fetched_right ≡ min (2 ^ 64 - 1) (fetched_right settings.weighting es fs)))) }
         ensures accepted { let c = collation_of L.content collator.now in IfOk result (λ found. IfSome found (λ _.
             IsAccepted (nfd_text c.properties (chars left.now)) × IsAccepted (nfd_text c.properties (chars right.now)))) }
     {
-        let found = self.compare(collator, weighting, left, right)?;
+        let found = self.compare(collator, settings.weighting, left, right)?;
         if let Some(walked) = found
-            && is_decided(walked.order, depth, left, right)
+            && is_decided(walked.order, settings.depth, left, right)
         {
             return Ok(Some(compared_of(&walked)));
         }

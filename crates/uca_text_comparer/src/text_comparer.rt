@@ -5,7 +5,7 @@ ghost use Rattle.uca_text.specs.Texts.{nfd_text};
 ghost use Rattle.uca_text.specs.Limits.{IsAccepted};
 ghost use Rattle.uca_text.specs.Faults.{IsCause};
 ghost use Rattle.uca_elements.specs.Collations.{collation_of, elements_of};
-ghost use Rattle.uca_order.specs.Depths.{read_text, compared_at};
+ghost use Rattle.uca_order.specs.Depths.{texts_compared};
 ghost use Rattle.uca_order.specs.Fetched.{fetched_left, fetched_right};
 ghost use Rattle.uca_text_comparer.specs.Comparers.{collation_by};
 
@@ -17,15 +17,14 @@ use std::marker::Model;
 use uca_comparison::comparison::{Compared, compare};
 use uca_elements::{Collator, Lookup};
 use uca_text::{Normal, TextFault};
-use uca_weights::{Depth, Weighting};
+use uca_weights::Settings;
 
-/// Compares texts (UTS #10, section 1.1), pair after pair, by one collator, under one weighting and at one depth. The
-/// memory is used again.
+/// Compares texts (UTS #10, section 1.1), pair after pair, by one collator and under the same settings. The memory is
+/// used again.
 #[derive(Drop)]
 pub struct TextComparer<'a, L: Lookup, T: Allocator = Global, A: Allocator = Global> {
     collator: Collator<'a, L, T>,
-    weighting: Weighting,
-    depth: Depth,
+    settings: Settings,
     plain: PlainComparison<A>,
     // the texts of a pair that has to be normalized
     left: Normal,
@@ -43,30 +42,21 @@ impl<'a, L: Lookup, T: Allocator, A: Allocator> Model for TextComparer<'a, L, T,
       lookup = c.collator.lookup.now;
       ranges = c.collator.header.now.ranges;
       data_file = c.collator.data.now;
-      weighting = c.weighting;
-      depth = c.depth;
+      settings = c.settings;
     } };
 
     ghost invariant = { λ c. AreTrueEntries (collation_of L.content c.collator) c.plain.points.entries.items };
 }
 
 impl<'a, L: Lookup, T: Allocator, A: Allocator + Copy> TextComparer<'a, L, T, A> {
-    /// It compares under the weighting and at the depth, and takes no memory yet.
-    pub fn new(
-        alloc: A,
-        global: Global,
-        collator: Collator<'a, L, T>,
-        weighting: Weighting,
-        depth: Depth,
-    ) -> Self
+    /// It compares under the settings, and takes no memory yet.
+    pub fn new(alloc: A, global: Global, collator: Collator<'a, L, T>, settings: Settings) -> Self
         ensures collation { collation_by L.content result ≡ collation_of L.content collator.entry }
-        ensures weighting { result.weighting ≡ weighting }
-        ensures depth { result.depth ≡ depth }
+        ensures settings { result.settings ≡ settings }
     {
         TextComparer {
             collator,
-            weighting,
-            depth,
+            settings,
             plain: PlainComparison::new(alloc, global),
             left: Normal::new(global),
             right: Normal::new(global),
@@ -83,33 +73,30 @@ impl<'a, L: Lookup, T: Allocator, A: Allocator> TextComparer<'a, L, T, A> {
     /// allocation failed.
     pub fn compare(&mut self, left: &str, right: &str) -> Result<Compared, TextFault>
         ensures compared { let c = collation_by L.content self.old in IfOk result (λ compared.
-            let answer = compared_at self.old.depth self.old.weighting
-            (read_text c (nfd_text c.properties (chars left.now))) (read_text c (nfd_text c.properties (chars right.now))) in
+            let answer = texts_compared c self.old.settings (chars left.now) (chars right.now) in
             (compared.order ≡ answer.order) × (compared.level ≡ answer.level)) }
         ensures fetched { let c = collation_by L.content self.old in IfOk result (λ compared.
             let es = elements_of c (nfd_text c.properties (chars left.now)) in
             let fs = elements_of c (nfd_text c.properties (chars right.now)) in
-            (compared.fetched_left ≡ min (2 ^ 64 - 1) (fetched_left self.old.weighting es fs))
-            × (compared.fetched_right ≡ min (2 ^ 64 - 1) (fetched_right self.old.weighting es fs))) }
+            (compared.fetched_left ≡ min (2 ^ 64 - 1) (fetched_left self.old.settings.weighting es fs))
+            × (compared.fetched_right ≡ min (2 ^ 64 - 1) (fetched_right self.old.settings.weighting es fs))) }
         ensures accepted { let c = collation_by L.content self.old in
             OnOk result (IsAccepted (nfd_text c.properties (chars left.now)) × IsAccepted (nfd_text c.properties (chars right.now))) }
         ensures fault { let c = collation_by L.content self.old in IfErr result (λ fault.
             IsCause (nfd_text c.properties (chars left.now)) fault
             ⊎ (IsAccepted (nfd_text c.properties (chars left.now)) × IsCause (nfd_text c.properties (chars right.now)) fault)) }
         ensures collation { collation_by L.content self.new ≡ collation_by L.content self.old }
-        ensures weighting { self.new.weighting ≡ self.old.weighting }
-        ensures depth { self.new.depth ≡ self.old.depth }
+        ensures settings { self.new.settings ≡ self.old.settings }
     {
         let found = self
             .plain
-            .compare_texts(&self.collator, self.weighting, self.depth, left, right)?;
+            .compare_texts(&self.collator, self.settings, left, right)?;
         if let Some(compared) = found {
             return Ok(compared);
         }
         compare_normals(
             &self.collator,
-            self.weighting,
-            self.depth,
+            self.settings,
             &mut self.left,
             &mut self.right,
             left,
@@ -121,22 +108,20 @@ impl<'a, L: Lookup, T: Allocator, A: Allocator> TextComparer<'a, L, T, A> {
 // How two texts compare that are normalized first, each in the memory of one that was before.
 fn compare_normals<L: Lookup, T: Allocator>(
     collator: &Collator<L, T>,
-    weighting: Weighting,
-    depth: Depth,
+    settings: Settings,
     left_normal: &mut Normal,
     right_normal: &mut Normal,
     left: &str,
     right: &str,
 ) -> Result<Compared, TextFault>
     ensures compared { let c = collation_of L.content collator.now in IfOk result (λ compared.
-        let answer = compared_at depth weighting
-        (read_text c (nfd_text c.properties (chars left.now))) (read_text c (nfd_text c.properties (chars right.now))) in
+        let answer = texts_compared c settings (chars left.now) (chars right.now) in
         (compared.order ≡ answer.order) × (compared.level ≡ answer.level)) }
     ensures fetched { let c = collation_of L.content collator.now in IfOk result (λ compared.
         let es = elements_of c (nfd_text c.properties (chars left.now)) in
         let fs = elements_of c (nfd_text c.properties (chars right.now)) in
-        (compared.fetched_left ≡ min (2 ^ 64 - 1) (fetched_left weighting es fs))
-        × (compared.fetched_right ≡ min (2 ^ 64 - 1) (fetched_right weighting es fs))) }
+        (compared.fetched_left ≡ min (2 ^ 64 - 1) (fetched_left settings.weighting es fs))
+        × (compared.fetched_right ≡ min (2 ^ 64 - 1) (fetched_right settings.weighting es fs))) }
     ensures accepted { let c = collation_of L.content collator.now in
         OnOk result (IsAccepted (nfd_text c.properties (chars left.now)) × IsAccepted (nfd_text c.properties (chars right.now))) }
     ensures fault { let c = collation_of L.content collator.now in IfErr result (λ fault.
@@ -145,9 +130,15 @@ fn compare_normals<L: Lookup, T: Allocator>(
 {
     left_normal.renew(left, collator.data)?;
     if left == right {
-        let walked = compare_itself(collator, weighting, left_normal);
+        let walked = compare_itself(collator, settings.weighting, left_normal);
         return Ok(compared_of(&walked));
     }
     right_normal.renew(right, collator.data)?;
-    Ok(compare(collator, weighting, depth, left_normal, right_normal))
+    Ok(compare(
+        collator,
+        settings.weighting,
+        settings.depth,
+        left_normal,
+        right_normal,
+    ))
 }

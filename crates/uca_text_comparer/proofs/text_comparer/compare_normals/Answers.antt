@@ -26,15 +26,15 @@ returns-in_err-renew g c = record {
 pub returns-then-eq : goal.returns-then-eq
 returns-then-eq g c =
     let by = collation_of g.L.Lookup.content c.args.collator.now in
-    let weighting = c.args.weighting in
+    let weighting = c.args.settings.weighting in
     let xs = chars c.args.left.now in
     let ys = chars c.args.right.now in
     let walked = c.compare_itself-walked.result in
     let same : c.args.left.now ≡ c.args.right.now = search rules in
     let levels = itself_and_same by weighting c.renew.new.self c.args.left.now c.args.right.now walked c.in_ok-renew.ensures.found same
     c.compare_itself-walked.ensures in
-    let compared = compares_at c.args.depth weighting (read_text by (nfd_text by.properties xs)) (read_text by (nfd_text by.properties ys))
-    c.args.left.now c.args.right.now walked levels (same_decides walked.order c.args.depth c.args.left.now c.args.right.now same)
+    let compared = compares_at c.args.settings.depth weighting (read_text by (nfd_text by.properties xs)) (read_text by (nfd_text by.properties ys))
+    c.args.left.now c.args.right.now walked levels (same_decides walked.order c.args.settings.depth c.args.left.now c.args.right.now same)
     (λ e. ap (λ l. nfd (chars l)) e) in
     record {
       compared = (c.compared_of.ensures.order ∙ compared.0, c.compared_of.ensures.level ∙ compared.1);
@@ -67,9 +67,9 @@ returns g c =
     let xs = chars c.args.left.now in
     let ys = chars c.args.right.now in
     record {
-      compared = normals_compare by c.args.depth c.args.weighting xs ys c.renew.new.self c.renew-2.new.self c.compare.result.order c.compare.result.level
+      compared = normals_compare by c.args.settings xs ys c.renew.new.self c.renew-2.new.self c.compare.result.order c.compare.result.level
           c.in_ok-renew.ensures.found c.in_ok-renew-2.ensures.found c.compare.ensures.compared;
-      fetched = normals_fetch by c.args.weighting xs ys c.renew.new.self c.renew-2.new.self c.compare.result.fetched_left
+      fetched = normals_fetch by c.args.settings.weighting xs ys c.renew.new.self c.renew-2.new.self c.compare.result.fetched_left
           c.compare.result.fetched_right c.in_ok-renew.ensures.found c.in_ok-renew-2.ensures.found c.compare.ensures.fetched;
       accepted = normals_accepted by.properties xs ys c.renew.new.self c.renew-2.new.self c.in_ok-renew.ensures.found c.in_ok-renew-2.ensures.found
           c.renew.ensures.accepted c.renew-2.ensures.accepted;

@@ -19,8 +19,7 @@ returns-in_err-found g c = record {
   accepted = no_result c.from_residual.result _ c.from_residual.ensures.0;
   fault = memory_causes (properties_of c.args.self.now.data_file) (chars c.args.left.now) (chars c.args.right.now) c.from_residual.result c.from_residual.ensures.1;
   collation = ap (collation_by g.L.Lookup.content) c.self.view_is;
-  weighting = ap (λ (s : ComparerState _). s.weighting) c.self.view_is;
-  depth = ap (λ (s : ComparerState _). s.depth) c.self.view_is;
+  settings = ap (λ (s : ComparerState _). s.settings) c.self.view_is;
 }
 
 -- ---- The texts are compared without being normalized
@@ -38,15 +37,14 @@ returns-in-Some g c =
     let right = nfd_text by.properties ys in
     record {
       compared = subst (λ (s : ComparerState _). ComparesBy content s xs ys compared.order compared.level) c.self.view_is
-          (subst (λ (o : Option Compared). IfSome o (λ it. Compares by inside.depth inside.weighting left right it.order it.level)) c.in-Some.is found.compared);
+          (subst (λ (o : Option Compared). IfSome o (λ it. Compares by inside.settings left right it.order it.level)) c.in-Some.is found.compared);
       fetched = subst (λ (s : ComparerState _). FetchesBy content s xs ys compared.fetched_left compared.fetched_right) c.self.view_is
-          (subst (λ (o : Option Compared). IfSome o (λ it. Fetches by inside.weighting left right it.fetched_left it.fetched_right)) c.in-Some.is found.fetched);
+          (subst (λ (o : Option Compared). IfSome o (λ it. Fetches by inside.settings.weighting left right it.fetched_left it.fetched_right)) c.in-Some.is found.fetched);
       accepted = subst (λ (s : ComparerState _). AreAccepted (properties_of s.data_file) xs ys) c.self.view_is
           (subst (λ (o : Option Compared). IfSome o (λ _. AreAccepted by.properties xs ys)) c.in-Some.is found.accepted);
       fault = tt;
       collation = ap (collation_by content) c.self.view_is;
-      weighting = ap (λ (s : ComparerState _). s.weighting) c.self.view_is;
-      depth = ap (λ (s : ComparerState _). s.depth) c.self.view_is;
+      settings = ap (λ (s : ComparerState _). s.settings) c.self.view_is;
     }
 
 -- ---- They are compared normalized
@@ -64,6 +62,5 @@ returns g c =
       accepted = subst (λ (s : ComparerState _). OnOk r (AreAccepted (properties_of s.data_file) xs ys)) c.self.view_is c.compare_normals.ensures.accepted;
       fault = subst (λ (s : ComparerState _). IfErr r (Causes (properties_of s.data_file) xs ys)) c.self.view_is c.compare_normals.ensures.fault;
       collation = ap (collation_by g.L.Lookup.content) c.self.view_is;
-      weighting = ap (λ (s : ComparerState _). s.weighting) c.self.view_is;
-      depth = ap (λ (s : ComparerState _). s.depth) c.self.view_is;
+      settings = ap (λ (s : ComparerState _). s.settings) c.self.view_is;
     }
