@@ -59,8 +59,7 @@ nobody = record {
   lookup = record { keys = record { root = record { pages = []; numbers = [] }; nodes = [] }; rows = [] };
   ranges = [];
   data_file = record { classes = []; core = []; other = [] };
-  weighting = Shifted;
-  depth = Weights;
+  settings = record { weighting = Shifted; depth = Weights };
   key = [];
 }
 

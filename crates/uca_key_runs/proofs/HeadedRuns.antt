@@ -7,6 +7,7 @@ use Rattle.std.proofs.KnownBytes.{Appends-trans}
 use Rattle.std.proofs.Math.Seq.{take-append-add}
 use Rattle.std.proofs.lemmas.List.{length-append, take-append-le}
 use Rattle.uca_weights.specs.declared.Depth.{Depth}
+use Rattle.uca_weights.specs.declared.Settings.{Settings}
 use Rattle.uca_weights.specs.declared.Weighting.{Weighting}
 use Rattle.uca_weights.specs.Streams.{SourceState, SinkState}
 use Rattle.uca_values.specs.Content.{Properties}
@@ -20,7 +21,7 @@ use Rattle.uca_run_parts.specs.EachLine.{WritesEach, ended_before_input}
 use Rattle.uca_run_parts.specs.Input.{clean_lines}
 use Rattle.uca_run_parts.specs.Runs.{FailsToWrite, ended_by_output, is_input_read}
 use Rattle.uca_fingerprint_runs.specs.SummedFiles.{SummedContent}
-use Rattle.uca_order.specs.Keyings.{weighting_by, Keying, keying}
+use Rattle.uca_order.specs.Keyings.{settings_by, Keying, keying}
 use Rattle.uca_key_runs.specs.inside.HeadedParts.{ended_after}
 use Rattle.uca_key_runs.specs.HeadedRun.{RunsHeaded, WritesHeaded, header_under}
 
@@ -110,9 +111,9 @@ headed_under bytes_of asked depth input input_new out out_new (Err Memory) files
 headed_under bytes_of asked depth input input_new out out_new (Err _) files lines runs = runs
 
 -- the header that is made of the sums of the files
-pub header_made : (asked : Option Weighting) (depth : Depth) (weighting : Weighting) (files : SummedContent) (sum header : List ℕ)
-    → weighting ≡ weighting_by asked files.table.header.setting → sum ≡ sha256 (fingerprint_text weighting depth files.table_sum files.data_sum)
-    → header ≡ key_header weighting depth sum ++ 10 ∷ [] → header ≡ header_under asked depth files
-header_made asked depth weighting files sum header chosen is made =
-    made ∙ ap (λ s. ended (key_header weighting depth s)) is
-    ∙ ap (λ w. ended (key_header w depth (sha256 (fingerprint_text w depth files.table_sum files.data_sum)))) chosen
+pub header_made : (asked : Option Weighting) (depth : Depth) (settings : Settings) (files : SummedContent) (sum header : List ℕ)
+    → settings ≡ settings_by asked files.table.header.setting depth → sum ≡ sha256 (fingerprint_text settings files.table_sum files.data_sum)
+    → header ≡ key_header settings sum ++ 10 ∷ [] → header ≡ header_under asked depth files
+header_made asked depth settings files sum header chosen is made =
+    made ∙ ap (λ s. ended (key_header settings s)) is
+    ∙ ap (λ s. ended (key_header s (sha256 (fingerprint_text s files.table_sum files.data_sum)))) chosen

@@ -6,6 +6,7 @@ use Rattle.uca_weights.specs.declared.Weighting.{Weighting}
 use Rattle.uca_elements.specs.Collations.{Collation}
 use Rattle.uca_text.specs.Texts.{nfd_text}
 use Rattle.uca_order.specs.Depths.{read_text, key_at}
+use Rattle.uca_order.specs.Keyings.{keying_by}
 use Rattle.uca_key_runs.specs.declared.keys.KeyForm.{KeyForm}
 use Rattle.uca_key_runs.specs.declared.keys.KeyForm.TheVariants.{Alone, BeforeLine}
 use Rattle.uca_key_runs.specs.inside.KeyForms.{depth_as, shows_points, printed_as, line_as}
@@ -23,7 +24,7 @@ same_printed BeforeLine depth key points others line shown = refl
 pub line_made : (form : KeyForm) (depth made : Depth) (collation : Collation) (weighting : Weighting) (key points line : List ℕ)
     → key ≡ key_at made weighting (read_text collation (nfd_text collation.properties (chars line))) → made ≡ depth_as form depth
     → (shows_points form depth ≡ true → points ≡ (nfd_text collation.properties (chars line)).points)
-    → printed_as form depth key points line ≡ line_as form (record { collation = collation; weighting = weighting; depth = depth }) line
+    → printed_as form depth key points line ≡ line_as form (keying_by collation (record { weighting = weighting; depth = depth })) line
 line_made form depth made collation weighting key points line is at shown =
     let text = nfd_text collation.properties (chars line) in
     ap (λ k. printed_as form depth k points line) (is ∙ ap (λ d. key_at d weighting (read_text collation text)) at)

@@ -11,7 +11,7 @@ pub line_keys_compare : KeysCompareAsTexts → LineKeysCompareAsLines
 line_keys_compare law c left right =
     let one = read_text c.collation (nfd_text c.collation.properties (chars left)) in
     let other = read_text c.collation (nfd_text c.collation.properties (chars right)) in
-    (law.order c.depth c.weighting one other, law.equal c.depth c.weighting one other)
+    (law.order c.settings.depth c.settings.weighting one other, law.equal c.settings.depth c.settings.weighting one other)
 
 -- a line is printed by its code points in Normalization Form D alone
 pub one_key_line : CanonicallyEquivalentLinesHaveOneKeyLine
@@ -22,4 +22,5 @@ pub identical_lines : IdenticalKeysAreOfEquivalentTexts → IdenticalLineKeysAre
 identical_lines law c left right is same =
     let one = read_text c.collation (nfd_text c.collation.properties (chars left)) in
     let other = read_text c.collation (nfd_text c.collation.properties (chars right)) in
-    law c.collation c.weighting (chars left) (chars right) (subst (λ d. key_at d c.weighting one ≡ key_at d c.weighting other) is same)
+    law c.collation c.settings.weighting (chars left) (chars right)
+    (subst (λ d. key_at d c.settings.weighting one ≡ key_at d c.settings.weighting other) is same)

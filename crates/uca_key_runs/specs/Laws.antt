@@ -25,7 +25,7 @@ CanonicallyEquivalentLinesHaveOneKeyLine = (c : Keying) (left right : List ℕ) 
 
 -- With an identical level lines whose texts are not canonically equivalent have different keys.
 abbrev pub IdenticalLineKeysAreOfEquivalentLines : Type 0
-IdenticalLineKeysAreOfEquivalentLines = (c : Keying) (left right : List ℕ) → c.depth ≡ Identical →
+IdenticalLineKeysAreOfEquivalentLines = (c : Keying) (left right : List ℕ) → c.settings.depth ≡ Identical →
     key_of_bytes c left ≡ key_of_bytes c right → AreCanonicallyEquivalent (chars left) (chars right)
 
 -- Lines have one key order.

@@ -3,11 +3,11 @@
 ghost use Rattle.std.specs.Prelude.{◌≡◌, ◌∷◌, [], true, IfOk, IfErr, MatchResult};
 ghost use Rattle.uca_values.specs.Content.{properties_of};
 ghost use Rattle.uca_elements.specs.Rows.{rows_of};
-ghost use Rattle.uca_elements.specs.Collations.{collation_of, collation_over};
+ghost use Rattle.uca_match.specs.OwnedCollations.{owned_collation};
 ghost use Rattle.uca_order.specs.Lengths.{HasShortRows};
 ghost use Rattle.uca_run_parts.specs.Files.{HaveFailed, Over, table_and_data, table_and_data_roles, table_with};
 ghost use Rattle.uca_run_parts.specs.EachLine.{ended_before_input};
-ghost use Rattle.uca_order.specs.Keyings.{weighting_by};
+ghost use Rattle.uca_order.specs.Keyings.{settings_by};
 ghost use Rattle.uca_key_runs.specs.Keys.{IsCollation};
 
 mod packed_files;
@@ -15,34 +15,20 @@ mod packed_files;
 use packed_files::read_packed_files;
 use std::alloc::{Allocator, Global};
 use std::io::Read;
-use uca_elements::{Collator, Lookup};
-use uca_match::Trie;
+use uca_elements::Lookup;
+use uca_match::{OwnedCollation, Trie};
 use uca_order::laws::rows_are_short;
 use uca_run_parts::RunFault;
 use uca_values::{Data, Header, PackedTable};
-use uca_weights::{Source, Weighting};
+use uca_weights::{Depth, Settings, Source, Weighting};
 
-/// What keys go by: the header of the table, its rows, the properties of code points, and a weighting.
+/// What keys go by: what texts are read by, and settings.
 #[derive(Drop)]
 pub(crate) struct ReadCollation<A: Allocator = Global> {
-    /// The header of the table.
-    pub(crate) header: Header<A>,
-    /// The rows of the table.
-    pub(crate) rows: Trie<A>,
-    /// The properties of code points.
-    pub(crate) properties: Data<A>,
-    /// The weighting.
-    pub(crate) weighting: Weighting,
-}
-
-impl<A: Allocator> ReadCollation<A> {
     /// What texts are read by.
-    pub(crate) fn collator(&self) -> Collator<'_, Trie<A>, A>
-        ensures { collation_of ⟦<Trie<A> as Lookup>⟧.content result
-            ≡ collation_over (⟦<Trie<A> as Lookup>⟧.content self.now.rows) self.now.header (properties_of self.now.properties) }
-    {
-        Collator::new(&self.rows, &self.header, &self.properties)
-    }
+    pub(crate) collation: OwnedCollation<A>,
+    /// The settings.
+    pub(crate) settings: Settings,
 }
 
 /// Reads the table, and then the data file, and makes the rows ready to be looked up. The weighting is the one that is
@@ -56,19 +42,19 @@ pub(crate) fn read_collation<A: Allocator + Copy, T: Read, D: Read>(
     table: &mut Source<T>,
     properties: &mut Source<D>,
     weighting: Option<Weighting>,
+    depth: Depth,
 ) -> Result<ReadCollation<A>, RunFault>
     ensures read { Over table_and_data (table.old ∷ properties.old ∷ []) (table.new ∷ properties.new ∷ [])
         (λ content. MatchResult result
-        (λ read. IsCollation weighting (collation_over (⟦<Trie<A> as Lookup>⟧.content read.rows) read.header
-        (properties_of read.properties)) read.weighting content)
+        (λ read. IsCollation weighting depth (owned_collation read.collation) read.settings content)
         (λ fault. fault ≡ RunFault.Memory)) result }
-    ensures short { IfOk result (λ read. HasShortRows (⟦<Trie<A> as Lookup>⟧.content read.rows)) }
+    ensures short { IfOk result (λ read. HasShortRows (owned_collation read.collation).rows) }
     ensures before_input { IfErr result (λ _. ended_before_input result ≡ true) }
     ensures failed { HaveFailed table_and_data_roles (table.old ∷ properties.old ∷ [])
         (table.new ∷ properties.new ∷ []) result }
 {
     match read_packed_files(alloc, table, properties) {
-        Ok(files) => collation_of(alloc, files.0, files.1, weighting),
+        Ok(files) => collation_of(alloc, files.0, files.1, weighting, depth),
         Err(fault) => Err(fault),
     }
 }
@@ -84,18 +70,21 @@ pub(crate) fn collation_of<A: Allocator + Copy>(
     table: PackedTable<A>,
     properties: Data<A>,
     asked: Option<Weighting>,
+    depth: Depth,
 ) -> Result<ReadCollation<A>, RunFault>
-    ensures made { IfOk result (λ read. IsCollation asked (collation_over (⟦<Trie<A> as Lookup>⟧.content read.rows) read.header
-        (properties_of read.properties)) read.weighting (table_with table (properties_of properties))) }
-    ensures short { IfOk result (λ read. HasShortRows (⟦<Trie<A> as Lookup>⟧.content read.rows)) }
+    ensures made { IfOk result (λ read. IsCollation asked depth (owned_collation read.collation) read.settings
+        (table_with table (properties_of properties))) }
+    ensures short { IfOk result (λ read. HasShortRows (owned_collation read.collation).rows) }
     ensures refused { IfErr result (λ fault. fault ≡ RunFault.Memory) }
 {
     match rows_of_table(alloc, table) {
         Ok((header, rows)) => Ok(ReadCollation {
-            weighting: chosen_weighting(asked, &header),
-            header,
-            rows,
-            properties,
+            settings: chosen_settings(asked, &header, depth),
+            collation: OwnedCollation {
+                rows,
+                header,
+                properties,
+            },
         }),
         Err(fault) => {
             drop(properties);
@@ -123,10 +112,17 @@ fn rows_of_table<A: Allocator + Copy>(
     }
 }
 
-// The weighting that is asked for, or else that of the table's `@variable`, or else shifted
-// (UTS #10, section 4).
-fn chosen_weighting<A: Allocator>(asked: Option<Weighting>, header: &Header<A>) -> Weighting
-    ensures { result ≡ weighting_by asked header.now.setting }
+// The depth, and the weighting that is asked for, or else that of the table's `@variable`, or else shifted (UTS #10,
+// section 4).
+fn chosen_settings<A: Allocator>(
+    asked: Option<Weighting>,
+    header: &Header<A>,
+    depth: Depth,
+) -> Settings
+    ensures { result ≡ settings_by asked header.now.setting depth }
 {
-    asked.or(header.setting).unwrap_or(Weighting::Shifted)
+    Settings {
+        weighting: asked.or(header.setting).unwrap_or(Weighting::Shifted),
+        depth,
+    }
 }

@@ -20,7 +20,7 @@ use uca_run_parts::faults::RunFault;
 use uca_run_parts::output::write_text;
 use uca_text::{Normal, normal};
 use uca_values::Data;
-use uca_weights::{Depth, Sink, Source, Weighting};
+use uca_weights::{Depth, Settings, Sink, Source, Weighting};
 
 /// Compares two texts, and writes a line: `<`, `=` or `>`, one space, and the level at which they differ, or 0 if none
 /// does. The texts are in `global` while they are compared; no key is made.
@@ -32,13 +32,12 @@ use uca_weights::{Depth, Sink, Source, Weighting};
 pub fn compare_words<L: Lookup, A: Allocator, W: Write>(
     global: Global,
     collator: &Collator<L, A>,
-    weighting: Weighting,
-    depth: Depth,
+    settings: Settings,
     left: &str,
     right: &str,
     out: &mut Sink<W>,
 ) -> Result<(), RunFault>
-    ensures writes { WritesComparison (keying_of L.content collator.now weighting depth) left.now right.now out.old.contents out.new.contents result }
+    ensures writes { WritesComparison (keying_of L.content collator.now settings) left.now right.now out.old.contents out.new.contents result }
     ensures of_texts { ended_by_file result ≡ false }
     ensures nothing_written { ended_before_output result ≡ true → out.new ≡ out.old }
     ensures out_failed { out.new.failed ≡ (out.old.failed || ended_by_output result) }
@@ -47,7 +46,7 @@ pub fn compare_words<L: Lookup, A: Allocator, W: Write>(
     match text_of(global, right, true, collator.data) {
         Ok(right) => {
             let collator = *collator;
-            let compared = compare(&collator, weighting, depth, &left, &right);
+            let compared = compare(&collator, settings.weighting, settings.depth, &left, &right);
             drop(right);
             drop(left);
             write_text(&line_of(compared), out)
@@ -109,10 +108,10 @@ pub fn run_compare_in<A: Allocator + Copy, T: Read, D: Read, W: Write>(
     ensures { Compares (comparing weighting depth left.now right.now) (table.old ∷ properties.old ∷ [])
         (table.new ∷ properties.new ∷ []) out.old out.new result }
 {
-    match read_collation(alloc, table, properties, weighting) {
+    match read_collation(alloc, table, properties, weighting, depth) {
         Ok(read) => {
-            let collator = read.collator();
-            let end = compare_words(global, &collator, read.weighting, depth, left, right, out);
+            let collator = read.collation.collator();
+            let end = compare_words(global, &collator, read.settings, left, right, out);
             drop(read);
             end
         }

@@ -4,7 +4,8 @@
 
 ghost use Rattle.std.specs.Prelude.{◌≡◌, ◌≤◌, ◌∷◌, [], ◌||◌, false, true, length, IfErr, IfOk, IfSome, MatchResult};
 ghost use Rattle.uca_values.specs.Content.{properties_of};
-ghost use Rattle.uca_elements.specs.Collations.{collation_of, collation_over};
+ghost use Rattle.uca_elements.specs.Collations.{collation_of};
+ghost use Rattle.uca_match.specs.OwnedCollations.{owned_collation};
 ghost use Rattle.uca_order.specs.Lengths.{HasShortRows};
 ghost use Rattle.uca_run_parts.specs.Files.{HaveFailed, Over, table_and_data_roles};
 ghost use Rattle.uca_run_parts.specs.Runs.{is_input_read, ended_by_output};
@@ -22,10 +23,9 @@ use std::io::{Read, Write};
 use uca_elements::{Collator, Lookup};
 use uca_fingerprint::{KeyHeader, fingerprint_of_sums};
 use uca_fingerprint_runs::summed_files::{SummedFiles, read_summed_files};
-use uca_match::Trie;
 use uca_run_parts::faults::RunFault;
 use uca_run_parts::output::write_text;
-use uca_weights::{Depth, Sink, Source, Weighting};
+use uca_weights::{Depth, Settings, Sink, Source, Weighting};
 
 // How a run ends that wrote a header first: an error of the writer counts its bytes too.
 fn after_header(header: &[u8], end: Result<(), RunFault>) -> Result<(), RunFault>
@@ -45,8 +45,7 @@ fn print_headed<L: Lookup, T: Allocator, A: Allocator + Copy, I: Read, W: Write>
     alloc: A,
     global: Global,
     collator: &Collator<L, T>,
-    weighting: Weighting,
-    depth: Depth,
+    settings: Settings,
     form: KeyForm,
     header: &[u8],
     input: &mut Source<I>,
@@ -55,7 +54,7 @@ fn print_headed<L: Lookup, T: Allocator, A: Allocator + Copy, I: Read, W: Write>
     requires rows { HasShortRows (collation_of L.content collator.now).rows }
     requires short { length header.now ≤ 128 }
     ensures writes { IfSome input.old.remaining (λ bytes.
-        let c = keying_of L.content collator.now weighting depth in
+        let c = keying_of L.content collator.now settings in
         WritesHeaded header.now c.collation.properties (line_as form c) bytes input.new.remaining out.old.contents out.new.contents result) }
     ensures of_lines { ended_before_input result ≡ false }
     ensures input_failed { ended_by_output result ≡ false →
@@ -64,7 +63,7 @@ fn print_headed<L: Lookup, T: Allocator, A: Allocator + Copy, I: Read, W: Write>
 {
     match write_text(header, out) {
         Ok(()) => {
-            let end = print_lines(alloc, global, collator, weighting, depth, form, input, out);
+            let end = print_lines(alloc, global, collator, settings, form, input, out);
             after_header(header, end)
         }
         Err(fault) => Err(fault),
@@ -78,19 +77,18 @@ fn headed_collation<A: Allocator + Copy>(
     asked: Option<Weighting>,
     depth: Depth,
 ) -> Result<(ReadCollation<A>, KeyHeader), RunFault>
-    ensures made { IfOk result (λ made. IsHeaded asked depth (collation_over (⟦<Trie<A> as Lookup>⟧.content made.0.rows) made.0.header
-        (properties_of made.0.properties)) made.0.weighting made.1
+    ensures made { IfOk result (λ made. IsHeaded asked depth (owned_collation made.0.collation) made.0.settings made.1
         (summed_with files.table (properties_of files.properties.0, files.properties.1))) }
-    ensures short { IfOk result (λ made. HasShortRows (⟦<Trie<A> as Lookup>⟧.content made.0.rows)) }
+    ensures short { IfOk result (λ made. HasShortRows (owned_collation made.0.collation).rows) }
     ensures refused { IfErr result (λ fault. fault ≡ RunFault.Memory) }
 {
     let SummedFiles { table, properties } = files;
     let (table, table_sum) = table;
     let (properties, data_sum) = properties;
-    match collation_of(alloc, table, properties, asked) {
+    match collation_of(alloc, table, properties, asked, depth) {
         Ok(read) => {
-            let sum = fingerprint_of_sums(read.weighting, depth, &table_sum, &data_sum);
-            let header = KeyHeader::ended(read.weighting, depth, &sum);
+            let sum = fingerprint_of_sums(read.settings, &table_sum, &data_sum);
+            let header = KeyHeader::ended(read.settings, &sum);
             Ok((read, header))
         }
         Err(fault) => Err(fault),
@@ -107,10 +105,9 @@ fn read_headed<A: Allocator + Copy, T: Read, D: Read>(
 ) -> Result<(ReadCollation<A>, KeyHeader), RunFault>
     ensures read { Over summed_files (table.old ∷ properties.old ∷ []) (table.new ∷ properties.new ∷ [])
         (λ content. MatchResult result
-        (λ made. IsHeaded asked depth (collation_over (⟦<Trie<A> as Lookup>⟧.content made.0.rows) made.0.header
-        (properties_of made.0.properties)) made.0.weighting made.1 content)
+        (λ made. IsHeaded asked depth (owned_collation made.0.collation) made.0.settings made.1 content)
         (λ fault. fault ≡ RunFault.Memory)) result }
-    ensures short { IfOk result (λ made. HasShortRows (⟦<Trie<A> as Lookup>⟧.content made.0.rows)) }
+    ensures short { IfOk result (λ made. HasShortRows (owned_collation made.0.collation).rows) }
     ensures before_input { IfErr result (λ _. ended_before_input result ≡ true) }
     ensures failed { HaveFailed table_and_data_roles (table.old ∷ properties.old ∷ [])
         (table.new ∷ properties.new ∷ []) result }
@@ -138,12 +135,10 @@ fn run_headed_in<A: Allocator + Copy, T: Read, D: Read, I: Read, W: Write>(
 {
     match read_headed(alloc, table, properties, weighting, depth) {
         Ok((read, header)) => {
-            let collator = read.collator();
-            let chosen = read.weighting;
+            let collator = read.collation.collator();
+            let settings = read.settings;
             let first = header.as_bytes();
-            let end = print_headed(
-                alloc, global, &collator, chosen, depth, form, first, input, out,
-            );
+            let end = print_headed(alloc, global, &collator, settings, form, first, input, out);
             drop(header);
             drop(read);
             end

@@ -32,7 +32,7 @@ use uca_run_parts::output::end_output;
 use uca_run_parts::print::{KeyDigits, print_key, print_keyed_line};
 use uca_text::Normal;
 use uca_values::Data;
-use uca_weights::{Depth, Sink, Source, Weighting, WriteFault};
+use uca_weights::{Depth, Settings, Sink, Source, Weighting, WriteFault};
 
 /// What the output has of a line of the input.
 #[derive(Clone, Copy)]
@@ -253,29 +253,32 @@ pub(crate) fn print_lines<L: Lookup, T: Allocator, A: Allocator + Copy, I: Read,
     alloc: A,
     global: Global,
     collator: &Collator<L, T>,
-    weighting: Weighting,
-    depth: Depth,
+    settings: Settings,
     form: KeyForm,
     input: &mut Source<I>,
     out: &mut Sink<W>,
 ) -> Result<(), RunFault>
     requires { HasShortRows (collation_of L.content collator.now).rows }
     ensures writes { IfSome input.old.remaining (λ bytes.
-        let c = keying_of L.content collator.now weighting depth in
+        let c = keying_of L.content collator.now settings in
         WritesEach c.collation.properties (line_as form c) bytes input.new.remaining out.old.contents out.new.contents result) }
     ensures of_lines { ended_before_input result ≡ false }
     ensures input_failed { ended_by_output result ≡ false →
         input.new.failed ≡ (input.old.failed || is_input_read result) }
     ensures out_failed { out.new.failed ≡ (out.old.failed || ended_by_output result) }
 {
+    let made = Settings {
+        depth: depth_of(form, settings.depth),
+        ..settings
+    };
     let mut run = KeyRun {
         lines: InputLines::new(alloc),
-        key: KeyWriter::new(alloc, global, *collator, weighting, depth_of(form, depth)),
+        key: KeyWriter::new(alloc, global, *collator, made),
         text: Normal::new(global),
         output: OutputBuffer::new(),
         digits: KeyDigits::new(),
     };
-    let end = run.print_rest(form, depth, collator.data, input, out);
+    let end = run.print_rest(form, settings.depth, collator.data, input, out);
     let end = end_output(&mut run.output, out, end);
     drop(run);
     end
@@ -354,11 +357,10 @@ pub(crate) fn run_lines_in<A: Allocator + Copy, T: Read, D: Read, I: Read, W: Wr
     ensures { PrintsAs form weighting depth (table.old ∷ properties.old ∷ []) (table.new ∷ properties.new ∷ [])
         input.old input.new out.old out.new result }
 {
-    match read_collation(alloc, table, properties, weighting) {
+    match read_collation(alloc, table, properties, weighting, depth) {
         Ok(read) => {
-            let collator = read.collator();
-            let chosen = read.weighting;
-            let end = print_lines(alloc, global, &collator, chosen, depth, form, input, out);
+            let collator = read.collation.collator();
+            let end = print_lines(alloc, global, &collator, read.settings, form, input, out);
             drop(read);
             end
         }

@@ -5,7 +5,7 @@ ghost use Rattle.uca_order.specs.Lengths.{HasShortRows};
 ghost use Rattle.uca_key_writer.specs.Writers.{collation_by};
 ghost use Rattle.uca_run_parts.specs.Input.{cause_of};
 ghost use Rattle.uca_order.specs.Keyings.{key_of_bytes};
-ghost use Rattle.uca_key_runs.specs.Keys.{keying_at};
+ghost use Rattle.uca_key_runs.specs.Keys.{keying_of_writer};
 ghost use Rattle.uca_run_parts.specs.Texts.{HasTextCause, is_read};
 
 use std::alloc::Allocator;
@@ -24,7 +24,7 @@ pub(crate) fn write_line_key<'a, L: Lookup, T: Allocator, A: Allocator>(
     writer: &mut KeyWriter<'a, L, T, A>,
     lines: &InputLines<A>,
 ) -> Result<(), InputKind>
-    ensures key { OnOk result (writer.new.key ≡ key_of_bytes (keying_at L.content writer.old writer.old.depth) lines.now.line) }
+    ensures key { OnOk result (writer.new.key ≡ key_of_bytes (keying_of_writer L.content writer.old) lines.now.line) }
     ensures clean { (before : ℕ) → before < LINE_LIMIT →
         OnOk result (cause_of (collation_by L.content writer.old).properties before lines.now.line ≡ None) }
     ensures fault { (before : ℕ) → before < LINE_LIMIT →
@@ -32,8 +32,7 @@ pub(crate) fn write_line_key<'a, L: Lookup, T: Allocator, A: Allocator>(
     ensures not_read { is_read result ≡ false }
     ensures short { HasShortRows (collation_by L.content writer.old).rows → OnOk result (length writer.new.key < 2 ^ 40) }
     ensures collation { collation_by L.content writer.new ≡ collation_by L.content writer.old }
-    ensures weighting { writer.new.weighting ≡ writer.old.weighting }
-    ensures depth { writer.new.depth ≡ writer.old.depth }
+    ensures settings { writer.new.settings ≡ writer.old.settings }
 {
     match lines.text() {
         Ok(line) => match writer.write(line) {
@@ -55,15 +54,14 @@ pub(crate) fn write_line_beginning<'a, L: Lookup, T: Allocator, A: Allocator>(
     lines: &InputLines<A>,
 ) -> Result<(), InputKind>
     ensures beginning { OnOk result (take 16 writer.new.key ≡
-        take 16 (key_of_bytes (keying_at L.content writer.old writer.old.depth) lines.now.line)) }
+        take 16 (key_of_bytes (keying_of_writer L.content writer.old) lines.now.line)) }
     ensures clean { (before : ℕ) → before < LINE_LIMIT →
         OnOk result (cause_of (collation_by L.content writer.old).properties before lines.now.line ≡ None) }
     ensures fault { (before : ℕ) → before < LINE_LIMIT →
         IfErr result (HasTextCause (collation_by L.content writer.old).properties before lines.now.line) }
     ensures not_read { is_read result ≡ false }
     ensures collation { collation_by L.content writer.new ≡ collation_by L.content writer.old }
-    ensures weighting { writer.new.weighting ≡ writer.old.weighting }
-    ensures depth { writer.new.depth ≡ writer.old.depth }
+    ensures settings { writer.new.settings ≡ writer.old.settings }
 {
     match lines.text() {
         Ok(line) => match writer.write_beginning(line) {

@@ -47,7 +47,7 @@ module _ (law : StoredKeysCompareAsTexts) (k : Keying) where
   by_places : (a b : List ℕ) (da : Accepted a ⊎ (Accepted a → ⊥)) (db : Accepted b ⊎ (Accepted b → ⊥)) (o : Ordering) → IsOrder k a b o
       → o ≡ lexicographic (place a da) (place b db)
   unfolding place
-  by_places a b (inl taken) (inl also) o is = is.both taken also ∙ sym (law k.collation k.depth k.weighting (chars a) (chars b)).0
+  by_places a b (inl taken) (inl also) o is = is.both taken also ∙ sym (law k.collation k.settings (chars a) (chars b)).0
   by_places a b (inl taken) (inr left_out) o is = is.left_alone taken left_out
   by_places a b (inr left_out) (inl taken) o is = is.right_alone left_out taken
   by_places a b (inr left_out) (inr neither) o is = is.neither left_out neither

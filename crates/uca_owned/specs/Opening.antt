@@ -26,7 +26,7 @@ pub record Opens (asked : Option Weighting) (depth : Depth) (table_bytes data_by
 
 -- the fingerprint of what texts are keyed by, which the bytes of two files mean
 abbrev pub fingerprint_by : Keying → List ℕ → List ℕ → List ℕ
-fingerprint_by k table_bytes data_bytes = fingerprint k.weighting k.depth table_bytes data_bytes
+fingerprint_by k table_bytes data_bytes = fingerprint k.settings table_bytes data_bytes
 
 -- the bytes are a table file and a data file, and this is the fingerprint of what texts are keyed by
 pub record HasFingerprint (asked : Option Weighting) (depth : Depth) (table_bytes data_bytes sum : List ℕ) : Type 0 where

@@ -58,14 +58,8 @@ impl OwnedCollator {
         ensures keying { keying_in self.new ≡ keying_in self.old }
         ensures key { key_in self.new ≡ key_in self.old }
     {
-        let Ok(found) = compare_plain(
-            &self.collation,
-            &mut self.plain,
-            self.weighting,
-            self.depth,
-            left,
-            right,
-        ) else {
+        let Ok(found) = compare_plain(&self.collation, &mut self.plain, self.settings, left, right)
+        else {
             return Err(CompareFault::Left(KeyFault::Text(TextFault::Memory)));
         };
         if let Some(pair) = found {
@@ -73,8 +67,7 @@ impl OwnedCollator {
         }
         compare_normalized(
             &self.collation,
-            self.weighting,
-            self.depth,
+            self.settings,
             &mut self.left,
             &mut self.right,
             left,

@@ -17,7 +17,7 @@ use uca_match::OwnedCollation;
 use uca_text::Normal;
 use uca_text_comparer::PlainComparison;
 use uca_values::Data;
-use uca_weights::{Depth, Weighting};
+use uca_weights::Settings;
 
 /// Takes the text of these bytes in place of the one that was there.
 pub(crate) fn renew(normal: &mut Normal, bytes: &[u8], properties: &Data) -> Result<(), KeyFault>
@@ -43,15 +43,14 @@ pub(crate) fn renew(normal: &mut Normal, bytes: &[u8], properties: &Data) -> Res
 pub(crate) fn compare_plain(
     collation: &OwnedCollation,
     plain: &mut PlainComparison,
-    weighting: Weighting,
-    depth: Depth,
+    settings: Settings,
     left: &[u8],
     right: &[u8],
 ) -> Result<Option<(Ordering, u8)>, AllocError>
     requires { AreTrueEntries (owned_collation collation.now) plain.old.points.entries.items }
     ensures known { AreTrueEntries (owned_collation collation.now) plain.new.points.entries.items }
     ensures compared { IfOk result (λ found. IfSome found (λ pair.
-        let answer = bytes_compared (keying_by (owned_collation collation.now) weighting depth) left.now right.now in
+        let answer = bytes_compared (keying_by (owned_collation collation.now) settings) left.now right.now in
         (pair.0 ≡ answer.order) × (pair.1 ≡ answer.level))) }
     ensures accepted { let properties = properties_of collation.now.properties in IfOk result (λ found. IfSome found (λ _.
         IsAcceptedText properties left.now × IsAcceptedText properties right.now)) }
@@ -64,7 +63,7 @@ pub(crate) fn compare_plain(
         return Ok(None);
     };
     let collator = collation.collator();
-    let found = plain.compare_texts(&collator, weighting, depth, left, right)?;
+    let found = plain.compare_texts(&collator, settings, left, right)?;
     if let Some(compared) = found {
         return Ok(Some((compared.order, compared.level)));
     }
@@ -74,16 +73,15 @@ pub(crate) fn compare_plain(
 /// How two texts in Normalization Form D compare: their order, and the first level at which they differ, or 0.
 pub(crate) fn compare_texts(
     collation: &OwnedCollation,
-    weighting: Weighting,
-    depth: Depth,
+    settings: Settings,
     left: &Normal,
     right: &Normal,
 ) -> (Ordering, u8)
-    ensures { let answer = compared_by (keying_by (owned_collation collation.now) weighting depth) left.now right.now in
+    ensures { let answer = compared_by (keying_by (owned_collation collation.now) settings) left.now right.now in
         (result.0 ≡ answer.order) × (result.1 ≡ answer.level) }
 {
     let collator = collation.collator();
-    let compared = compare(&collator, weighting, depth, left, right);
+    let compared = compare(&collator, settings.weighting, settings.depth, left, right);
     (compared.order, compared.level)
 }
 
@@ -94,15 +92,14 @@ pub(crate) fn compare_texts(
 /// `Left` if the left text is rejected, or else `Right` if the right one is.
 pub(crate) fn compare_normalized(
     collation: &OwnedCollation,
-    weighting: Weighting,
-    depth: Depth,
+    settings: Settings,
     left_text: &mut Normal,
     right_text: &mut Normal,
     left: &[u8],
     right: &[u8],
 ) -> Result<(Ordering, u8), CompareFault>
     ensures compared { IfOk result (λ pair.
-        let answer = bytes_compared (keying_by (owned_collation collation.now) weighting depth) left.now right.now in
+        let answer = bytes_compared (keying_by (owned_collation collation.now) settings) left.now right.now in
         (pair.0 ≡ answer.order) × (pair.1 ≡ answer.level)) }
     ensures accepted { let properties = properties_of collation.now.properties in
         OnOk result (IsAcceptedText properties left.now × IsAcceptedText properties right.now) }
@@ -114,5 +111,5 @@ pub(crate) fn compare_normalized(
     if let Err(fault) = renew(right_text, right, &collation.properties) {
         return Err(CompareFault::Right(fault));
     }
-    Ok(compare_texts(collation, weighting, depth, left_text, right_text))
+    Ok(compare_texts(collation, settings, left_text, right_text))
 }

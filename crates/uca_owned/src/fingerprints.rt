@@ -6,7 +6,7 @@ ghost use Rattle.uca_order.specs.Keyings.{keying};
 ghost use Rattle.uca_owned.specs.Opening.{HasFingerprint, IsOpenCause, IsOpenStop, MeanFiles, fingerprint_by};
 
 use crate::faults::OpenFault;
-use crate::opening::chosen_weighting;
+use crate::opening::chosen_settings;
 use std::alloc::Global;
 use uca_fingerprint::fingerprint;
 use uca_table::{read_data, read_packed_table};
@@ -34,12 +34,12 @@ pub fn fingerprint_of(
         Ok(read) => read,
         Err(fault) => return Err(OpenFault::Table(fault)),
     };
-    let weighting = chosen_weighting(asked, &read.header);
+    let settings = chosen_settings(asked, &read.header, depth);
     drop(read);
     let properties = match read_data(alloc, &mut Source::new(data_file)) {
         Ok(properties) => properties,
         Err(fault) => return Err(OpenFault::Data(fault)),
     };
     drop(properties);
-    Ok(fingerprint(weighting, depth, table, data_file))
+    Ok(fingerprint(settings, table, data_file))
 }

@@ -3,7 +3,7 @@
 ghost use Rattle.std.specs.Prelude.{◌≡◌, IfOk, IfErr, MatchResult};
 ghost use Rattle.uca_values.specs.Content.{TableContent, Properties, properties_of};
 ghost use Rattle.uca_match.specs.NumberedKeys.{rows_at};
-ghost use Rattle.uca_order.specs.Keyings.{keying, keying_over, weighting_by};
+ghost use Rattle.uca_order.specs.Keyings.{keying, keying_over, settings_by};
 ghost use Rattle.uca_owned.specs.Owned.{keying_in};
 ghost use Rattle.uca_owned.specs.Opening.{MeanFiles, Opens, IsOpenCause, IsOpenStop};
 
@@ -16,13 +16,17 @@ use uca_table::{read_data, read_packed_table};
 use uca_text::Normal;
 use uca_text_comparer::PlainComparison;
 use uca_values::{Data, Header, PackedTable, Table};
-use uca_weights::{Depth, Source, Weighting};
+use uca_weights::{Depth, Settings, Source, Weighting};
 
-// The weighting that is asked for, or else that of the table's `@variable`, or else shifted (UTS #10, section 4).
-pub(crate) fn chosen_weighting(asked: Option<Weighting>, header: &Header) -> Weighting
-    ensures { result ≡ weighting_by asked header.now.setting }
+// The depth, and the weighting that is asked for, or else that of the table's `@variable`, or else shifted (UTS #10,
+// section 4).
+pub(crate) fn chosen_settings(asked: Option<Weighting>, header: &Header, depth: Depth) -> Settings
+    ensures { result ≡ settings_by asked header.now.setting depth }
 {
-    asked.or(header.setting).unwrap_or(Weighting::Shifted)
+    Settings {
+        weighting: asked.or(header.setting).unwrap_or(Weighting::Shifted),
+        depth,
+    }
 }
 
 // A collator of a header, of rows that are ready to be looked up, and of a data file.
@@ -36,19 +40,18 @@ fn collator_of(
 ) -> OwnedCollator
     ensures { keying_in result ≡ keying_over (rows_at rows) header asked depth (properties_of properties) }
 {
-    let weighting = chosen_weighting(asked, &header);
+    let settings = chosen_settings(asked, &header, depth);
     OwnedCollator {
         collation: OwnedCollation {
             rows,
             header,
             properties,
         },
-        keys: KeyMemory::new(alloc, alloc, weighting, depth),
+        keys: KeyMemory::new(alloc, alloc, settings),
         plain: PlainComparison::new(alloc, alloc),
         left: Normal::new(alloc),
         right: Normal::new(alloc),
-        weighting,
-        depth,
+        settings,
     }
 }
 

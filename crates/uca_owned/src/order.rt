@@ -18,7 +18,7 @@ use std::cmp::Ordering;
 use uca_match::OwnedCollation;
 use uca_text::{Normal, TextFault};
 use uca_values::Data;
-use uca_weights::{Depth, Weighting};
+use uca_weights::Settings;
 
 // Whether an allocation failed.
 fn is_memory(fault: KeyFault) -> bool
@@ -58,20 +58,19 @@ fn renew_if_accepted(
 // The order of two byte strings, whose texts are normalized first, each in the memory of one that was before.
 fn order_normalized(
     collation: &OwnedCollation,
-    weighting: Weighting,
-    depth: Depth,
+    settings: Settings,
     left_text: &mut Normal,
     right_text: &mut Normal,
     left: &[u8],
     right: &[u8],
 ) -> Result<Ordering, AllocError>
-    ensures { IfOk result (IsOrder (keying_by (owned_collation collation.now) weighting depth) left.now right.now) }
+    ensures { IfOk result (IsOrder (keying_by (owned_collation collation.now) settings) left.now right.now) }
 {
     let has_left = renew_if_accepted(left_text, left, &collation.properties)?;
     let has_right = renew_if_accepted(right_text, right, &collation.properties)?;
     if has_left {
         if has_right {
-            return Ok(compare_texts(collation, weighting, depth, left_text, right_text).0);
+            return Ok(compare_texts(collation, settings, left_text, right_text).0);
         }
         return Ok(Ordering::Less);
     }
@@ -94,21 +93,13 @@ impl OwnedCollator {
         ensures keying { keying_in self.new ≡ keying_in self.old }
         ensures key { key_in self.new ≡ key_in self.old }
     {
-        let found = compare_plain(
-            &self.collation,
-            &mut self.plain,
-            self.weighting,
-            self.depth,
-            left,
-            right,
-        )?;
+        let found = compare_plain(&self.collation, &mut self.plain, self.settings, left, right)?;
         if let Some(pair) = found {
             return Ok(pair.0);
         }
         order_normalized(
             &self.collation,
-            self.weighting,
-            self.depth,
+            self.settings,
             &mut self.left,
             &mut self.right,
             left,

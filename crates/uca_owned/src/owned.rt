@@ -6,10 +6,9 @@ use uca_key_writer::KeyMemory;
 use uca_match::OwnedCollation;
 use uca_text::Normal;
 use uca_text_comparer::PlainComparison;
-use uca_weights::{Depth, Weighting};
+use uca_weights::Settings;
 
-/// A collator that owns all that it needs: what texts are read by, one weighting and one depth, and memory for texts and
-/// for one key.
+/// A collator that owns all that it needs: what texts are read by, settings, and memory for texts and for one key.
 #[derive(Drop)]
 pub struct OwnedCollator {
     // what it reads texts by
@@ -21,8 +20,7 @@ pub struct OwnedCollator {
     // memory for the texts of other comparisons
     pub(crate) left: Normal,
     pub(crate) right: Normal,
-    pub(crate) weighting: Weighting,
-    pub(crate) depth: Depth,
+    pub(crate) settings: Settings,
 }
 
 impl Model for OwnedCollator {
@@ -36,10 +34,9 @@ impl Model for OwnedCollator {
       lookup = c.collation.rows;
       ranges = c.collation.header.ranges;
       data_file = c.collation.properties;
-      weighting = c.weighting;
-      depth = c.depth;
+      settings = c.settings;
       key = c.keys.buffer.key;
     } };
 
-    ghost invariant = { λ c. IsKept (owned_collation c.collation) c.weighting c.depth c.keys c.plain };
+    ghost invariant = { λ c. IsKept (owned_collation c.collation) c.settings c.keys c.plain };
 }

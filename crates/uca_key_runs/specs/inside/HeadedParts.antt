@@ -1,6 +1,7 @@
 -- The parts of a run with a header.
 use Rattle.std.specs.Prelude.{◌≡◌, ℕ, ◌+◌, ◌-◌, ◌^◌, min, List, Option, Result, Ok, Err}
 use Rattle.uca_weights.specs.declared.Depth.{Depth}
+use Rattle.uca_weights.specs.declared.Settings.{Settings}
 use Rattle.uca_weights.specs.declared.Weighting.{Weighting}
 use Rattle.uca_weights.specs.Streams.{SourceState, SinkState}
 use Rattle.uca_elements.specs.Collations.{Collation}
@@ -15,8 +16,8 @@ use Rattle.uca_key_runs.specs.HeadedRun.{RunsHeaded, header_under}
 use Rattle.uca_key_runs.specs.inside.KeyForms.{line_as}
 
 -- what keys go by, and their header, are those of the files
-abbrev pub IsHeaded : Option Weighting → Depth → Collation → Weighting → List ℕ → SummedContent → Type 0
-IsHeaded asked depth read weighting header files = IsCollation asked read weighting (table_with files.table files.properties) × (header ≡ header_under asked depth files)
+abbrev pub IsHeaded : Option Weighting → Depth → Collation → Settings → List ℕ → SummedContent → Type 0
+IsHeaded asked depth read settings header files = IsCollation asked depth read settings (table_with files.table files.properties) × (header ≡ header_under asked depth files)
 
 -- how a run ends that wrote so many bytes first: an error of the writer counts them too
 abbrev pub ended_after : {A : Type 0} → ℕ → Result A RunFault → Result A RunFault

@@ -35,7 +35,8 @@ printed_as BeforeLine depth key points line = keyed_line_of key line
 
 -- that of a line with its text
 abbrev pub text_as : KeyForm → Keying → NfdText → List ℕ → List ℕ
-text_as form c text line = printed_as form c.depth (key_at (depth_as form c.depth) c.weighting (read_text c.collation text)) text.points line
+text_as form c text line =
+    printed_as form c.settings.depth (key_at (depth_as form c.settings.depth) c.settings.weighting (read_text c.collation text)) text.points line
 
 -- that of a line of the input, which is UTF-8
 abbrev pub line_as : KeyForm → Keying → List ℕ → List ℕ
@@ -49,8 +50,8 @@ PrintsAs form asked depth olds news input input_new out out_new result =
 
 -- ---- A writer of the keys of a form
 
--- keys of the form at that depth go by these settings, and texts by these properties
+-- keys of the form at that depth go by this, and texts by these properties
 pub record MakesKeys (form : KeyForm) (depth : Depth) (properties : Properties) (c : Keying) : Type 0 where
-  pub key_depth : c.depth ≡ depth_as form depth
+  pub key_depth : c.settings.depth ≡ depth_as form depth
   pub same : properties ≡ c.collation.properties
   pub short_rows : HasShortRows c.collation.rows

@@ -1,4 +1,4 @@
--- The rows and the weighting are those of the table.
+-- The rows and the settings are those of the table.
 use Rattle.uca_values.specs.Content.{properties_of}
 use Rattle.uca_match.specs.NumberedKeys.{rows_at}
 use Rattle.uca_run_parts.specs.Files.{table_with}
@@ -7,5 +7,5 @@ use Rattle.uca_key_runs.proofs.collations.collation_of.Goals as goal
 
 pub returns-in-Ok-clause-made : goal.returns-in-Ok-clause-made
 returns-in-Ok-clause-made g c =
-    made_of_files c.args.asked (rows_at c.in-Ok.rows) c.in-Ok.header c.chosen_weighting.result (table_with c.args.table (properties_of c.args.properties))
-    c.in-Ok.ensures.rows c.in-Ok.ensures.header c.chosen_weighting.ensures
+    made_of_files c.args.asked c.args.depth (rows_at c.in-Ok.rows) c.in-Ok.header c.chosen_settings.result (table_with c.args.table (properties_of c.args.properties))
+    c.in-Ok.ensures.rows c.in-Ok.ensures.header c.chosen_settings.ensures

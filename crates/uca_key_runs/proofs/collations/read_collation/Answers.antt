@@ -1,10 +1,9 @@
--- The rows and the weighting are those of the table that was read, or a file is rejected.
+-- The rows and the settings are those of the table that was read, or a file is rejected.
 use Rattle.std.specs.Prelude.{⊤, MatchResult}
 use Rattle.std.proofs.Common.{◌≡◌, [], ◌∷◌, subst}
 use Rattle.uca_run_parts.specs.declared.faults.RunFault.TheVariants.{Memory}
 use Rattle.uca_values.specs.Content.{properties_of}
-use Rattle.uca_match.specs.NumberedKeys.{rows_at}
-use Rattle.uca_elements.specs.Collations.{collation_over}
+use Rattle.uca_match.specs.OwnedCollations.{owned_collation}
 use Rattle.uca_key_runs.specs.Keys.{IsCollation}
 use Rattle.uca_run_parts.specs.Files.{table_and_data, table_and_data_roles, table_with}
 use Rattle.uca_run_parts.proofs.FilesLemmas.{ended_by_files, failed_by_no_file, runs_over_all}
@@ -24,7 +23,7 @@ returns-in-Ok-clause-read g c =
     runs_over_all {B = ⊤} table_and_data (c.args.table.now ∷ c.args.properties.now ∷ [])
     (c.read_packed_files.new.table ∷ c.read_packed_files.new.properties ∷ []) (λ content. read ≡ content)
     _ tt made (no_file made refused)
-    (λ content same. subst (λ it. MatchResult made (λ r. IsCollation c.args.weighting (collation_over (rows_at r.rows) r.header (properties_of r.properties)) r.weighting it)
+    (λ content same. subst (λ it. MatchResult made (λ r. IsCollation c.args.weighting c.args.depth (owned_collation r.collation) r.settings it)
     (λ fault. fault ≡ Memory)) same (both_outcomes made _ _ c.collation_of.ensures.made refused))
     c.in-Ok.ensures.read
 

@@ -1,9 +1,9 @@
 -- The whole run, from what its two files mean and what is written of its two texts.
 use Rattle.std.specs.Prelude.{⊤}
 use Rattle.std.proofs.Common.{◌≡◌, [], ◌∷◌, Err, refl, subst, sym}
-use Rattle.uca_values.specs.Content.{properties_of}
 use Rattle.uca_match.specs.NumberedKeys.{rows_at}
-use Rattle.uca_elements.specs.Collations.{collation_of, collation_over}
+use Rattle.uca_match.specs.OwnedCollations.{owned_collation}
+use Rattle.uca_elements.specs.Collations.{collation_of}
 use Rattle.uca_run_parts.specs.declared.faults.RunFault.TheVariants.{Memory}
 use Rattle.uca_run_parts.specs.Files.{table_and_data, table_and_data_roles}
 use Rattle.uca_key_runs.specs.Keys.{IsCollation}
@@ -36,10 +36,10 @@ returns-in-Ok g c =
     let news = c.read_collation.new.table ∷ c.read_collation.new.properties ∷ [] in
     record {
       runs = runs_over_all {B = ⊤} table_and_data olds news
-          (λ content. IsCollation c.args.weighting (collation_over (rows_at read.rows) read.header (properties_of read.properties)) read.weighting content) _ tt c.compare_words-end.result c.compare_words-end.ensures.of_texts
+          (λ content. IsCollation c.args.weighting c.args.depth (owned_collation read.collation) read.settings content) _ tt c.compare_words-end.result c.compare_words-end.ensures.of_texts
           (λ content is. run_compares c.args.weighting c.args.depth c.args.left.now c.args.right.now c.args.out.now c.compare_words-end.new.out content c.compare_words-end.result
           (subst (λ d. WritesComparison d c.args.left.now c.args.right.now c.args.out.now.contents c.compare_words-end.new.out.contents c.compare_words-end.result)
-          (same_keying c.args.weighting c.args.depth (collation_of rows_at c.collator-collator.result) (collation_over (rows_at read.rows) read.header (properties_of read.properties)) read.weighting content c.collator-collator.ensures is)
+          (same_keying c.args.weighting c.args.depth (collation_of rows_at c.collator-collator.result) (owned_collation read.collation) read.settings content c.collator-collator.ensures is)
           c.compare_words-end.ensures.writes))
           c.in-Ok.ensures.read;
       nothing_written = c.compare_words-end.ensures.nothing_written;

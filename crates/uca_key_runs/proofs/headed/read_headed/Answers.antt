@@ -2,13 +2,12 @@
 use Rattle.std.specs.Prelude.{⊤, MatchResult}
 use Rattle.std.proofs.Common.{◌≡◌, [], ◌∷◌, subst}
 use Rattle.uca_values.specs.Content.{properties_of}
-use Rattle.uca_match.specs.NumberedKeys.{rows_at}
+use Rattle.uca_match.specs.OwnedCollations.{owned_collation}
 use Rattle.uca_run_parts.specs.declared.faults.RunFault.TheVariants.{Memory}
 use Rattle.uca_run_parts.specs.Files.{table_and_data_roles}
 use Rattle.uca_run_parts.proofs.FilesLemmas.{ended_by_files, failed_by_no_file, runs_over_all}
 use Rattle.uca_run_parts.proofs.Running.{file_before}
 use Rattle.uca_fingerprint_runs.specs.SummedFiles.{summed_files, summed_with}
-use Rattle.uca_elements.specs.Collations.{collation_over}
 use Rattle.uca_key_runs.proofs.Rows.{before_input, both_outcomes, no_file}
 use Rattle.uca_key_runs.specs.inside.HeadedParts.{IsHeaded}
 use Rattle.uca_key_runs.proofs.headed.read_headed.Goals as goal
@@ -30,7 +29,7 @@ returns-in-Ok-clause-read g c =
     runs_over_all {B = ⊤} summed_files (c.args.table.now ∷ c.args.properties.now ∷ [])
     (c.read_summed_files.new.table ∷ c.read_summed_files.new.properties ∷ []) (λ content. read ≡ content)
     _ tt made (no_file made refused)
-    (λ content same. subst (λ it. MatchResult made (λ m. IsHeaded c.args.asked c.args.depth (collation_over (rows_at m.0.rows) m.0.header (properties_of m.0.properties)) m.0.weighting m.1 it)
+    (λ content same. subst (λ it. MatchResult made (λ m. IsHeaded c.args.asked c.args.depth (owned_collation m.0.collation) m.0.settings m.1 it)
     (λ fault. fault ≡ Memory)) same (both_outcomes made _ _ c.headed_collation.ensures.made refused))
     c.in-Ok.ensures.read
 

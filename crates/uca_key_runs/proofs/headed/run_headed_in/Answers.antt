@@ -1,9 +1,9 @@
 -- The whole run, from what its two files mean and what is printed after them.
 use Rattle.std.specs.Prelude.{⊤}
 use Rattle.std.proofs.Common.{◌≡◌, ◌∙◌, [], ◌∷◌, Err, IfSome, subst, sym}
-use Rattle.uca_values.specs.Content.{properties_of}
 use Rattle.uca_match.specs.NumberedKeys.{rows_at}
-use Rattle.uca_elements.specs.Collations.{Collation, collation_of, collation_over}
+use Rattle.uca_match.specs.OwnedCollations.{owned_collation}
+use Rattle.uca_elements.specs.Collations.{Collation, collation_of}
 use Rattle.uca_order.specs.Lengths.{HasShortRows}
 use Rattle.uca_run_parts.specs.declared.faults.RunFault.TheVariants.{Memory}
 use Rattle.uca_run_parts.specs.Files.{table_and_data_roles, table_with}
@@ -33,19 +33,19 @@ print_headed-end-requires-clause-rows g c = subst (λ (collation : Collation). H
 pub returns-in-Ok : goal.returns-in-Ok
 returns-in-Ok g c =
     let read = c.in-Ok.read in
-    let made = collation_over (rows_at read.rows) read.header (properties_of read.properties) in
+    let made = owned_collation read.collation in
     let input = c.args.input.now in
     let input_new = c.print_headed-end.new.input in
     let out = c.args.out.now in
     let out_new = c.print_headed-end.new.out in
     let end = c.print_headed-end.result in
-    ended_by_lines summed_files table_and_data_roles (λ content. IsHeaded c.args.weighting c.args.depth made read.weighting c.in-Ok.header content)
+    ended_by_lines summed_files table_and_data_roles (λ content. IsHeaded c.args.weighting c.args.depth made read.settings c.in-Ok.header content)
     (RunsHeaded (line_as c.args.form) c.args.weighting c.args.depth input input_new out out_new end)
     (c.args.table.now ∷ c.args.properties.now ∷ []) (c.read_headed.new.table ∷ c.read_headed.new.properties ∷ []) {B = ⊤}
     input input_new out out_new tt end c.print_headed-end.ensures.of_lines
     (λ content is. headed_under (line_as c.args.form) c.args.weighting c.args.depth input input_new out out_new end content c.print_headed-end.ensures.of_lines
     (subst (λ header. IfSome input.remaining (λ bytes. WritesHeaded header content.properties (line_as c.args.form (keying c.args.weighting c.args.depth content.table content.properties)) bytes input_new.remaining out.contents out_new.contents end)) (c.as_bytes-first.ensures.line ∙ is.1)
     (subst (λ (d : Keying). IfSome input.remaining (λ bytes. WritesHeaded c.as_bytes-first.result.now d.collation.properties (line_as c.args.form d) bytes input_new.remaining out.contents out_new.contents end))
-    (same_keying c.args.weighting c.args.depth (collation_of rows_at c.collator-collator.result) made read.weighting (table_with content.table content.properties) c.collator-collator.ensures is.0)
+    (same_keying c.args.weighting c.args.depth (collation_of rows_at c.collator-collator.result) made read.settings (table_with content.table content.properties) c.collator-collator.ensures is.0)
     c.print_headed-end.ensures.writes)))
     c.in-Ok.ensures.read c.in-Ok.ensures.failed c.print_headed-end.ensures.input_failed c.print_headed-end.ensures.out_failed

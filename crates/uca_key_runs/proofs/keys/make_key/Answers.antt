@@ -6,7 +6,7 @@ use Rattle.uca_run_parts.specs.Input.{cause_of}
 use Rattle.uca_key_runs.specs.inside.KeyForms.{shows_points}
 use Rattle.uca_run_parts.specs.Texts.{HasTextCause}
 use Rattle.uca_key_runs.proofs.KeyLines.{line_made}
-use Rattle.uca_key_runs.proofs.Keyings.{same_settings}
+use Rattle.uca_key_runs.proofs.Keyings.{same_parts}
 use Rattle.uca_key_runs.proofs.keys.make_key.Goals as goal
 
 pub returns-in-Ok-take_shown_text-clause-made : goal.returns-in-Ok-take_shown_text-clause-made
@@ -15,7 +15,7 @@ returns-in-Ok-take_shown_text-clause-made g c =
     let line = c.args.lines.now.line in
     let shown = λ (h : shows_points c.args.form c.args.depth ≡ true).
     subst (λ properties. c.take_shown_text.new.text.points ≡ (nfd_text properties (chars line)).points) c.requires.same (c.in-Ok-take_shown_text.ensures.points h) in
-    line_made c.args.form c.args.depth key.depth (collation_by g.L.Lookup.content key) key.weighting c.write_line_key.new.writer.key c.take_shown_text.new.text.points line
+    line_made c.args.form c.args.depth key.settings.depth (collation_by g.L.Lookup.content key) key.settings.weighting c.write_line_key.new.writer.key c.take_shown_text.new.text.points line
     c.in-Ok.ensures.key c.requires.key_depth shown
 
 pub returns-in-Ok-take_shown_text-clause-clean : goal.returns-in-Ok-take_shown_text-clause-clean
@@ -30,7 +30,7 @@ pub returns-in-Ok-take_shown_text-clause-short : goal.returns-in-Ok-take_shown_t
 returns-in-Ok-take_shown_text-clause-short g c = c.in-Ok.ensures.short c.requires.short_rows
 
 pub returns-in-Ok-take_shown_text-clause-kept : goal.returns-in-Ok-take_shown_text-clause-kept
-returns-in-Ok-take_shown_text-clause-kept g c = same_settings c.in-Ok.ensures.collation c.in-Ok.ensures.weighting c.in-Ok.ensures.depth
+returns-in-Ok-take_shown_text-clause-kept g c = same_parts c.in-Ok.ensures.collation c.in-Ok.ensures.settings
 
 pub returns-in-Err-clause-kept : goal.returns-in-Err-clause-kept
-returns-in-Err-clause-kept g c = same_settings c.in-Err.ensures.collation c.in-Err.ensures.weighting c.in-Err.ensures.depth
+returns-in-Err-clause-kept g c = same_parts c.in-Err.ensures.collation c.in-Err.ensures.settings

@@ -1,5 +1,6 @@
 -- What went out, from what was written.
-use Rattle.std.proofs.Common.{◌≡◌, ◌||◌, [], refl, ap, subst, sym, ◌∙◌}
+use Rattle.std.proofs.Common.{◌≡◌, ◌||◌, [], ap, subst, sym, ◌∙◌}
+use Rattle.uca_weights.specs.declared.Settings.{Settings}
 use Rattle.uca_elements.specs.Collations.{Collation}
 use Rattle.uca_values.specs.Content.{properties_of}
 use Rattle.uca_order.specs.Keyings.{keying_of}
@@ -8,12 +9,12 @@ use Rattle.uca_order.specs.Lengths.{HasShortRows}
 use Rattle.uca_key_runs.specs.inside.KeyForms.{line_as}
 use Rattle.uca_run_parts.specs.EachLineSoFar.{WritesRest}
 use Rattle.uca_run_parts.proofs.Finishing.{started, of_lines}
-use Rattle.uca_key_runs.proofs.Keyings.{same_settings}
+use Rattle.uca_key_runs.proofs.Keyings.{same_parts}
 use Rattle.uca_key_runs.proofs.keys.print_lines.Goals as goal
 
 pub print_rest-end-requires-clause-makes : goal.print_rest-end-requires-clause-makes
 print_rest-end-requires-clause-makes g c = record {
-  key_depth = c.new-2.ensures.depth ∙ c.depth_of.ensures;
+  key_depth = ap (λ (s : Settings). s.depth) c.new-2.ensures.settings ∙ c.depth_of.ensures;
   same = ap (λ (collation : Collation). collation.properties) (sym c.new-2.ensures.collation);
   short_rows = subst (λ (collation : Collation). HasShortRows collation.rows) (sym c.new-2.ensures.collation) c.requires;
 }
@@ -22,12 +23,13 @@ pub returns-clause-writes : goal.returns-clause-writes
 returns-clause-writes g c =
     let properties = properties_of c.args.collator.now.data.now in
     let form = c.args.form in
-    let settings = keying_at g.L.Lookup.content c.new-2.result c.args.depth in
-    let asked = keying_of g.L.Lookup.content c.args.collator.now c.args.weighting c.args.depth in
-    let same : settings ≡ asked = same_settings {depth = c.args.depth} c.new-2.ensures.collation c.new-2.ensures.weighting refl in
+    let keying = keying_at g.L.Lookup.content c.new-2.result c.args.settings.depth in
+    let asked = keying_of g.L.Lookup.content c.args.collator.now c.args.settings in
+    let same : keying ≡ asked =
+    same_parts c.new-2.ensures.collation (ap (λ (s : Settings). record { weighting = s.weighting; depth = c.args.settings.depth }) c.new-2.ensures.settings) in
     let input = c.args.input.now in
     let out = c.args.out.now in
-    let begin = started properties (line_as form settings) c.new.result input c.new-4.result out (c.new.ensures.read properties input) c.new-4.ensures.held c.new-4.ensures.written in
+    let begin = started properties (line_as form keying) c.new.result input c.new-4.result out (c.new.ensures.read properties input) c.new-4.ensures.held c.new-4.ensures.written in
     let rest = subst (λ s. WritesRest properties (line_as form s) input.remaining out.contents c.print_rest-end.new.input c.print_rest-end.new.self.output c.print_rest-end.new.out c.print_rest-end.result)
     same (c.print_rest-end.ensures.prints input.remaining out.contents [] begin) in
     c.end_output-end.ensures.writes properties (line_as form asked) input.remaining out.contents c.print_rest-end.new.input rest
@@ -35,7 +37,7 @@ returns-clause-writes g c =
 pub returns-clause-of_lines : goal.returns-clause-of_lines
 returns-clause-of_lines g c =
     let properties = properties_of c.args.collator.now.data.now in
-    let bytes_of = line_as c.args.form (keying_at g.L.Lookup.content c.new-2.result c.args.depth) in
+    let bytes_of = line_as c.args.form (keying_at g.L.Lookup.content c.new-2.result c.args.settings.depth) in
     let input = c.args.input.now in
     let out = c.args.out.now in
     let begin = started properties bytes_of c.new.result input c.new-4.result out (c.new.ensures.read properties input) c.new-4.ensures.held c.new-4.ensures.written in

@@ -1,9 +1,9 @@
 -- The whole run, from what its two files mean and what is printed of its lines.
 use Rattle.std.specs.Prelude.{⊤}
 use Rattle.std.proofs.Common.{◌≡◌, [], ◌∷◌, Err, subst, sym}
-use Rattle.uca_values.specs.Content.{properties_of}
 use Rattle.uca_match.specs.NumberedKeys.{rows_at}
-use Rattle.uca_elements.specs.Collations.{Collation, collation_of, collation_over}
+use Rattle.uca_match.specs.OwnedCollations.{owned_collation}
+use Rattle.uca_elements.specs.Collations.{Collation, collation_of}
 use Rattle.uca_order.specs.Lengths.{HasShortRows}
 use Rattle.uca_run_parts.specs.declared.faults.RunFault.TheVariants.{Memory}
 use Rattle.uca_run_parts.specs.EachLine.{RunsEach}
@@ -33,13 +33,13 @@ print_lines-end-requires g c = subst (λ (collation : Collation). HasShortRows c
 pub returns-in-Ok : goal.returns-in-Ok
 returns-in-Ok g c =
     let read = c.in-Ok.read in
-    let made = collation_over (rows_at read.rows) read.header (properties_of read.properties) in
-    ended_by_lines table_and_data table_and_data_roles (λ content. IsCollation c.args.weighting made read.weighting content)
+    let made = owned_collation read.collation in
+    ended_by_lines table_and_data table_and_data_roles (λ content. IsCollation c.args.weighting c.args.depth made read.settings content)
     (RunsUnder (line_as c.args.form) c.args.weighting c.args.depth c.args.input.now c.print_lines-end.new.input c.args.out.now c.print_lines-end.new.out c.print_lines-end.result)
     (c.args.table.now ∷ c.args.properties.now ∷ []) (c.read_collation.new.table ∷ c.read_collation.new.properties ∷ []) {B = ⊤}
     c.args.input.now c.print_lines-end.new.input c.args.out.now c.print_lines-end.new.out tt c.print_lines-end.result c.print_lines-end.ensures.of_lines
     (λ content is. runs_under (line_as c.args.form) c.args.weighting c.args.depth c.args.input.now c.print_lines-end.new.input c.args.out.now c.print_lines-end.new.out c.print_lines-end.result content c.print_lines-end.ensures.of_lines
     (subst (λ (d : Keying). RunsEach d.collation.properties (line_as c.args.form d) c.args.input.now c.print_lines-end.new.input c.args.out.now c.print_lines-end.new.out c.print_lines-end.result)
-    (same_keying c.args.weighting c.args.depth (collation_of rows_at c.collator-collator.result) made read.weighting content c.collator-collator.ensures is)
+    (same_keying c.args.weighting c.args.depth (collation_of rows_at c.collator-collator.result) made read.settings content c.collator-collator.ensures is)
     c.print_lines-end.ensures.writes))
     c.in-Ok.ensures.read c.in-Ok.ensures.failed c.print_lines-end.ensures.input_failed c.print_lines-end.ensures.out_failed

@@ -12,7 +12,7 @@ pub returns-in-Ok-write_beginning-clause-beginning : goal.returns-in-Ok-write_be
 returns-in-Ok-write_beginning-clause-beginning g c =
     let key = c.args.writer.now in
     let collation = collation_by g.L.Lookup.content key in
-    subst (λ l. take 16 c.write_beginning.new.self.key ≡ take 16 (key_at key.depth key.weighting (read_text collation (nfd_text collation.properties (chars l)))))
+    subst (λ l. take 16 c.write_beginning.new.self.key ≡ take 16 (key_at key.settings.depth key.settings.weighting (read_text collation (nfd_text collation.properties (chars l)))))
     c.in-Ok.ensures.text.0 c.in-Ok-write_beginning.ensures.beginning
 
 pub returns-in-Ok-write_beginning-clause-clean : goal.returns-in-Ok-write_beginning-clause-clean

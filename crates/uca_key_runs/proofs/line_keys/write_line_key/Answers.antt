@@ -12,7 +12,7 @@ pub returns-in-Ok-write-clause-key : goal.returns-in-Ok-write-clause-key
 returns-in-Ok-write-clause-key g c =
     let key = c.args.writer.now in
     let collation = collation_by g.L.Lookup.content key in
-    subst (λ l. c.write.new.self.key ≡ key_at key.depth key.weighting (read_text collation (nfd_text collation.properties (chars l)))) c.in-Ok.ensures.text.0
+    subst (λ l. c.write.new.self.key ≡ key_at key.settings.depth key.settings.weighting (read_text collation (nfd_text collation.properties (chars l)))) c.in-Ok.ensures.text.0
     c.in-Ok-write.ensures.key
 
 pub returns-in-Ok-write-clause-clean : goal.returns-in-Ok-write-clause-clean

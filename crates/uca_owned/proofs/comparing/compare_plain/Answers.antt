@@ -11,8 +11,8 @@ pub returns-in-Some-clause-compared : goal.returns-in-Some-clause-compared
 returns-in-Some-clause-compared c =
     let by = collation_of rows_at c.collator-collator.result in
     let P : Collation → List ℕ → List ℕ → Compared → Type 0 = λ k left right compared.
-    (compared.order ≡ (texts_compared k c.args.depth c.args.weighting (chars left) (chars right)).order)
-    × (compared.level ≡ (texts_compared k c.args.depth c.args.weighting (chars left) (chars right)).level) in
+    (compared.order ≡ (texts_compared k c.args.settings (chars left) (chars right)).order)
+    × (compared.level ≡ (texts_compared k c.args.settings (chars left) (chars right)).level) in
     let compared = c.in-Some.compared in
     let found = subst (λ o. IfSome o (P by c.in-Ok.left.now c.in-Ok-from_utf8.right.now)) c.in-Some.is c.in_ok-found.ensures.compared in
     subst (λ (k : Collation). P k c.args.left.now c.args.right.now compared) c.collator-collator.ensures

@@ -9,6 +9,6 @@ returns c =
     let left = c.args.left.now in
     let right = c.args.right.now in
     let compared = c.compare-compared.result in
-    subst (λ (k : Collation). (compared.order ≡ (compared_at c.args.depth c.args.weighting (read_text k left) (read_text k right)).order)
-    × (compared.level ≡ (compared_at c.args.depth c.args.weighting (read_text k left) (read_text k right)).level))
+    subst (λ (k : Collation). (compared.order ≡ (compared_at c.args.settings.depth c.args.settings.weighting (read_text k left) (read_text k right)).order)
+    × (compared.level ≡ (compared_at c.args.settings.depth c.args.settings.weighting (read_text k left) (read_text k right)).level))
     c.collator-collator.ensures c.compare-compared.ensures.compared

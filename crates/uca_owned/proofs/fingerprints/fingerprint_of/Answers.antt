@@ -1,4 +1,4 @@
--- The files are those that `open` reads, and the weighting is that of the table which they mean.
+-- The files are those that `open` reads, and the settings are those of the table which they mean.
 use Rattle.std.proofs.Common.{◌≡◌, ◌∙◌, ap, subst, refl}
 use Rattle.std.specs.Prelude.{IfSome}
 use Rattle.uca_values.specs.Content.{TableContent, Properties, properties_of}
@@ -6,7 +6,7 @@ use Rattle.uca_lines.specs.FileStops.{IsStop}
 use Rattle.uca_table.specs.TableLines as tables
 use Rattle.uca_table.specs.DataSoFar as data_files
 use Rattle.uca_fingerprint.specs.Fingerprints.{fingerprint}
-use Rattle.uca_order.specs.Keyings.{keying, weighting_by}
+use Rattle.uca_order.specs.Keyings.{keying, settings_by}
 use Rattle.uca_owned.proofs.fingerprints.fingerprint_of.Goals as goal
 
 pub returns-in-Err-clause-only : goal.returns-in-Err-clause-only
@@ -19,11 +19,11 @@ returns-in-Err-read_data-clause-only c meant properties mean =
     subst (λ left. IfSome left (λ bytes. (ps : Properties) → data_files.Means bytes ps → IsStop c.in-Err-read_data.fault.kind)) c.new-2.ensures.bytes c.in-Err-read_data.ensures.only
     properties mean.data_file
 
--- the fingerprint is by the weighting of the table that was read
-by_table : (c : goal.After-fingerprint) → c.fingerprint.result ≡ fingerprint (weighting_by c.args.asked c.in-Ok.read.header.setting) c.args.depth c.args.table.now c.args.data_file.now
+-- the fingerprint is by the settings under the table that was read
+by_table : (c : goal.After-fingerprint) → c.fingerprint.result ≡ fingerprint (settings_by c.args.asked c.in-Ok.read.header.setting c.args.depth) c.args.table.now c.args.data_file.now
 by_table c =
-    let weighting = c.chosen_weighting-weighting.ensures ∙ ap (λ (t : TableContent). weighting_by c.args.asked t.header.setting) c.read.view_is in
-    c.fingerprint.ensures ∙ (λ i. fingerprint (weighting i) c.args.depth c.args.table.now c.args.data_file.now)
+    let settings = c.chosen_settings-settings.ensures ∙ ap (λ (t : TableContent). settings_by c.args.asked t.header.setting c.args.depth) c.read.view_is in
+    c.fingerprint.ensures ∙ (λ i. fingerprint (settings i) c.args.table.now c.args.data_file.now)
 
 pub returns-clause-found : goal.returns-clause-found
 returns-clause-found c = record {
@@ -44,4 +44,4 @@ pub returns-clause-only : goal.returns-clause-only
 returns-clause-only c meant properties mean =
     let table_same = subst (λ left. IfSome left (λ bytes. (table : TableContent) → tables.Means bytes table → c.in-Ok.read ≡ table)) c.new.ensures.bytes c.in-Ok.ensures.only
     meant mean.table_file in
-    by_table c ∙ (λ i. fingerprint (weighting_by c.args.asked (table_same i).header.setting) c.args.depth c.args.table.now c.args.data_file.now)
+    by_table c ∙ (λ i. fingerprint (settings_by c.args.asked (table_same i).header.setting c.args.depth) c.args.table.now c.args.data_file.now)

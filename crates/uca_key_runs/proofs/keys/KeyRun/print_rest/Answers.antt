@@ -35,7 +35,7 @@ loop-self-preserved g c =
     let next = rw c.if-branch.true at c.in_ok-next.ensures in
     let now = c.in_ok-print_line.ensures in
     let kept = ap (keying_of_writer content) now.key ∙ next.kept in
-    let same = next.made ∙ ap (λ (s : Keying). line_as form (keying_by s.collation s.weighting c.args.depth) lines.line) inv.kept in
+    let same = next.made ∙ ap (λ (s : Keying). line_as form (keying_by s.collation (record { weighting = s.settings.weighting; depth = c.args.depth })) lines.line) inv.kept in
     record {
       kept = kept ∙ inv.kept;
       makes = subst (MakesKeys form c.args.depth properties) (sym kept) inv.makes;
@@ -68,7 +68,7 @@ returns-in_err-print_line-clause-prints g c = λ start begun before p.
     let i = inv.written start begun before p in
     let next = rw c.if-branch.true at c.in_ok-next.ensures in
     let t = next.reads start i.0 i.1.read in
-    let same = next.made ∙ ap (λ (s : Keying). line_as form (keying_by s.collation s.weighting c.args.depth) lines.line) inv.kept in
+    let same = next.made ∙ ap (λ (s : Keying). line_as form (keying_by s.collation (record { weighting = s.settings.weighting; depth = c.args.depth })) lines.line) inv.kept in
     let held = subst (λ b. IsBuffered begun c.loop-self.out.contents (flat_map bytes_of i.0) b) (sym next.output) i.1.written in
     rw (q.1, q.2) (
       i.0,

@@ -12,7 +12,7 @@ returns-in-Some-clause-compared c =
     let right = c.args.right.now in
     let pair = c.in-Some.pair in
     let inside = c.self.inside in
-    let k = keying_by (owned_collation inside.collation) inside.weighting inside.depth in
+    let k = keying_by (owned_collation inside.collation) inside.settings in
     subst (λ (s : OwnedState). (pair.0 ≡ (bytes_compared (keying_in s) left right).order) × (pair.1 ≡ (bytes_compared (keying_in s) left right).level))
     c.self.view_is
     (subst (λ o. IfSome o (λ it. (it.0 ≡ (bytes_compared k left right).order) × (it.1 ≡ (bytes_compared k left right).level)))

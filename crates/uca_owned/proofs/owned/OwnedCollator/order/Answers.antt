@@ -15,7 +15,7 @@ returns-in-Some-clause-order c =
     let right = c.args.right.now in
     let pair = c.in-Some.pair in
     let inside = c.self.inside in
-    let k = keying_by (owned_collation inside.collation) inside.weighting inside.depth in
+    let k = keying_by (owned_collation inside.collation) inside.settings in
     let accepted = subst (λ o. IfSome o (λ _. IsAcceptedText k.collation.properties left × IsAcceptedText k.collation.properties right))
     c.in-Some.is c.in_ok-found.ensures.accepted in
     let compared = subst (λ o. IfSome o (λ it. (it.0 ≡ (bytes_compared k left right).order) × (it.1 ≡ (bytes_compared k left right).level)))
