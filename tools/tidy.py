@@ -4,6 +4,7 @@
     tools/tidy.py [CHECK ..]        all checks, unless some are named
 
 - layout: `rattle fmt --check` over all files of all crates;
+- columns: no line of a page has more than 120 columns, but for tables and blocks of code;
 - edits: each `old:` text of an edit is in its file exactly once, in crates/*/must-fail and in edits/;
 - english: tools/plain_english.py;
 - definitions: tools/definitions.py;
@@ -22,6 +23,9 @@ from concurrent.futures import ThreadPoolExecutor
 
 import kit
 
+# The most columns of a line of a page.
+COLUMNS = 120
+
 
 def layout():
     """How many files there are, and what is not in the layout of `rattle fmt`."""
@@ -30,6 +34,20 @@ def layout():
     # what it prints to standard output are the changes, line by line
     ran = subprocess.run(["rattle", "fmt", "--check", *files], cwd=kit.TOP, stdout=subprocess.DEVNULL, stderr=subprocess.PIPE, encoding="utf-8")
     return f"{len(files)} files", ran.stderr.splitlines() or ([f"status {ran.returncode}"] if ran.returncode else [])
+
+
+def columns():
+    """How many pages there are, and their long lines."""
+    pages = subprocess.run(["git", "ls-files", "*.md"], cwd=kit.TOP, check=True, stdout=subprocess.PIPE, encoding="utf-8").stdout.split()
+    found = []
+    for page in pages:
+        in_code = False
+        with open(f"{kit.TOP}/{page}", encoding="utf-8") as file:
+            for number, line in enumerate(file, 1):
+                in_code ^= line.lstrip().startswith("```")
+                if len(line.rstrip("\n")) > COLUMNS and not in_code and not line.startswith("|"):
+                    found.append(f"{page}:{number}: {len(line) - 1} columns")
+    return f"{len(pages)} pages", found
 
 
 def edits():
@@ -56,6 +74,7 @@ def by_script(path, *words):
 
 CHECKS = {
     "layout": layout,
+    "columns": columns,
     "edits": edits,
     "english": by_script("tools/plain_english.py"),
     "library": by_script("tools/library_page.py"),
