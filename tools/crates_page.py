@@ -24,8 +24,8 @@ The lowest come first. A crate may use those that its line of `crates.txt` names
 alone. [docs/ARCHITECTURE.md](../docs/ARCHITECTURE.md) has the picture. The head of a crate says more: it is the first
 comment of `src/lib.rt` or `src/main.rt`.
 
-**Used by** counts the crates that use a crate, directly or by others. **In `uca`** counts only the
-crates of the program: `tools/build.py` proves these.
+**Used by** counts the crates that use a crate, directly or by others. **In `uca`** counts those of them
+that belong to the program: `tools/build.py` proves these.
 """
 
 

@@ -1,10 +1,11 @@
 #!/usr/bin/env python3
-"""The gate: `rt ci` by `tools/gate_times.py`, and then the tests of the program that it built (`tests/run.py`).
+"""The gate: `rt ci`, and then the tests of the program that it built (`tests/run.py`).
 
-    tools/gate.py [--anew | crates, as `rt ci` takes them]
+    tools/gate.py [flags and crates of `rt ci`, such as --anew]
 
-`--anew` takes nothing of what was proved on this machine before. What both print is printed as it comes, and after each the processor time that it took.
-The last line sums their counts: `N passed, M failed`. The status is 0 where nothing failed. With crates it is `rt ci` of these.
+`--anew` takes nothing of what was proved on this machine before. A kit whose `rt ci` keeps nothing proves all from nothing without it, and knows no
+flags. What both print is printed as it comes, and after each the processor time that it took. The last line sums their counts: `N passed, M failed`.
+The status is 0 where nothing failed.
 """
 import os
 import re
@@ -40,8 +41,11 @@ def counted(words):
 
 
 def main(words):
-    names = [it for it in words if it != kit.ANEW]
-    parts = [counted(["rt", "ci", *words] if names else [f"{kit.TOP}/tools/gate_times.py", *words])]
+    rt = kit.opened("machine", instead="`rt ci` gets the flags as they are, and chooses by itself how many checks run at once")
+    if rt:
+        rt.check_by_one_process()
+        words = words if rt.keeps_proofs() else [it for it in words if it != kit.ANEW]
+    parts = [counted(["rt", "ci", *words])]
     if not os.access(PROGRAM, os.X_OK):
         counted([f"{kit.TOP}/tools/build.py"])
     parts.append(counted([f"{kit.TOP}/tests/run.py"]))

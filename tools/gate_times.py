@@ -4,9 +4,7 @@
     tools/gate_times.py [--anew]          at the top of the repository, instead of `rt ci`
 
 It loads the command `rt` of the kit, and each task of `rt` then counts the user and system time of the processes that it
-starts. With --anew nothing is taken of what was proved on this machine before. A must-fail edit is tried by a check of the
-function alone that it changes. If that is proved, the whole crate is checked. `rt ci` itself checks each crate once more for
-its edits. What `rt ci` prints comes first, and the status is that of `rt ci`. docs/GATE.md has the table that this
+starts. With --anew nothing is taken of what was proved on this machine before. What `rt ci` prints comes first, and the status is that of `rt ci`. docs/GATE.md has the table that this
 prints last, and says what a yardstick is.
 """
 import collections
@@ -46,11 +44,10 @@ def table():
 
 
 def main(flags):
-    rt = kit.opened("machine", "lanes", "tries", instead="`rt ci` runs alone, and no times are taken")
+    rt = kit.opened("machine", "lanes", instead="`rt ci` runs alone, and no times are taken")
     if not rt:
         return kit.plain("ci", *flags)
     rt.check_by_one_process()
-    rt.try_edits_by_function()
     TIMES.count(rt, IDLE)
     rt.count_tasks(TIMES, IDLE)
     begun = time.time()

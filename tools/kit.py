@@ -38,7 +38,7 @@ USED = {
     },
     "lanes": {"in_lanes": (1,), "rtlib.ThreadPoolExecutor": (0,)},
     "edits": {"read_edit": (2,)},
-    "tries": {"must_fail": (3,), "checked": (4,), "seeded": (3,)},
+    "tries": {"must_fail": (3,), "checked": (4,), "REFUSED": None, "AT_LIMIT": None},
 }
 
 # The lanes of `rt` count a task with this word as one processor. A task with another one counts as its share of those that are idle.
@@ -47,6 +47,9 @@ AS_ONE_PROCESSOR = "edits"
 # The line at which a function begins, and that at which a block of functions of a type does: with the trait, if it is one's, and the type.
 FUNCTION = re.compile(r"( *)(?:pub(?:\([a-z]+\))? )?(?:const |unsafe )*fn (\w+)")
 IMPL = re.compile(r"impl(?:<.*?>)? (?:(?:\w+::)*(\w+)(?:<[^{]*?>)? for )?&?(?:\w+::)*(\w+)")
+
+# The last line of a check of some functions: how many, and how many of them are proved.
+ONLY = re.compile(r"only=(\d+) proved=(\d+)")
 
 # What each crate that `rt` has read must have.
 OF_CRATES = ("name", "folder", "said", "rlib", "is_static", "is_program")
@@ -247,7 +250,8 @@ class Kit:
 
     def try_edits_by_function(self):
         """Has an edit tried by a check of the function alone that it changes. What is rejected there is rejected in a check of the whole crate, which takes
-        ten times as long. An edit that is still proved so, or that changes no function, is tried by a check of the whole crate, as `rt` does."""
+        ten times as long. An edit that is still proved so, or that changes no function, is tried by a check of the whole crate, as `rt` does. The crate has to
+        be proved as it stands: `rt ci`, which is the gate, does not try edits so."""
         checked = self.rt.checked
 
         def by_function(crate, texts, flags, kept):
@@ -255,22 +259,19 @@ class Kit:
             if path:
                 ran = checked(crate, texts, [*flags, "--only", path], None)
                 said, _, last = ran.stdout.rstrip("\n").rpartition("\n")
-                if ran.returncode == 1 and last.startswith("only="):
+                counts = ONLY.fullmatch(last)
+                if ran.returncode == 1 and counts and int(counts[2]) < int(counts[1]):
                     # `rt` reads the last line of a whole check
                     ran.stdout = f"{said}\nlogic=not-proved\n"
                     return ran
             return checked(crate, texts, flags, kept)
 
         self.rt.checked = by_function
-        # no crate is proved once more for its edits
-        self.rt.seeded = lambda crate, flags, start=None: ""
 
     def try_edit(self, crate, edit):
         """Tries an edit over the libraries below the crate. Returns whether the prover rejects it, as it must, and what is to say."""
         result, said = self.rt.must_fail(crate.made, edit, ["--jobs", "1"])
-        # kits say so by True, or by names of their own
-        is_rejected = result is True or any(result == getattr(self.rt, name, None) for name in ("REFUSED", "AT_LIMIT"))
-        return is_rejected, said.replace("NOT REFUSED", "NOT REJECTED")
+        return result in (self.rt.REFUSED, self.rt.AT_LIMIT), said.replace("NOT REFUSED", "NOT REJECTED")
 
     def files_of(self, folder):
         """The files of a crate that the prover reads."""
@@ -290,10 +291,6 @@ class Crate:
     def memory(self):
         """The most memory that a check is likely to take, in bytes."""
         return self.kit.rt.need(self.made)
-
-    def kept(self):
-        """The folder of what checks of it keep."""
-        return f"{self.folder}/{self.kit.rtlib.KEPT[1]}"
 
     def inputs(self):
         """The files that it is proved from, but for the libraries below it: its own, and the one that says which kit this is."""

@@ -9,8 +9,8 @@ that the prover rejects it, as it must, that it no longer applies, or NOT REJECT
 The folders edits/CRATE/by_tests have bugs that a test rejects, and maybe no contract: out of memory where memory is there. The first line of each
 names the test that rejects it. This script tries those only if they are named, and the prover may accept them.
 
-The libraries below a crate are proved first, if they have changed. Then each edit is tried by a check of the function alone that it changes, as many at once
-as there are processors and memory for. An edit that changes no function, or is proved so, is tried by a check of the whole crate.
+The crates and the libraries below them are proved first, if they have changed. Then each edit is tried by a check of the function alone that it changes, as
+many at once as there are processors and memory for. An edit that changes no function, or is proved so, is tried by a check of the whole crate.
 """
 import os
 import sys
@@ -48,8 +48,8 @@ def main(names):
     rt = check.opened("edits", "tries", instead="no edit can be tried; `rt must-fail` tries those of the gate")
     if not rt:
         return 1
-    below = {it.name: it for name in edits for it in rt.crates[name].below()}
-    if not build.build(rt, [rt.crates[it] for it in rt.crates if it in below]):
+    names = {*edits, *(it.name for name in edits for it in rt.crates[name].below())}
+    if not build.build(rt, [it for it in rt.crates.values() if it.name in names]):
         return 1
     rt.try_edits_by_function()
     with ThreadPoolExecutor(rt.checks_at_once()) as pool:
