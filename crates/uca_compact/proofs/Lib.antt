@@ -1,0 +1,6 @@
+pub mod Below
+pub mod CellOrder
+pub mod RunOrder
+pub mod LevelsOrder
+pub mod ReadBack
+pub mod LevelsBack

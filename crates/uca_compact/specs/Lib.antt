@@ -1,0 +1,6 @@
+pub mod Forms
+pub mod PlainLevels
+pub mod CompactKeys
+pub mod Reading
+pub mod WorkedKeys
+pub mod Laws

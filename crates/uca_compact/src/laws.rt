@@ -1,0 +1,19 @@
+//! What is true of the compact keys of all texts. The functions do nothing: their contracts are the laws.
+
+ghost use Rattle.uca_compact.specs.Laws.{CompactLevelsKeepOrder, CompactLevelsAreReadBack};
+ghost use Rattle.uca_compact.specs.WorkedKeys.{WorkedKeys};
+
+/// Byte order of compact keys is the order of the levels, whatever the plain levels are and whatever follows a key.
+pub fn compact_levels_keep_order()
+    ensures { CompactLevelsKeepOrder }
+{}
+
+/// Levels are read back from a compact key, whatever follows it. So no compact key begins another.
+pub fn compact_levels_are_read_back()
+    ensures { CompactLevelsAreReadBack }
+{}
+
+/// The definitions give some compact keys that were worked out by hand.
+pub fn worked_keys()
+    ensures { WorkedKeys }
+{}
