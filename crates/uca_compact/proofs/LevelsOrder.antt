@@ -1,5 +1,6 @@
 -- Compact keys keep the order of levels.
 use Rattle.std.proofs.Common.{◌≡◌, ◌⊎◌, inl, inr, ℕ, suc, ◌+◌, ◌<◌, ◌≤◌, List, [], ◌∷◌, ◌++◌, cond, length, refl, ap, sym, subst, ◌∙◌, arith}
+use Rattle.std.specs.Prelude.{⊤}
 use Rattle.std.specs.Ordering.{nat_cmp, ordering_then, ordering_reverse, is_eq}
 use Rattle.std.specs.Cmp.{then_flip}
 use Rattle.std.specs.declared.cmp.Ordering.{Ordering}
@@ -65,8 +66,22 @@ end_fits plain f forms earlier levels ends same =
     let bounds = end_bounds plain (length levels) earlier levels (omega arith) in
     omega (arith, bounds.1, same, ends)
 
--- there are as many levels as forms
-pub levels_length : (forms : List Form) (levels : List (List ℕ)) → AreLevels forms levels → length levels ≡ length forms
+-- a level of weights for each form
+abbrev pub AreFor : List Form → List (List ℕ) → Type 0
+AreFor [] [] = ⊤
+AreFor [] (a ∷ levels) = ⊥
+AreFor (f ∷ forms) [] = ⊥
+AreFor (f ∷ forms) (a ∷ levels) = AreWeights a × AreFor forms levels
+
+-- as many levels as forms
+pub each_level : (forms : List Form) (levels : List (List ℕ)) → AreLevels (length forms) levels → AreFor forms levels
+each_level [] [] h = tt
+each_level [] (a ∷ levels) h = absurd (omega (arith, h.0))
+each_level (f ∷ forms) [] h = absurd (omega (arith, h.0))
+each_level (f ∷ forms) (a ∷ levels) h = (h.1.0, each_level forms levels (omega (arith, h.0), h.1.1))
+
+-- there are as many
+pub levels_length : (forms : List Form) (levels : List (List ℕ)) → AreFor forms levels → length levels ≡ length forms
 levels_length [] [] h = refl
 levels_length [] (a ∷ levels) h = absurd h
 levels_length (f ∷ forms) [] h = absurd h
@@ -169,7 +184,7 @@ later_step all plain f forms earlier left right a b room form ends aw bw nl nr m
 later_step all plain f forms earlier left right a b room form ends aw bw nl nr more h Greater Greater oa ob =
     inr (omega (arith, nl, nr), both_written plain f forms earlier left right a b form ends aw bw nl nr more (lexicographic a b) refl h)
 
-pub later_order : (plain : Plain) (forms : List Form) (earlier left right : List (List ℕ)) → AreForms forms → AreLevels forms left → AreLevels forms right
+pub later_order : (plain : Plain) (forms : List Form) (earlier left right : List (List ℕ)) → AreForms forms → AreFor forms left → AreFor forms right
     → KeepOrder plain forms earlier left right
 later_order plain [] earlier [] right fs ls rs all room h = absurd (cc)
 later_order plain [] earlier (a ∷ left) right fs ls rs all room h = absurd ls
@@ -184,7 +199,7 @@ later_order plain (f ∷ forms) earlier (a ∷ left) (b ∷ right) fs ls rs all 
 -- ---- All levels
 
 -- lesser levels are written below
-pub compact_below : (plain : Plain) (forms : List Form) (left right : List (List ℕ)) → AreForms forms → AreLevels forms left → AreLevels forms right
+pub compact_below : (plain : Plain) (forms : List Form) (left right : List (List ℕ)) → AreForms forms → AreFor forms left → AreFor forms right
     → levels_order left right ≡ Less → IsBelow (compact plain forms left) (compact plain forms right)
 compact_below plain [] [] right fs ls rs h = absurd (cc)
 compact_below plain [] (a ∷ left) right fs ls rs h = absurd ls
@@ -215,7 +230,7 @@ same_by a b left right Equal is h more =
 same_by a b left right Greater is h more = absurd (cc)
 
 -- levels that compare as equal are equal
-pub same_levels : (forms : List Form) (left right : List (List ℕ)) → AreLevels forms left → AreLevels forms right → levels_order left right ≡ Equal → left ≡ right
+pub same_levels : (forms : List Form) (left right : List (List ℕ)) → AreFor forms left → AreFor forms right → levels_order left right ≡ Equal → left ≡ right
 same_levels [] [] [] ls rs h = refl
 same_levels [] [] (b ∷ right) ls rs h = absurd rs
 same_levels [] (a ∷ left) right ls rs h = absurd ls
@@ -224,7 +239,7 @@ same_levels (f ∷ forms) (a ∷ left) [] ls rs h = absurd rs
 same_levels (f ∷ forms) (a ∷ left) (b ∷ right) ls rs h =
     same_by a b left right (lexicographic a b) refl h (same_levels forms left right ls.1 rs.1)
 
-compare_by : (plain : Plain) (forms : List Form) (left right : List (List ℕ)) → AreForms forms → AreLevels forms left → AreLevels forms right → (xs ys : List ℕ) (o : Ordering)
+pub compare_by : (plain : Plain) (forms : List Form) (left right : List (List ℕ)) → AreForms forms → AreFor forms left → AreFor forms right → (xs ys : List ℕ) (o : Ordering)
     → levels_order left right ≡ o
     → lexicographic (compact plain forms left ++ xs) (compact plain forms right ++ ys) ≡ ordering_then o (lexicographic xs ys)
 compare_by plain forms left right fs ls rs xs ys Less is =
@@ -250,5 +265,5 @@ levels_order_is n (a ∷ left) (b ∷ right) =
 -- the law
 pub compact_order : CompactLevelsKeepOrder
 compact_order plain forms left right fs ls rs xs ys =
-    compare_by plain forms left right fs ls rs xs ys (levels_order left right) refl
+    compare_by plain forms left right fs (each_level forms left ls) (each_level forms right rs) xs ys (levels_order left right) refl
     ∙ ap (λ o. ordering_then o (lexicographic xs ys)) (levels_order_is 1 left right)

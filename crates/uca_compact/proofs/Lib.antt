@@ -4,3 +4,5 @@ pub mod RunOrder
 pub mod LevelsOrder
 pub mod ReadBack
 pub mod LevelsBack
+pub mod PointOrder
+pub mod TextOrder

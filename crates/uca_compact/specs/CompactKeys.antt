@@ -1,15 +1,15 @@
 -- Compact keys: a shorter form of keys. Byte order of compact keys is that of the keys, and no compact key begins another.
-use Rattle.std.specs.Prelude.{ℕ, zero, suc, ◌+◌, ◌*◌, ◌-◌, ◌/◌, ◌%◌, List, [], ◌∷◌, ◌++◌, length, nat_lt, nat_eq, if◌then◌else◌}
-use Rattle.std.specs.Str.{bytes_eq, encode_utf8_all}
+use Rattle.std.specs.Prelude.{◌≡◌, ℕ, zero, suc, ◌+◌, ◌*◌, ◌-◌, ◌/◌, ◌%◌, List, [], ◌∷◌, ◌++◌, true, length, nat_lt, nat_eq, if◌then◌else◌}
+use Rattle.std.specs.Str.{bytes_eq, encode_utf8_all, all_scalars}
 use Rattle.std.specs.Ordering.{nat_cmp}
 use Rattle.std.specs.declared.cmp.Ordering.{Ordering}
 use Rattle.std.specs.declared.cmp.Ordering.TheVariants.{Less, Equal, Greater}
 use Rattle.uca_weights.specs.declared.Depth.{Depth}
 use Rattle.uca_weights.specs.declared.Depth.TheVariants.{Weights, Identical}
 use Rattle.uca_weights.specs.declared.Weighting.{Weighting}
-use Rattle.uca_order.specs.Levels.{lexicographic, level_lists}
-use Rattle.uca_order.specs.Depths.{ReadText}
-use Rattle.uca_compact.specs.Forms.{Form, step, full, first_cell, Book, forms_of}
+use Rattle.uca_order.specs.Levels.{lexicographic, level_lists, level_count, levels_bytes}
+use Rattle.uca_order.specs.Depths.{ReadText, points_bytes}
+use Rattle.uca_compact.specs.Forms.{Form, step, full, first_cell, AreLevels, Book, forms_of}
 use Rattle.uca_compact.specs.PlainLevels.{plain_level}
 
 -- ---- Weights
@@ -92,11 +92,26 @@ compact plain (f ∷ forms) (level ∷ later) = ended_level plain f [] level lat
 
 -- ---- Keys
 
--- the compact key of these levels
-abbrev pub compact_levels : Weighting → Book → List (List ℕ) → List ℕ
-compact_levels weighting b levels = compact plain_level (forms_of weighting b) levels
+-- what a key is made of: its levels of weights, and the code points of an identical level
+pub record KeyParts : Type 0 where
+  pub levels : List (List ℕ)
+  pub points : List ℕ
 
--- the compact key of a text; the code points of an identical level are UTF-8
-abbrev pub compact_key : Depth → Weighting → Book → ReadText → List ℕ
-compact_key Weights weighting b t = compact_levels weighting b (level_lists weighting t.elements)
-compact_key Identical weighting b t = compact_levels weighting b (level_lists weighting t.elements) ++ encode_utf8_all t.points
+-- the parts of the key of a text
+abbrev pub text_parts : Weighting → ReadText → KeyParts
+text_parts weighting t = record { levels = level_lists weighting t.elements; points = t.points }
+
+-- a key with these levels: two bytes a weight, and three bytes a code point
+abbrev pub stored_key : Depth → KeyParts → List ℕ
+stored_key Weights k = levels_bytes k.levels
+stored_key Identical k = levels_bytes k.levels ++ (0 ∷ 0 ∷ points_bytes k.points)
+
+-- the compact key with these levels: its code points are UTF-8
+abbrev pub compact_key : Depth → Weighting → Book → KeyParts → List ℕ
+compact_key Weights weighting b k = compact plain_level (forms_of weighting b) k.levels
+compact_key Identical weighting b k = compact plain_level (forms_of weighting b) k.levels ++ encode_utf8_all k.points
+
+-- a key may have these parts: as many levels as the weighting, and code points that are Unicode scalar values
+pub record AreParts (weighting : Weighting) (k : KeyParts) : Type 0 where
+  pub levels : AreLevels (level_count weighting) k.levels
+  pub points : all_scalars k.points ≡ true

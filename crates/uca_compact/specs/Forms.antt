@@ -58,12 +58,9 @@ AreForms (f ∷ forms) = IsForm f × (f.ends ≡ ends_before (length forms)) × 
 abbrev pub AreWeights : List ℕ → Type 0
 AreWeights = AllByRecursion (λ w. (0 < w) × (w < 65536))
 
--- a level of weights for each form
-abbrev pub AreLevels : List Form → List (List ℕ) → Type 0
-AreLevels [] [] = ⊤
-AreLevels [] (a ∷ levels) = ⊥
-AreLevels (f ∷ forms) [] = ⊥
-AreLevels (f ∷ forms) (a ∷ levels) = AreWeights a × AreLevels forms levels
+-- so many levels of weights
+abbrev pub AreLevels : ℕ → List (List ℕ) → Type 0
+AreLevels count levels = (length levels ≡ count) × AllByRecursion AreWeights levels
 
 -- ---- Books
 

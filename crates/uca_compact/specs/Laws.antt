@@ -1,18 +1,45 @@
 -- What is true of all compact keys.
-use Rattle.std.specs.Prelude.{◌≡◌, ℕ, List, ◌++◌, Some}
+use Rattle.std.specs.Prelude.{◌≡◌, ◌↔◌, ℕ, ◌<◌, List, ◌++◌, length, Some}
+use Rattle.std.specs.List.{AllByRecursion}
 use Rattle.std.specs.Ordering.{ordering_then}
+use Rattle.uca_weights.specs.declared.Depth.{Depth}
+use Rattle.uca_weights.specs.declared.Element.{Element}
+use Rattle.uca_weights.specs.declared.Weighting.{Weighting}
 use Rattle.uca_order.specs.Levels.{lexicographic, compare_from}
-use Rattle.uca_compact.specs.Forms.{Form, AreForms, AreLevels}
-use Rattle.uca_compact.specs.CompactKeys.{Plain, compact}
+use Rattle.uca_order.specs.Depths.{ReadText, key_at}
+use Rattle.uca_compact.specs.Forms.{Form, AreForms, AreLevels, Book, IsBook}
+use Rattle.uca_compact.specs.CompactKeys.{Plain, compact, text_parts, stored_key, compact_key}
 use Rattle.uca_compact.specs.Reading.{read_levels}
 
 -- Compact keys compare as their levels do, and then by the bytes after them, whatever the plain levels are.
 abbrev pub CompactLevelsKeepOrder : Type 0
-CompactLevelsKeepOrder = (plain : Plain) (forms : List Form) (left right : List (List ℕ)) → AreForms forms → AreLevels forms left → AreLevels forms right →
+CompactLevelsKeepOrder = (plain : Plain) (forms : List Form) (left right : List (List ℕ)) → AreForms forms → AreLevels (length forms) left → AreLevels (length forms) right →
     (xs ys : List ℕ) → lexicographic (compact plain forms left ++ xs) (compact plain forms right ++ ys)
     ≡ ordering_then (compare_from 1 left right).order (lexicographic xs ys)
 
 -- What is written for levels is read again as these, whatever follows it.
 abbrev pub CompactLevelsAreReadBack : Type 0
-CompactLevelsAreReadBack = (plain : Plain) (forms : List Form) (levels : List (List ℕ)) (rest : List ℕ) → AreForms forms → AreLevels forms levels →
+CompactLevelsAreReadBack = (plain : Plain) (forms : List Form) (levels : List (List ℕ)) (rest : List ℕ) → AreForms forms → AreLevels (length forms) levels →
     read_levels plain forms (compact plain forms levels ++ rest) ≡ Some (record { levels = levels; rest = rest })
+
+-- ---- Keys of texts
+
+-- its weights have two bytes, as those of each element of a program
+pub record HasTwoBytes (e : Element) : Type 0 where
+  pub primary : e.primary < 65536
+  pub secondary : e.secondary < 65536
+  pub tertiary : e.tertiary < 65536
+
+-- Byte order of the compact keys of texts is byte order of their keys, and so the order of the texts. Compact keys are equal
+-- exactly if the keys are.
+pub record CompactKeysKeepOrder : Type 0 where
+  pub order : (depth : Depth) (weighting : Weighting) (b : Book) (left right : ReadText) → IsBook b →
+      AllByRecursion HasTwoBytes left.elements → AllByRecursion HasTwoBytes right.elements →
+      lexicographic (compact_key depth weighting b (text_parts weighting left)) (compact_key depth weighting b (text_parts weighting right))
+      ≡ lexicographic (key_at depth weighting left) (key_at depth weighting right)
+  pub equal : (depth : Depth) (weighting : Weighting) (b : Book) (left right : ReadText) → IsBook b →
+      AllByRecursion HasTwoBytes left.elements → AllByRecursion HasTwoBytes right.elements →
+      (compact_key depth weighting b (text_parts weighting left) ≡ compact_key depth weighting b (text_parts weighting right))
+      ↔ (key_at depth weighting left ≡ key_at depth weighting right)
+  -- the key is that of the parts
+  pub key : (depth : Depth) (weighting : Weighting) (t : ReadText) → stored_key depth (text_parts weighting t) ≡ key_at depth weighting t

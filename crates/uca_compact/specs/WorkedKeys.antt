@@ -1,11 +1,11 @@
 -- Some compact keys that were worked out by hand.
 use Rattle.std.specs.Prelude.{◌≡◌, ℕ, List, [], ◌∷◌, ◌++◌}
-use Rattle.uca_weights.specs.declared.Depth.TheVariants.{Identical}
+use Rattle.uca_weights.specs.declared.Depth.TheVariants.{Weights, Identical}
 use Rattle.uca_weights.specs.declared.Weighting.TheVariants.{NonIgnorable, Shifted}
 use Rattle.uca_elements.specs.WorkedTable.{plain}
 use Rattle.uca_compact.specs.Forms.{Book}
 use Rattle.uca_compact.specs.PlainLevels.{copies}
-use Rattle.uca_compact.specs.CompactKeys.{compact_levels, compact_key}
+use Rattle.uca_compact.specs.CompactKeys.{text_parts, compact_key}
 
 -- 1C47 and 1C60 have cells of their own, and so have 0024, 0025, 0008 and 0209
 abbrev pub small_book : Book
@@ -19,10 +19,10 @@ small_book =
 
 -- the compact key of three levels, and of four
 abbrev pub three : List ℕ → List ℕ → List ℕ → List ℕ
-three a b c = compact_levels NonIgnorable small_book (a ∷ b ∷ c ∷ [])
+three a b c = compact_key Weights NonIgnorable small_book (record { levels = a ∷ b ∷ c ∷ []; points = [] })
 
 abbrev pub four : List ℕ → List ℕ → List ℕ → List ℕ → List ℕ
-four a b c d = compact_levels Shifted small_book (a ∷ b ∷ c ∷ d ∷ [])
+four a b c d = compact_key Weights Shifted small_book (record { levels = a ∷ b ∷ c ∷ d ∷ []; points = [] })
 
 pub record WorkedKeys : Type 0 where
   -- a letter, and then only plain levels: its cell, and the end that says so
@@ -50,5 +50,5 @@ pub record WorkedKeys : Type 0 where
   pub han : three (0xFB40 ∷ 0xCE00 ∷ []) (0x20 ∷ []) (2 ∷ []) ≡ 12 ∷ 0xDB ∷ 0x40 ∷ 12 ∷ 0xAE ∷ 0x00 ∷ 2 ∷ []
   -- an identical level: U+0061 and U+0301 follow as UTF-8
   pub identical : compact_key Identical NonIgnorable small_book
-      (record { elements = plain 0x1C47 0x20 2 ∷ plain 0 0x24 2 ∷ []; points = 0x61 ∷ 0x301 ∷ [] })
+      (text_parts NonIgnorable (record { elements = plain 0x1C47 0x20 2 ∷ plain 0 0x24 2 ∷ []; points = 0x61 ∷ 0x301 ∷ [] }))
       ≡ 8 ∷ 4 ∷ 99 ∷ 101 ∷ 1 ∷ 0x61 ∷ 0xCC ∷ 0x81 ∷ []
