@@ -6,3 +6,6 @@ pub mod ReadBack
 pub mod LevelsBack
 pub mod PointOrder
 pub mod TextOrder
+pub mod OnlyCells
+pub mod OnlyLevels
+pub mod OnlyKeys

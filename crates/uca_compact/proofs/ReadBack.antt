@@ -122,11 +122,12 @@ read_lesser f s run bytes short =
     rw (below, digit, ends, high) refl
 
 -- a longest run
-pub read_full : (f : Form) (s : ℕ) (bytes : List ℕ) → read_steps f (suc s) (full f ∷ bytes) ≡ with_weights (copies f.common f.longest) (read_steps f s bytes)
-read_full f s bytes =
+pub read_full : (f : Form) (s : ℕ) (bytes : List ℕ) → 0 < f.common → read_steps f (suc s) (full f ∷ bytes) ≡ with_weights (copies f.common f.longest) (read_steps f s bytes)
+read_full f s bytes some =
+    let common : nat_eq f.common 0 ≡ false = grind (arith, nat_tests) in
     let below : nat_lt (full f) (full f) ≡ false = grind (arith, nat_tests) in
     let same : nat_eq (full f) (full f) ≡ true = grind (arith, nat_tests) in
-    rw (below, same) refl
+    rw (below, same, common) refl
 
 -- a run before a greater weight
 pub read_run : (f : Form) (s n : ℕ) (bytes : List ℕ) → suc n < f.longest
@@ -195,7 +196,7 @@ pub lesser_back : (f : Form) → IsForm f → (run w : ℕ) (ws : List ℕ) (end
 lesser_back f form run w ws end rest short above under more zero enough = absurd (omega arith)
 lesser_back f form run w ws end rest short above under more (suc s) enough =
     elim form.lesser [
-      | inl none ↦ absurd (omega arith)
+      | inl none ↦ absurd (omega (arith, none.0))
       | inr rising ↦
           (let code = level_code f end 0 ws in
           let found = cell_again 0 1 f.lesser f.common w (code ++ rest) rising (omega arith) under in
@@ -215,7 +216,7 @@ greater_back f form zero w ws end rest short above under more zero enough =
     absurd (omega (arith, less))
 greater_back f form zero w ws end rest short above under more (suc s) enough =
     elim form.greater [
-      | inl none ↦ absurd (omega arith)
+      | inl none ↦ absurd (omega (arith, none.0))
       | inr rising ↦
           (let code = level_code f end 0 ws in
           let less = cell_shorter (first_cell f) (suc f.common) f.greater 65536 w code (suc s) enough in
@@ -230,7 +231,7 @@ greater_back f form zero w ws end rest short above under more (suc s) enough =
 greater_back f form (suc n) w ws end rest short above under more zero enough = absurd (omega arith)
 greater_back f form (suc n) w ws end rest short above under more (suc s) enough =
     elim form.greater [
-      | inl none ↦ absurd (omega arith)
+      | inl none ↦ absurd (omega (arith, none.0))
       | inr rising ↦
           (let code = level_code f end 0 ws in
           let found = cell_again (first_cell f) (suc f.common) f.greater 65536 w (code ++ rest) rising (omega arith) under in
@@ -243,17 +244,17 @@ greater_back f form (suc n) w ws end rest short above under more (suc s) enough 
     ]
 
 -- a common weight, by whether the run is the longest
-pub common_back : (f : Form) (run : ℕ) (ws : List ℕ) (end : ℕ) (rest : List ℕ) (b : Bool) → nat_eq (suc run) f.longest ≡ b → ReadsBack f (cond b 0 (suc run)) ws end rest
+pub common_back : (f : Form) → 0 < f.common → (run : ℕ) (ws : List ℕ) (end : ℕ) (rest : List ℕ) (b : Bool) → nat_eq (suc run) f.longest ≡ b → ReadsBack f (cond b 0 (suc run)) ws end rest
     → (steps : ℕ) → length (cond b (full f ∷ []) [] ++ level_code f end (cond b 0 (suc run)) ws) ≤ steps
     → read_steps f steps ((cond b (full f ∷ []) [] ++ level_code f end (cond b 0 (suc run)) ws) ++ rest) ≡ level_read (copies f.common run ++ f.common ∷ ws) end rest
-common_back f run ws end rest true is more zero enough = absurd (omega arith)
-common_back f run ws end rest true is more (suc s) enough =
+common_back f some run ws end rest true is more zero enough = absurd (omega arith)
+common_back f some run ws end rest true is more (suc s) enough =
     let all : f.longest ≡ suc run = grind (arith, nat_tests) in
-    read_full f s (level_code f end 0 ws ++ rest)
+    read_full f s (level_code f end 0 ws ++ rest) some
     ∙ ap (with_weights (copies f.common f.longest)) (more s (omega (arith, enough)))
     ∙ ap (λ (k : ℕ). level_read (copies f.common k ++ ws) end rest) all
     ∙ ap (λ (xs : List ℕ). level_read xs end rest) (sym (copies_more f.common run ws))
-common_back f run ws end rest false is more steps enough =
+common_back f some run ws end rest false is more steps enough =
     more steps enough ∙ ap (λ (xs : List ℕ). level_read xs end rest) (sym (copies_more f.common run ws))
 
 -- a weight, by how it compares to the common one
@@ -265,7 +266,8 @@ read_by_order f form run w ws end rest short above under more Greater is =
     greater_back f form run w ws end rest short (grind (arith, nat_tests)) under (more Greater)
 read_by_order f form run w ws end rest short above under more Equal is =
     let same : w ≡ f.common = grind (arith, nat_tests) in
-    (λ steps enough. common_back f run ws end rest (nat_eq (suc run) f.longest) refl (more Equal) steps enough
+    let some : 0 < f.common = omega arith in
+    (λ steps enough. common_back f some run ws end rest (nat_eq (suc run) f.longest) refl (more Equal) steps enough
     ∙ ap (λ (v : ℕ). level_read (copies f.common run ++ v ∷ ws) end rest) (sym same))
 
 -- the rest of a level after a run

@@ -112,7 +112,7 @@ run_stays_short f form run Equal short = grind (arith, nat_tests, form.longest)
 pub lesser_cells : (f : Form) → IsForm f → (v w : ℕ) → 0 < v → v < w → w < f.common → IsBelow (cell 0 1 f.lesser f.common v) (cell 0 1 f.lesser f.common w)
 lesser_cells f form v w above less under =
     elim form.lesser [
-      | inl none ↦ absurd (omega arith)
+      | inl none ↦ absurd (omega (arith, none.0))
       | inr rising ↦ cell_order 0 1 f.lesser f.common v w rising (omega arith) less under
     ]
 
@@ -121,7 +121,7 @@ pub greater_cells : (f : Form) → IsForm f → (v w : ℕ) → f.common < v →
     → IsBelow (cell (first_cell f) (suc f.common) f.greater 65536 v) (cell (first_cell f) (suc f.common) f.greater 65536 w)
 greater_cells f form v w above less under =
     elim form.greater [
-      | inl none ↦ absurd (omega arith)
+      | inl none ↦ absurd (omega (arith, none.0))
       | inr rising ↦ cell_order (first_cell f) (suc f.common) f.greater 65536 v w rising (omega arith) less under
     ]
 

@@ -24,18 +24,18 @@ use Rattle.uca_compact.proofs.PointOrder.{points_order}
 -- the form of each level
 letters_fit : (b : Book) (later : ℕ) → IsBook b → later ≤ 3 → IsForm (letters_form b later)
 letters_fit b later h few =
-    record { longest = omega arith; lesser = inl (omega arith); greater = inr h.letters; few_lesser = omega arith; few_greater = omega (arith, h.few_letters) }
+    record { common = omega arith; longest = omega arith; no_common = λ none. refl; lesser = inl (omega arith, refl); greater = inr h.letters; few_lesser = omega arith; few_greater = omega (arith, h.few_letters) }
 
 accents_fit : (b : Book) (later : ℕ) → IsBook b → later ≤ 2 → IsForm (accents_form b later)
 accents_fit b later h few =
-    record { longest = omega arith; lesser = inr (omega arith); greater = inr h.accents; few_lesser = omega arith; few_greater = omega (arith, h.few_accents) }
+    record { common = omega arith; longest = omega arith; no_common = λ none. absurd (omega (arith, none)); lesser = inr (omega arith); greater = inr h.accents; few_lesser = omega arith; few_greater = omega (arith, h.few_accents) }
 
 cases_fit : (b : Book) (later : ℕ) → IsBook b → later ≤ 1 → IsForm (cases_form b later)
 cases_fit b later h few =
-    record { longest = omega arith; lesser = inr (omega arith); greater = inr h.cases; few_lesser = omega arith; few_greater = omega (arith, h.few_cases) }
+    record { common = omega arith; longest = omega arith; no_common = λ none. absurd (omega (arith, none)); lesser = inr (omega arith); greater = inr h.cases; few_lesser = omega arith; few_greater = omega (arith, h.few_cases) }
 
 variables_fit : (b : Book) → IsBook b → IsForm (variables_form b 0)
-variables_fit b h = record { longest = omega arith; lesser = inr h.variables; greater = inl (omega arith); few_lesser = h.few_variables; few_greater = omega arith }
+variables_fit b h = record { common = omega arith; longest = omega arith; no_common = λ none. absurd (omega (arith, none)); lesser = inr h.variables; greater = inl (omega arith, refl); few_lesser = h.few_variables; few_greater = omega arith }
 
 -- the forms of a weighting
 pub forms_fit : (weighting : Weighting) (b : Book) → IsBook b → AreForms (forms_of weighting b)
@@ -123,7 +123,7 @@ levels_then weighting b left right xs ys h ls rs =
 
 -- compact keys compare as the texts
 compact_texts : (depth : Depth) (weighting : Weighting) (b : Book) (left right : ReadText) → IsBook b → AllByRecursion HasTwoBytes left.elements → AllByRecursion HasTwoBytes right.elements
-    → lexicographic (compact_key depth weighting b (text_parts weighting left)) (compact_key depth weighting b (text_parts weighting right))
+    → lexicographic (compact_key depth weighting b (text_parts depth weighting left)) (compact_key depth weighting b (text_parts depth weighting right))
     ≡ (compared_at depth weighting left right).order
 compact_texts Weights weighting b left right h ls rs =
     ap (λ (bytes : List ℕ). lexicographic bytes (compact plain_level (forms_of weighting b) (level_lists weighting right.elements))) (sym (append-nil (compact plain_level (forms_of weighting b) (level_lists weighting left.elements))))
@@ -141,7 +141,7 @@ compact_texts Identical weighting b left right h ls rs =
 
 -- so byte order is that of the keys
 keys_order : (depth : Depth) (weighting : Weighting) (b : Book) (left right : ReadText) → IsBook b → AllByRecursion HasTwoBytes left.elements → AllByRecursion HasTwoBytes right.elements
-    → lexicographic (compact_key depth weighting b (text_parts weighting left)) (compact_key depth weighting b (text_parts weighting right))
+    → lexicographic (compact_key depth weighting b (text_parts depth weighting left)) (compact_key depth weighting b (text_parts depth weighting right))
     ≡ lexicographic (key_at depth weighting left) (key_at depth weighting right)
 keys_order depth weighting b left right h ls rs = compact_texts depth weighting b left right h ls rs ∙ sym (depth_order depth weighting left right)
 
@@ -157,14 +157,14 @@ keys_keep_order =
       equal = λ depth weighting b left right h ls rs.
           (let order = keys_order depth weighting b left right h ls rs in
           (
-            same_if (compact_key depth weighting b (text_parts weighting left)) (compact_key depth weighting b (text_parts weighting right))
+            same_if (compact_key depth weighting b (text_parts depth weighting left)) (compact_key depth weighting b (text_parts depth weighting right))
                 (key_at depth weighting left) (key_at depth weighting right) order,
             same_if (key_at depth weighting left) (key_at depth weighting right)
-                (compact_key depth weighting b (text_parts weighting left)) (compact_key depth weighting b (text_parts weighting right)) (sym order),
+                (compact_key depth weighting b (text_parts depth weighting left)) (compact_key depth weighting b (text_parts depth weighting right)) (sym order),
           ));
       key = key_is;
     }
   where
-    key_is : (depth : Depth) (weighting : Weighting) (t : ReadText) → stored_key depth (text_parts weighting t) ≡ key_at depth weighting t
+    key_is : (depth : Depth) (weighting : Weighting) (t : ReadText) → stored_key depth (text_parts depth weighting t) ≡ key_at depth weighting t
     key_is Weights weighting t = refl
     key_is Identical weighting t = refl

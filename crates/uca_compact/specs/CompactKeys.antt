@@ -97,9 +97,14 @@ pub record KeyParts : Type 0 where
   pub levels : List (List ℕ)
   pub points : List ℕ
 
+-- the code points of an identical level, or none
+abbrev pub points_at : Depth → List ℕ → List ℕ
+points_at Weights points = []
+points_at Identical points = points
+
 -- the parts of the key of a text
-abbrev pub text_parts : Weighting → ReadText → KeyParts
-text_parts weighting t = record { levels = level_lists weighting t.elements; points = t.points }
+abbrev pub text_parts : Depth → Weighting → ReadText → KeyParts
+text_parts depth weighting t = record { levels = level_lists weighting t.elements; points = points_at depth t.points }
 
 -- a key with these levels: two bytes a weight, and three bytes a code point
 abbrev pub stored_key : Depth → KeyParts → List ℕ
@@ -111,7 +116,9 @@ abbrev pub compact_key : Depth → Weighting → Book → KeyParts → List ℕ
 compact_key Weights weighting b k = compact plain_level (forms_of weighting b) k.levels
 compact_key Identical weighting b k = compact plain_level (forms_of weighting b) k.levels ++ encode_utf8_all k.points
 
--- a key may have these parts: as many levels as the weighting, and code points that are Unicode scalar values
-pub record AreParts (weighting : Weighting) (k : KeyParts) : Type 0 where
+-- A key may have these parts: as many levels as the weighting, and code points that are Unicode scalar values, which only keys
+-- with an identical level have.
+pub record AreParts (depth : Depth) (weighting : Weighting) (k : KeyParts) : Type 0 where
   pub levels : AreLevels (level_count weighting) k.levels
   pub points : all_scalars k.points ≡ true
+  pub level : points_at depth k.points ≡ k.points

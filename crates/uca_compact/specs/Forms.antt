@@ -35,12 +35,14 @@ full f = f.longest * step f
 abbrev pub first_cell : Form → ℕ
 first_cell f = full f + f.longest
 
--- What every form has: room for a run, cells that rise, and codes that are bytes. A level may have no lesser weights, or no
--- greater ones.
+-- What every form has. A form without a common weight has no runs. A level may have no lesser weights, or no greater ones; then
+-- there is one cell for these, which is empty. All codes are bytes.
 pub record IsForm (f : Form) : Type 0 where
+  pub common : f.common < 65536
   pub longest : 0 < f.longest
-  pub lesser : (f.common ≤ 1) ⊎ AreRising 1 f.lesser f.common
-  pub greater : (65535 ≤ f.common) ⊎ AreRising (suc f.common) f.greater 65536
+  pub no_common : f.common ≡ 0 → f.longest ≡ 1
+  pub lesser : ((f.common ≤ 1) × (f.lesser ≡ [])) ⊎ AreRising 1 f.lesser f.common
+  pub greater : ((65535 ≤ f.common) × (f.greater ≡ [])) ⊎ AreRising (suc f.common) f.greater 65536
   pub few_lesser : length f.lesser < 256
   pub few_greater : first_cell f + length f.greater < 256
 

@@ -7,9 +7,9 @@ use Rattle.uca_weights.specs.declared.Element.{Element}
 use Rattle.uca_weights.specs.declared.Weighting.{Weighting}
 use Rattle.uca_order.specs.Levels.{lexicographic, compare_from}
 use Rattle.uca_order.specs.Depths.{ReadText, key_at}
-use Rattle.uca_compact.specs.Forms.{Form, AreForms, AreLevels, Book, IsBook}
+use Rattle.uca_compact.specs.Forms.{Form, AreForms, AreWeights, AreLevels, Book, IsBook}
 use Rattle.uca_compact.specs.CompactKeys.{Plain, compact, text_parts, stored_key, compact_key}
-use Rattle.uca_compact.specs.Reading.{read_levels}
+use Rattle.uca_compact.specs.Reading.{ReadLevels, read_levels}
 
 -- Compact keys compare as their levels do, and then by the bytes after them, whatever the plain levels are.
 abbrev pub CompactLevelsKeepOrder : Type 0
@@ -21,6 +21,12 @@ CompactLevelsKeepOrder = (plain : Plain) (forms : List Form) (left right : List 
 abbrev pub CompactLevelsAreReadBack : Type 0
 CompactLevelsAreReadBack = (plain : Plain) (forms : List Form) (levels : List (List ℕ)) (rest : List ℕ) → AreForms forms → AreLevels (length forms) levels →
     read_levels plain forms (compact plain forms levels ++ rest) ≡ Some (record { levels = levels; rest = rest })
+
+-- Nothing else is read, if each plain level is one of weights.
+abbrev pub OnlyCompactLevelsAreRead : Type 0
+OnlyCompactLevelsAreRead = (plain : Plain) → ((earlier : List (List ℕ)) → AreWeights (plain earlier)) → (forms : List Form) → AreForms forms →
+    (bytes : List ℕ) → AllByRecursion (λ b. b < 256) bytes → (read : ReadLevels) → read_levels plain forms bytes ≡ Some read →
+    AreLevels (length forms) read.levels × (bytes ≡ compact plain forms read.levels ++ read.rest)
 
 -- ---- Keys of texts
 
@@ -35,11 +41,11 @@ pub record HasTwoBytes (e : Element) : Type 0 where
 pub record CompactKeysKeepOrder : Type 0 where
   pub order : (depth : Depth) (weighting : Weighting) (b : Book) (left right : ReadText) → IsBook b →
       AllByRecursion HasTwoBytes left.elements → AllByRecursion HasTwoBytes right.elements →
-      lexicographic (compact_key depth weighting b (text_parts weighting left)) (compact_key depth weighting b (text_parts weighting right))
+      lexicographic (compact_key depth weighting b (text_parts depth weighting left)) (compact_key depth weighting b (text_parts depth weighting right))
       ≡ lexicographic (key_at depth weighting left) (key_at depth weighting right)
   pub equal : (depth : Depth) (weighting : Weighting) (b : Book) (left right : ReadText) → IsBook b →
       AllByRecursion HasTwoBytes left.elements → AllByRecursion HasTwoBytes right.elements →
-      (compact_key depth weighting b (text_parts weighting left) ≡ compact_key depth weighting b (text_parts weighting right))
+      (compact_key depth weighting b (text_parts depth weighting left) ≡ compact_key depth weighting b (text_parts depth weighting right))
       ↔ (key_at depth weighting left ≡ key_at depth weighting right)
   -- the key is that of the parts
-  pub key : (depth : Depth) (weighting : Weighting) (t : ReadText) → stored_key depth (text_parts weighting t) ≡ key_at depth weighting t
+  pub key : (depth : Depth) (weighting : Weighting) (t : ReadText) → stored_key depth (text_parts depth weighting t) ≡ key_at depth weighting t

@@ -3,10 +3,14 @@ use Rattle.std.specs.Prelude.{ℕ, zero, suc, ◌+◌, ◌*◌, ◌-◌, ◌/◌
 use Rattle.std.specs.Ordering.{nat_cmp}
 use Rattle.std.specs.declared.cmp.Ordering.{Ordering}
 use Rattle.std.specs.declared.cmp.Ordering.TheVariants.{Less, Equal, Greater}
+use Rattle.std.specs.Str.{chars, is_utf8}
+use Rattle.uca_weights.specs.declared.Depth.{Depth}
+use Rattle.uca_weights.specs.declared.Depth.TheVariants.{Weights, Identical}
+use Rattle.uca_weights.specs.declared.Weighting.{Weighting}
 use Rattle.uca_order.specs.Levels.{lexicographic}
-use Rattle.uca_compact.specs.Forms.{Form, step, full, first_cell}
-use Rattle.uca_compact.specs.PlainLevels.{copies}
-use Rattle.uca_compact.specs.CompactKeys.{Plain}
+use Rattle.uca_compact.specs.Forms.{Form, step, full, first_cell, Book, forms_of}
+use Rattle.uca_compact.specs.PlainLevels.{copies, plain_level}
+use Rattle.uca_compact.specs.CompactKeys.{Plain, KeyParts}
 
 -- ---- Weights
 
@@ -70,6 +74,10 @@ greater_then f front [] more = None
 greater_then f front (code ∷ bytes) more =
     with_weight front (read_cell (first_cell f) (suc f.common) f.greater 65536 code bytes) more
 
+-- a longest run, if there is a common weight, and what is read after it
+abbrev pub longest_run_then : Form → Option ReadLevel → Option ReadLevel
+longest_run_then f more = if nat_eq f.common 0 then None else with_weights (copies f.common f.longest) more
+
 -- A level, in at most `steps` steps. Each step is a run, and the end or the weight that follows it.
 abbrev pub read_steps : Form → (steps : ℕ) → List ℕ → Option ReadLevel
 read_steps f zero bytes = None
@@ -78,7 +86,7 @@ read_steps f (suc steps) (b ∷ bytes) =
     if nat_lt b (full f) then
     (if nat_lt (b % step f) f.ends then Some (record { weights = copies f.common (b / step f); end = b % step f; rest = bytes }) else
     lesser_then f (copies f.common (b / step f)) bytes (read_steps f steps)) else
-    if nat_eq b (full f) then with_weights (copies f.common f.longest) (read_steps f steps bytes) else
+    if nat_eq b (full f) then longest_run_then f (read_steps f steps bytes) else
     if nat_lt b (first_cell f) then greater_then f (copies f.common (first_cell f - b)) bytes (read_steps f steps) else
     greater_then f [] (b ∷ bytes) (read_steps f steps)
 
@@ -132,3 +140,19 @@ read_levels plain [] bytes = Some (record { levels = []; rest = bytes })
 read_levels plain (f ∷ forms) bytes =
     level_then (λ level. true) (read_level f bytes)
     (λ level end rest. read_later plain forms (level ∷ []) (plain_count (length forms) end) (nat_cmp end (length forms)) rest)
+
+-- ---- Keys
+
+-- the rest of the bytes, after the levels: nothing, or UTF-8
+abbrev pub parts_then : Depth → List (List ℕ) → List ℕ → Option KeyParts
+parts_then Weights levels [] = Some (record { levels = levels; points = [] })
+parts_then Weights levels (a ∷ rest) = None
+parts_then Identical levels rest = if is_utf8 rest then Some (record { levels = levels; points = chars rest }) else None
+
+abbrev pub with_rest : Depth → Option ReadLevels → Option KeyParts
+with_rest depth None = None
+with_rest depth (Some k) = parts_then depth k.levels k.rest
+
+-- the parts of a compact key
+abbrev pub read_key : Depth → Weighting → Book → List ℕ → Option KeyParts
+read_key depth weighting b bytes = with_rest depth (read_levels plain_level (forms_of weighting b) bytes)

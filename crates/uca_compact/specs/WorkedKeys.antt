@@ -50,5 +50,5 @@ pub record WorkedKeys : Type 0 where
   pub han : three (0xFB40 ∷ 0xCE00 ∷ []) (0x20 ∷ []) (2 ∷ []) ≡ 12 ∷ 0xDB ∷ 0x40 ∷ 12 ∷ 0xAE ∷ 0x00 ∷ 2 ∷ []
   -- an identical level: U+0061 and U+0301 follow as UTF-8
   pub identical : compact_key Identical NonIgnorable small_book
-      (text_parts NonIgnorable (record { elements = plain 0x1C47 0x20 2 ∷ plain 0 0x24 2 ∷ []; points = 0x61 ∷ 0x301 ∷ [] }))
+      (text_parts Identical NonIgnorable (record { elements = plain 0x1C47 0x20 2 ∷ plain 0 0x24 2 ∷ []; points = 0x61 ∷ 0x301 ∷ [] }))
       ≡ 8 ∷ 4 ∷ 99 ∷ 101 ∷ 1 ∷ 0x61 ∷ 0xCC ∷ 0x81 ∷ []

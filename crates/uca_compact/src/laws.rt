@@ -1,6 +1,6 @@
 //! What is true of the compact keys of all texts. The functions do nothing: their contracts are the laws.
 
-ghost use Rattle.uca_compact.specs.Laws.{CompactLevelsKeepOrder, CompactLevelsAreReadBack, CompactKeysKeepOrder};
+ghost use Rattle.uca_compact.specs.Laws.{CompactLevelsKeepOrder, CompactLevelsAreReadBack, OnlyCompactLevelsAreRead, CompactKeysKeepOrder};
 ghost use Rattle.uca_compact.specs.WorkedKeys.{WorkedKeys};
 
 /// Byte order of compact keys is the order of the levels, whatever the plain levels are and whatever follows a key.
@@ -11,6 +11,11 @@ pub fn compact_levels_keep_order()
 /// Levels are read back from a compact key, whatever follows it. So no compact key begins another.
 pub fn compact_levels_are_read_back()
     ensures { CompactLevelsAreReadBack }
+{}
+
+/// A reader takes no other bytes: what it reads as levels was written for these levels.
+pub fn only_compact_levels_are_read()
+    ensures { OnlyCompactLevelsAreRead }
 {}
 
 /// Byte order of the compact keys of texts is that of their keys, and so the order of the texts. Compact keys are equal
