@@ -9,3 +9,4 @@ pub mod TextOrder
 pub mod OnlyCells
 pub mod OnlyLevels
 pub mod OnlyKeys
+pub mod WholeKeys

@@ -1,15 +1,16 @@
 -- What is true of all compact keys.
-use Rattle.std.specs.Prelude.{◌≡◌, ◌↔◌, ℕ, ◌<◌, List, ◌++◌, length, Some}
+use Rattle.std.specs.Prelude.{◌≡◌, ◌↔◌, ℕ, ◌<◌, List, [], ◌++◌, length, Some}
 use Rattle.std.specs.List.{AllByRecursion}
 use Rattle.std.specs.Ordering.{ordering_then}
 use Rattle.uca_weights.specs.declared.Depth.{Depth}
+use Rattle.uca_weights.specs.declared.Depth.TheVariants.{Weights}
 use Rattle.uca_weights.specs.declared.Element.{Element}
 use Rattle.uca_weights.specs.declared.Weighting.{Weighting}
 use Rattle.uca_order.specs.Levels.{lexicographic, compare_from}
 use Rattle.uca_order.specs.Depths.{ReadText, key_at}
 use Rattle.uca_compact.specs.Forms.{Form, AreForms, AreWeights, AreLevels, Book, IsBook}
-use Rattle.uca_compact.specs.CompactKeys.{Plain, compact, text_parts, stored_key, compact_key}
-use Rattle.uca_compact.specs.Reading.{ReadLevels, read_levels}
+use Rattle.uca_compact.specs.CompactKeys.{Plain, compact, KeyParts, text_parts, stored_key, compact_key, AreParts}
+use Rattle.uca_compact.specs.Reading.{ReadLevels, read_levels, read_key}
 
 -- Compact keys compare as their levels do, and then by the bytes after them, whatever the plain levels are.
 abbrev pub CompactLevelsKeepOrder : Type 0
@@ -27,6 +28,24 @@ abbrev pub OnlyCompactLevelsAreRead : Type 0
 OnlyCompactLevelsAreRead = (plain : Plain) → ((earlier : List (List ℕ)) → AreWeights (plain earlier)) → (forms : List Form) → AreForms forms →
     (bytes : List ℕ) → AllByRecursion (λ b. b < 256) bytes → (read : ReadLevels) → read_levels plain forms bytes ≡ Some read →
     AreLevels (length forms) read.levels × (bytes ≡ compact plain forms read.levels ++ read.rest)
+
+-- ---- Keys
+
+-- The parts of a key are read again from its compact key.
+abbrev pub CompactKeysAreReadBack : Type 0
+CompactKeysAreReadBack = (depth : Depth) (weighting : Weighting) (b : Book) (k : KeyParts) → IsBook b → AreParts depth weighting k →
+    read_key depth weighting b (compact_key depth weighting b k) ≡ Some k
+
+-- Nothing is read from other bytes.
+abbrev pub OnlyCompactKeysAreRead : Type 0
+OnlyCompactKeysAreRead = (depth : Depth) (weighting : Weighting) (b : Book) → IsBook b → (bytes : List ℕ) → AllByRecursion (λ b. b < 256) bytes →
+    (k : KeyParts) → read_key depth weighting b bytes ≡ Some k → AreParts depth weighting k × (bytes ≡ compact_key depth weighting b k)
+
+-- Without an identical level no compact key begins another one: where it does, both are one, and nothing follows.
+abbrev pub NoCompactKeyBeginsAnother : Type 0
+NoCompactKeyBeginsAnother = (weighting : Weighting) (b : Book) (left right : KeyParts) (more : List ℕ) → IsBook b →
+    AreParts Weights weighting left → AreParts Weights weighting right →
+    compact_key Weights weighting b left ++ more ≡ compact_key Weights weighting b right → (left.levels ≡ right.levels) × (more ≡ [])
 
 -- ---- Keys of texts
 

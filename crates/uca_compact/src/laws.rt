@@ -1,6 +1,6 @@
 //! What is true of the compact keys of all texts. The functions do nothing: their contracts are the laws.
 
-ghost use Rattle.uca_compact.specs.Laws.{CompactLevelsKeepOrder, CompactLevelsAreReadBack, OnlyCompactLevelsAreRead, CompactKeysKeepOrder};
+ghost use Rattle.uca_compact.specs.Laws.{CompactLevelsKeepOrder, CompactLevelsAreReadBack, OnlyCompactLevelsAreRead, CompactKeysAreReadBack, OnlyCompactKeysAreRead, NoCompactKeyBeginsAnother, CompactKeysKeepOrder};
 ghost use Rattle.uca_compact.specs.WorkedKeys.{WorkedKeys};
 
 /// Byte order of compact keys is the order of the levels, whatever the plain levels are and whatever follows a key.
@@ -8,7 +8,7 @@ pub fn compact_levels_keep_order()
     ensures { CompactLevelsKeepOrder }
 {}
 
-/// Levels are read back from a compact key, whatever follows it. So no compact key begins another.
+/// Levels are read back from a compact key, whatever follows it.
 pub fn compact_levels_are_read_back()
     ensures { CompactLevelsAreReadBack }
 {}
@@ -16,6 +16,21 @@ pub fn compact_levels_are_read_back()
 /// A reader takes no other bytes: what it reads as levels was written for these levels.
 pub fn only_compact_levels_are_read()
     ensures { OnlyCompactLevelsAreRead }
+{}
+
+/// The levels and code points of a key are read back from its compact key.
+pub fn compact_keys_are_read_back()
+    ensures { CompactKeysAreReadBack }
+{}
+
+/// A reader takes no other bytes: what it reads as a key was written for this key.
+pub fn only_compact_keys_are_read()
+    ensures { OnlyCompactKeysAreRead }
+{}
+
+/// Without an identical level no compact key begins another one.
+pub fn no_compact_key_begins_another()
+    ensures { NoCompactKeyBeginsAnother }
 {}
 
 /// Byte order of the compact keys of texts is that of their keys, and so the order of the texts. Compact keys are equal
