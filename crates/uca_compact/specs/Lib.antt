@@ -1,6 +1,7 @@
 pub mod Forms
 pub mod PlainLevels
 pub mod CompactKeys
+pub mod Programs
 pub mod Reading
 pub mod WorkedKeys
 pub mod Laws

@@ -2,3 +2,6 @@
 #![tactic(auto)]
 
 pub mod laws;
+pub mod levels;
+
+pub use levels::{LevelForm, push_level};
