@@ -10,3 +10,5 @@ pub mod OnlyCells
 pub mod OnlyLevels
 pub mod OnlyKeys
 pub mod WholeKeys
+pub mod PlainSteps
+pub mod LaterLevels

@@ -1,5 +1,5 @@
 -- Plain levels: what a level mostly is, after the levels before it. A compact key leaves them out.
-use Rattle.std.specs.Prelude.{ℕ, zero, suc, ◌+◌, ◌-◌, List, [], ◌∷◌, ◌&&◌, length, Bool, not, nat_lt, if◌then◌else◌}
+use Rattle.std.specs.Prelude.{ℕ, zero, suc, ◌+◌, ◌-◌, List, [], ◌∷◌, ◌&&◌, length, Bool, true, false, not, nat_lt}
 
 -- a weight, so many times
 abbrev pub copies : ℕ → ℕ → List ℕ
@@ -10,11 +10,15 @@ copies w (suc n) = w ∷ copies w n
 abbrev pub is_lead : ℕ → Bool
 is_lead w = not (nat_lt w 0xFB00) && nat_lt w 0xFC00
 
--- how many weights of level 1 mostly have a weight at level 2: a lead and the weight after it count once
+-- how many weights of level 1 mostly have a weight at level 2, by whether a lead comes before them: the weight after a lead is
+-- not counted
+abbrev pub letters_after : (lead : Bool) → List ℕ → ℕ
+letters_after lead [] = 0
+letters_after true (w ∷ ws) = letters_after false ws
+letters_after false (w ∷ ws) = suc (letters_after (is_lead w) ws)
+
 abbrev pub letter_count : List ℕ → ℕ
-letter_count [] = 0
-letter_count (w ∷ []) = 1
-letter_count (w ∷ v ∷ ws) = suc (if is_lead w then letter_count ws else letter_count (v ∷ ws))
+letter_count ws = letters_after false ws
 
 -- The plain level after these: no accent, small letters, and nothing variable. Level 4 has a weight for each weight of level 3,
 -- and for each of level 1 that was not counted.
