@@ -12,3 +12,4 @@ pub mod OnlyKeys
 pub mod WholeKeys
 pub mod PlainSteps
 pub mod LaterLevels
+pub mod StoredBack

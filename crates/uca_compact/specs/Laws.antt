@@ -11,6 +11,7 @@ use Rattle.uca_order.specs.Depths.{ReadText, key_at}
 use Rattle.uca_compact.specs.Forms.{Form, AreForms, AreWeights, AreLevels, Book, IsBook}
 use Rattle.uca_compact.specs.CompactKeys.{Plain, compact, KeyParts, text_parts, stored_key, compact_key, AreParts}
 use Rattle.uca_compact.specs.Reading.{ReadLevels, read_levels, read_key}
+use Rattle.uca_compact.specs.StoredParts.{stored_parts}
 
 -- Compact keys compare as their levels do, and then by the bytes after them, whatever the plain levels are.
 abbrev pub CompactLevelsKeepOrder : Type 0
@@ -46,6 +47,16 @@ abbrev pub NoCompactKeyBeginsAnother : Type 0
 NoCompactKeyBeginsAnother = (weighting : Weighting) (b : Book) (left right : KeyParts) (more : List ℕ) → IsBook b →
     AreParts Weights weighting left → AreParts Weights weighting right →
     compact_key Weights weighting b left ++ more ≡ compact_key Weights weighting b right → (left.levels ≡ right.levels) × (more ≡ [])
+
+-- The parts of a key are read from its bytes.
+abbrev pub StoredKeysAreRead : Type 0
+StoredKeysAreRead = (depth : Depth) (weighting : Weighting) (k : KeyParts) → AreParts depth weighting k →
+    stored_parts depth weighting (stored_key depth k) ≡ Some k
+
+-- Nothing is read from other bytes.
+abbrev pub OnlyStoredKeysAreRead : Type 0
+OnlyStoredKeysAreRead = (depth : Depth) (weighting : Weighting) (bytes : List ℕ) → AllByRecursion (λ b. b < 256) bytes →
+    (k : KeyParts) → stored_parts depth weighting bytes ≡ Some k → AreParts depth weighting k × (bytes ≡ stored_key depth k)
 
 -- ---- Keys of texts
 

@@ -3,5 +3,6 @@ pub mod PlainLevels
 pub mod CompactKeys
 pub mod Programs
 pub mod Reading
+pub mod StoredParts
 pub mod WorkedKeys
 pub mod Laws

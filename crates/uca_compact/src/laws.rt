@@ -1,6 +1,6 @@
 //! What is true of the compact keys of all texts. The functions do nothing: their contracts are the laws.
 
-ghost use Rattle.uca_compact.specs.Laws.{CompactLevelsKeepOrder, CompactLevelsAreReadBack, OnlyCompactLevelsAreRead, CompactKeysAreReadBack, OnlyCompactKeysAreRead, NoCompactKeyBeginsAnother, CompactKeysKeepOrder};
+ghost use Rattle.uca_compact.specs.Laws.{CompactLevelsKeepOrder, CompactLevelsAreReadBack, OnlyCompactLevelsAreRead, CompactKeysAreReadBack, OnlyCompactKeysAreRead, NoCompactKeyBeginsAnother, StoredKeysAreRead, OnlyStoredKeysAreRead, CompactKeysKeepOrder};
 ghost use Rattle.uca_compact.specs.WorkedKeys.{WorkedKeys};
 
 /// Byte order of compact keys is the order of the levels, whatever the plain levels are and whatever follows a key.
@@ -31,6 +31,16 @@ pub fn only_compact_keys_are_read()
 /// Without an identical level no compact key begins another one.
 pub fn no_compact_key_begins_another()
     ensures { NoCompactKeyBeginsAnother }
+{}
+
+/// The levels and code points of a stored key are read from its bytes.
+pub fn stored_keys_are_read()
+    ensures { StoredKeysAreRead }
+{}
+
+/// What is read as a stored key is the key of what was read.
+pub fn only_stored_keys_are_read()
+    ensures { OnlyStoredKeysAreRead }
 {}
 
 /// Byte order of the compact keys of texts is that of their keys, and so the order of the texts. Compact keys are equal
