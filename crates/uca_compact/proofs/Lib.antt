@@ -1,0 +1,15 @@
+pub mod Below
+pub mod CellOrder
+pub mod RunOrder
+pub mod LevelsOrder
+pub mod ReadBack
+pub mod LevelsBack
+pub mod PointOrder
+pub mod TextOrder
+pub mod OnlyCells
+pub mod OnlyLevels
+pub mod OnlyKeys
+pub mod WholeKeys
+pub mod PlainSteps
+pub mod LaterLevels
+pub mod StoredBack

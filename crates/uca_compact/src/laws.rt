@@ -1,0 +1,55 @@
+//! What is true of the compact keys of all texts. The functions do nothing: their contracts are the laws.
+
+ghost use Rattle.uca_compact.specs.Laws.{CompactLevelsKeepOrder, CompactLevelsAreReadBack, OnlyCompactLevelsAreRead, CompactKeysAreReadBack, OnlyCompactKeysAreRead, NoCompactKeyBeginsAnother, StoredKeysAreRead, OnlyStoredKeysAreRead, CompactKeysKeepOrder};
+ghost use Rattle.uca_compact.specs.WorkedKeys.{WorkedKeys};
+
+/// Byte order of compact keys is the order of the levels, whatever the plain levels are and whatever follows a key.
+pub fn compact_levels_keep_order()
+    ensures { CompactLevelsKeepOrder }
+{}
+
+/// Levels are read back from a compact key, whatever follows it.
+pub fn compact_levels_are_read_back()
+    ensures { CompactLevelsAreReadBack }
+{}
+
+/// A reader takes no other bytes: what it reads as levels was written for these levels.
+pub fn only_compact_levels_are_read()
+    ensures { OnlyCompactLevelsAreRead }
+{}
+
+/// The levels and code points of a key are read back from its compact key.
+pub fn compact_keys_are_read_back()
+    ensures { CompactKeysAreReadBack }
+{}
+
+/// A reader takes no other bytes: what it reads as a key was written for this key.
+pub fn only_compact_keys_are_read()
+    ensures { OnlyCompactKeysAreRead }
+{}
+
+/// Without an identical level no compact key begins another one.
+pub fn no_compact_key_begins_another()
+    ensures { NoCompactKeyBeginsAnother }
+{}
+
+/// The levels and code points of a stored key are read from its bytes.
+pub fn stored_keys_are_read()
+    ensures { StoredKeysAreRead }
+{}
+
+/// What is read as a stored key is the key of what was read.
+pub fn only_stored_keys_are_read()
+    ensures { OnlyStoredKeysAreRead }
+{}
+
+/// Byte order of the compact keys of texts is that of their keys, and so the order of the texts. Compact keys are equal
+/// exactly if the keys are.
+pub fn compact_keys_keep_order()
+    ensures { CompactKeysKeepOrder }
+{}
+
+/// The definitions give some compact keys that were worked out by hand.
+pub fn worked_keys()
+    ensures { WorkedKeys }
+{}
