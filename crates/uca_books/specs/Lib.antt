@@ -1,0 +1,5 @@
+pub mod Books
+pub mod BookTexts
+pub mod Laws
+pub mod Worked
+pub mod inside
