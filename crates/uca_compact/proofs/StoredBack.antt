@@ -151,10 +151,11 @@ point_by a b c bytes ps true (Some qs) test is hb hc more h =
     let high : a ≡ (65536 * a + 256 * b + c) / 65536 = omega arith in
     let middle : b ≡ (65536 * a + 256 * b + c) / 256 % 256 = omega arith in
     let low : c ≡ (65536 * a + 256 * b + c) % 256 = omega arith in
-    subst (λ (xs : List ℕ). (all_scalars xs ≡ true) × (a ∷ b ∷ c ∷ bytes ≡ points_bytes xs)) (same_some (n ∷ qs) ps h)
-    (ap (λ (u : Bool). u && all_scalars qs) test ∙ found.0,
-    ap (λ (x : ℕ). x ∷ b ∷ c ∷ bytes) high ∙ ap (λ (x : ℕ). n / 65536 ∷ x ∷ c ∷ bytes) middle ∙ ap (λ (x : ℕ). n / 65536 ∷ n / 256 % 256 ∷ x ∷ bytes) low
-    ∙ ap (λ (xs : List ℕ). n / 65536 ∷ n / 256 % 256 ∷ n % 256 ∷ xs) found.1)
+    subst (λ (xs : List ℕ). (all_scalars xs ≡ true) × (a ∷ b ∷ c ∷ bytes ≡ points_bytes xs)) (same_some (n ∷ qs) ps h) (
+      ap (λ (u : Bool). u && all_scalars qs) test ∙ found.0,
+      ap (λ (x : ℕ). x ∷ b ∷ c ∷ bytes) high ∙ ap (λ (x : ℕ). n / 65536 ∷ x ∷ c ∷ bytes) middle ∙ ap (λ (x : ℕ). n / 65536 ∷ n / 256 % 256 ∷ x ∷ bytes) low
+          ∙ ap (λ (xs : List ℕ). n / 65536 ∷ n / 256 % 256 ∷ n % 256 ∷ xs) found.1,
+    )
 
 points_only : (bytes ps : List ℕ) → AreBytes bytes → stored_points bytes ≡ Some ps → (all_scalars ps ≡ true) × (bytes ≡ points_bytes ps)
 points_only [] ps are h = subst (λ (xs : List ℕ). (all_scalars xs ≡ true) × ([] ≡ points_bytes xs)) (same_some [] ps h) (refl, refl)
@@ -230,6 +231,7 @@ parts_by depth (suc later) bytes k (Some l) are is h =
 -- the law
 pub stored_only : OnlyStoredKeysAreRead
 stored_only depth weighting bytes are k h =
-    let found = parts_by depth (level_count weighting - 1) bytes k (stored_level bytes) are refl h in
-    (record { levels = (found.levels.0 ∙ sym (count_is weighting), found.levels.1); points = found.points; level = found.at_depth },
-    found.is ∙ sym (key_bytes_are depth k))
+    let found = parts_by depth (level_count weighting - 1) bytes k (stored_level bytes) are refl h in (
+      record { levels = (found.levels.0 ∙ sym (count_is weighting), found.levels.1); points = found.points; level = found.at_depth },
+      found.is ∙ sym (key_bytes_are depth k),
+    )

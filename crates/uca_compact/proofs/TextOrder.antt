@@ -155,8 +155,7 @@ keys_keep_order =
     record {
       order = keys_order;
       equal = λ depth weighting b left right h ls rs.
-          (let order = keys_order depth weighting b left right h ls rs in
-          (
+          (let order = keys_order depth weighting b left right h ls rs in (
             same_if (compact_key depth weighting b (text_parts depth weighting left)) (compact_key depth weighting b (text_parts depth weighting right))
                 (key_at depth weighting left) (key_at depth weighting right) order,
             same_if (key_at depth weighting left) (key_at depth weighting right)

@@ -81,9 +81,10 @@ identical_by : (weighting : Weighting) (b : Book) (bytes : List ℕ) (levels : L
 identical_by weighting b bytes levels rest k false ls is test h = nothing h
 identical_by weighting b bytes levels rest k true ls is test h =
     let utf8 = IsUtf8-from_is_utf8 rest test in
-    subst (IsKeyOf Identical weighting b bytes) (same_some (record { levels = levels; points = chars rest }) k h)
-    (record { levels = ls; points = scalars-chars rest utf8; level = refl },
-    is ∙ ap (λ (xs : List ℕ). compact plain_level (forms_of weighting b) levels ++ xs) (sym (encodes-chars rest utf8)))
+    subst (IsKeyOf Identical weighting b bytes) (same_some (record { levels = levels; points = chars rest }) k h) (
+      record { levels = ls; points = scalars-chars rest utf8; level = refl },
+      is ∙ ap (λ (xs : List ℕ). compact plain_level (forms_of weighting b) levels ++ xs) (sym (encodes-chars rest utf8)),
+    )
 
 rest_by : (depth : Depth) (weighting : Weighting) (b : Book) (bytes : List ℕ) (levels : List (List ℕ)) (rest : List ℕ) (k : KeyParts)
     → AreLevels (level_count weighting) levels → bytes ≡ compact plain_level (forms_of weighting b) levels ++ rest

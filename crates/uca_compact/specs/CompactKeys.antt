@@ -65,8 +65,8 @@ end_by Less all later more = all - suc later
 end_by Equal all later more = more
 end_by Greater all later more = all + suc later
 
--- The end of a level: `all` if all levels after it are plain. Else it tells the first that is not: it is less by the number of
--- levels from that one on if that one is less than the plain one, and greater by as many if it is greater.
+-- The end of a level: `all` if all levels after it are plain. Else it tells the first that is not plain. Count the levels from
+-- that one on. The end is less than `all` by that count if the level is less than the plain one, else greater by it.
 abbrev pub end_of : Plain → (all : ℕ) → (earlier levels : List (List ℕ)) → ℕ
 end_of plain all earlier [] = all
 end_of plain all earlier (level ∷ later) =

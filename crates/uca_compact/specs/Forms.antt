@@ -46,8 +46,8 @@ pub record IsForm (f : Form) : Type 0 where
   pub few_lesser : length f.lesser < 256
   pub few_greater : first_cell f + length f.greater < 256
 
--- how many ends a level has before so many others: they tell which of these is the first that is not plain, and whether it is
--- less or greater than the plain one
+-- How many ends a level has before so many others. They tell which of these is the first that is not plain. It is less or
+-- greater than the plain one.
 abbrev pub ends_before : ℕ → ℕ
 ends_before later = suc (2 * later)
 

@@ -64,7 +64,13 @@ pub(crate) fn push_three<A: Allocator, B: Allocator>(
     let third = compare_run(cases, 2, accents.len());
     let end = end_by(second, 2, 1, end_by(third, 2, 0, 2));
     push_level(out, &book.letters_form(2), end, letters)?;
-    push_later(out, &book.accents_form(1), second, end_by(third, 1, 0, 1), accents)?;
+    push_later(
+        out,
+        &book.accents_form(1),
+        second,
+        end_by(third, 1, 0, 1),
+        accents,
+    )?;
     push_later(out, &book.cases_form(0), third, 0, cases)?;
     Ok(())
 }
@@ -92,7 +98,13 @@ pub(crate) fn push_four<A: Allocator, B: Allocator>(
     let second_end = end_by(third, 2, 1, end_by(fourth, 2, 0, 2));
     push_level(out, &book.letters_form(3), first_end, letters)?;
     push_later(out, &book.accents_form(2), second, second_end, accents)?;
-    push_later(out, &book.cases_form(1), third, end_by(fourth, 1, 0, 1), cases)?;
+    push_later(
+        out,
+        &book.cases_form(1),
+        third,
+        end_by(fourth, 1, 0, 1),
+        cases,
+    )?;
     push_later(out, &book.variables_form(), fourth, 0, variables)?;
     Ok(())
 }
