@@ -13,3 +13,4 @@ pub mod WholeKeys
 pub mod PlainSteps
 pub mod LaterLevels
 pub mod StoredBack
+pub mod StoredSteps

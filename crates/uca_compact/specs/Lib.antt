@@ -6,3 +6,4 @@ pub mod Reading
 pub mod StoredParts
 pub mod WorkedKeys
 pub mod Laws
+pub mod inside

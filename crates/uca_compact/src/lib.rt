@@ -3,10 +3,13 @@
 #![tactic(auto)]
 
 mod books;
+mod compacter;
 pub mod laws;
 pub mod levels;
 mod plain;
+mod stored;
 mod written_levels;
 
 pub use books::Book;
+pub use compacter::KeyCompacter;
 pub use levels::{LevelForm, push_level};
