@@ -1,5 +1,5 @@
 -- The parts of stored keys are read, and nothing is read from other bytes.
-use Rattle.std.proofs.Common.{◌≡◌, ℕ, zero, suc, ◌+◌, ◌*◌, ◌-◌, ◌/◌, ◌%◌, ◌<◌, ◌≤◌, List, [], ◌∷◌, ◌++◌, Bool, true, false, ◌&&◌, cond, Option, Some, None, option_map, nat_eq, length, refl, ap, sym, subst, ◌∙◌, arith, append_assoc, append-nil}
+use Rattle.std.proofs.Common.{◌≡◌, ℕ, zero, suc, ◌+◌, ◌*◌, ◌-◌, ◌/◌, ◌%◌, ◌<◌, List, [], ◌∷◌, ◌++◌, Bool, true, false, ◌&&◌, cond, Option, Some, None, option_map, nat_eq, length, refl, ap, sym, subst, ◌∙◌, arith, append_assoc, append-nil}
 use Rattle.std.specs.List.{AllByRecursion}
 use Rattle.std.specs.Str.{all_scalars}
 use Rattle.std.proofs.lemmas.Bool.Decides.{nat_tests}
@@ -11,7 +11,7 @@ use Rattle.uca_weights.specs.declared.Weighting.TheVariants.{NonIgnorable, Shift
 use Rattle.uca_order.specs.Levels.{level_bytes, levels_bytes, level_count}
 use Rattle.uca_order.specs.Depths.{points_bytes}
 use Rattle.uca_compact.specs.Forms.{AreWeights, AreLevels}
-use Rattle.uca_compact.specs.CompactKeys.{KeyParts, points_at, stored_key, AreParts}
+use Rattle.uca_compact.specs.CompactKeys.{KeyParts, points_at, stored_key}
 use Rattle.uca_compact.specs.StoredParts.{StoredLevel, weight_then, stored_level, stored_points, points_after, level_before, after_level, parts_from, stored_parts}
 use Rattle.uca_compact.specs.Laws.{StoredKeysAreRead, OnlyStoredKeysAreRead}
 use Rattle.uca_compact.proofs.OnlyCells.{AreBytes, bytes_after, nothing, same_some}
@@ -151,10 +151,11 @@ point_by a b c bytes ps true (Some qs) test is hb hc more h =
     let high : a ≡ (65536 * a + 256 * b + c) / 65536 = omega arith in
     let middle : b ≡ (65536 * a + 256 * b + c) / 256 % 256 = omega arith in
     let low : c ≡ (65536 * a + 256 * b + c) % 256 = omega arith in
-    subst (λ (xs : List ℕ). (all_scalars xs ≡ true) × (a ∷ b ∷ c ∷ bytes ≡ points_bytes xs)) (same_some (n ∷ qs) ps h)
-    (ap (λ (u : Bool). u && all_scalars qs) test ∙ found.0,
-    ap (λ (x : ℕ). x ∷ b ∷ c ∷ bytes) high ∙ ap (λ (x : ℕ). n / 65536 ∷ x ∷ c ∷ bytes) middle ∙ ap (λ (x : ℕ). n / 65536 ∷ n / 256 % 256 ∷ x ∷ bytes) low
-    ∙ ap (λ (xs : List ℕ). n / 65536 ∷ n / 256 % 256 ∷ n % 256 ∷ xs) found.1)
+    subst (λ (xs : List ℕ). (all_scalars xs ≡ true) × (a ∷ b ∷ c ∷ bytes ≡ points_bytes xs)) (same_some (n ∷ qs) ps h) (
+      ap (λ (u : Bool). u && all_scalars qs) test ∙ found.0,
+      ap (λ (x : ℕ). x ∷ b ∷ c ∷ bytes) high ∙ ap (λ (x : ℕ). n / 65536 ∷ x ∷ c ∷ bytes) middle ∙ ap (λ (x : ℕ). n / 65536 ∷ n / 256 % 256 ∷ x ∷ bytes) low
+          ∙ ap (λ (xs : List ℕ). n / 65536 ∷ n / 256 % 256 ∷ n % 256 ∷ xs) found.1,
+    )
 
 points_only : (bytes ps : List ℕ) → AreBytes bytes → stored_points bytes ≡ Some ps → (all_scalars ps ≡ true) × (bytes ≡ points_bytes ps)
 points_only [] ps are h = subst (λ (xs : List ℕ). (all_scalars xs ≡ true) × ([] ≡ points_bytes xs)) (same_some [] ps h) (refl, refl)
@@ -230,6 +231,7 @@ parts_by depth (suc later) bytes k (Some l) are is h =
 -- the law
 pub stored_only : OnlyStoredKeysAreRead
 stored_only depth weighting bytes are k h =
-    let found = parts_by depth (level_count weighting - 1) bytes k (stored_level bytes) are refl h in
-    (record { levels = (found.levels.0 ∙ sym (count_is weighting), found.levels.1); points = found.points; level = found.at_depth },
-    found.is ∙ sym (key_bytes_are depth k))
+    let found = parts_by depth (level_count weighting - 1) bytes k (stored_level bytes) are refl h in (
+      record { levels = (found.levels.0 ∙ sym (count_is weighting), found.levels.1); points = found.points; level = found.at_depth },
+      found.is ∙ sym (key_bytes_are depth k),
+    )

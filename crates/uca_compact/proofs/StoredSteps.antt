@@ -10,10 +10,10 @@ use Rattle.uca_weights.specs.declared.Weighting.TheVariants.{NonIgnorable, Shift
 use Rattle.uca_compact.specs.Forms.{AreWeights, Book, forms_of}
 use Rattle.uca_compact.specs.PlainLevels.{plain_level}
 use Rattle.uca_compact.specs.CompactKeys.{compact, compact_key}
-use Rattle.uca_compact.specs.StoredParts.{StoredLevel, weight_then, stored_level, stored_points, points_after, level_before, after_level, parts_from, stored_parts}
+use Rattle.uca_compact.specs.StoredParts.{StoredLevel, weight_then, stored_level, stored_points, points_after, level_before, parts_from, stored_parts}
 use Rattle.uca_compact.specs.declared.stored.StoredEnd.{StoredEnd}
 use Rattle.uca_compact.specs.declared.stored.StoredEnd.TheVariants.{Next, Key, Single}
-use Rattle.uca_compact.specs.inside.StoredEnds.{level_of, next_of, weights_before, points_of, with_points}
+use Rattle.uca_compact.specs.inside.StoredEnds.{level_of, weights_before, points_of, with_points}
 use Rattle.uca_compact.proofs.OnlyLevels.{weights_append}
 
 -- ---- The next bytes
@@ -56,8 +56,7 @@ pub weights_step : (front bytes items : List ℕ) (at w : ℕ) (all : Option Sto
     → weights_before front (stored_level (drop at bytes)) ≡ all
     → (at + 2 ≤ length bytes) × AreWeights items × (weights_before items (stored_level (drop (at + 2) bytes)) ≡ all)
 weights_step front bytes items at w all within is some small weights added h =
-    let more = drop (at + 2) bytes in
-    (
+    let more = drop (at + 2) bytes in (
       omega arith,
       subst AreWeights (sym added) (weights_append front (w ∷ []) weights ((omega (arith, some), small), tt)),
       ap (λ (xs : List ℕ). weights_before xs (stored_level more)) added
@@ -92,8 +91,7 @@ pub points_step : (out bytes items : List ℕ) (at n : ℕ) (all : Option (List 
     → with_points out (stored_points (drop at bytes)) ≡ all
     → (at + 3 ≤ length bytes) × (with_points items (stored_points (drop (at + 3) bytes)) ≡ all)
 points_step out bytes items at n all within is test added h =
-    let more = drop (at + 3) bytes in
-    (
+    let more = drop (at + 3) bytes in (
       omega arith,
       ap (λ (xs : List ℕ). with_points xs (stored_points more)) added
           ∙ sym (with_then out n (stored_points more))
@@ -146,6 +144,7 @@ last_parts depth bytes ws e h = ap (parts_from depth 0) h ∙ by_end e
         ≡ option_map (λ points. record { levels = ws ∷ []; points = points }) o
     points_by None = refl
     points_by (Some ps) = refl
+
     by_end : (x : StoredEnd) → parts_from depth 0 (level_of x ws) ≡ option_map (λ points. record { levels = ws ∷ []; points = points }) (points_of depth x)
     by_end (Next rest) = points_by (points_after depth (Some rest.now))
     by_end Key = points_by (points_after depth None)

@@ -1,12 +1,12 @@
 -- Compact keys are read back, and no other bytes are.
-use Rattle.std.proofs.Common.{◌≡◌, ℕ, zero, suc, ◌+◌, ◌-◌, ◌<◌, List, [], ◌∷◌, ◌++◌, Bool, true, false, cond, Option, Some, None, length, refl, ap, sym, subst, ◌∙◌, arith, append_assoc, append-nil, chars, IsUtf8, encode_utf8_all}
+use Rattle.std.proofs.Common.{◌≡◌, ℕ, zero, suc, ◌+◌, ◌-◌, ◌<◌, List, [], ◌∷◌, ◌++◌, Bool, true, false, cond, Option, Some, None, length, refl, ap, sym, subst, ◌∙◌, arith, append-nil, chars, IsUtf8, encode_utf8_all}
 use Rattle.std.specs.Str.{is_utf8}
 use Rattle.std.proofs.lemmas.Str.{IsUtf8-from_is_utf8, is_utf8-from_IsUtf8, chars_from_encodes, encodes-chars, scalars-chars}
 use Rattle.uca_weights.specs.declared.Depth.{Depth}
 use Rattle.uca_weights.specs.declared.Depth.TheVariants.{Weights, Identical}
 use Rattle.uca_weights.specs.declared.Weighting.{Weighting}
 use Rattle.uca_order.specs.Levels.{level_count}
-use Rattle.uca_compact.specs.Forms.{AreForms, AreWeights, AreLevels, Book, IsBook, forms_of}
+use Rattle.uca_compact.specs.Forms.{AreWeights, AreLevels, Book, IsBook, forms_of}
 use Rattle.uca_compact.specs.PlainLevels.{copies, letter_count, plain_level}
 use Rattle.uca_compact.specs.CompactKeys.{compact, KeyParts, AreParts, compact_key}
 use Rattle.uca_compact.specs.Reading.{ReadLevels, read_levels, parts_then, with_rest, read_key}
@@ -81,9 +81,10 @@ identical_by : (weighting : Weighting) (b : Book) (bytes : List ℕ) (levels : L
 identical_by weighting b bytes levels rest k false ls is test h = nothing h
 identical_by weighting b bytes levels rest k true ls is test h =
     let utf8 = IsUtf8-from_is_utf8 rest test in
-    subst (IsKeyOf Identical weighting b bytes) (same_some (record { levels = levels; points = chars rest }) k h)
-    (record { levels = ls; points = scalars-chars rest utf8; level = refl },
-    is ∙ ap (λ (xs : List ℕ). compact plain_level (forms_of weighting b) levels ++ xs) (sym (encodes-chars rest utf8)))
+    subst (IsKeyOf Identical weighting b bytes) (same_some (record { levels = levels; points = chars rest }) k h) (
+      record { levels = ls; points = scalars-chars rest utf8; level = refl },
+      is ∙ ap (λ (xs : List ℕ). compact plain_level (forms_of weighting b) levels ++ xs) (sym (encodes-chars rest utf8)),
+    )
 
 rest_by : (depth : Depth) (weighting : Weighting) (b : Book) (bytes : List ℕ) (levels : List (List ℕ)) (rest : List ℕ) (k : KeyParts)
     → AreLevels (level_count weighting) levels → bytes ≡ compact plain_level (forms_of weighting b) levels ++ rest

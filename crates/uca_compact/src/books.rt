@@ -9,8 +9,8 @@ use crate::levels::LevelForm;
 use std::alloc::{Allocator, Global};
 use std::marker::Model;
 
-/// The starts of cells of weights: by them weights are written in one byte, two or three. A compact key is read by the book
-/// that it was written by.
+/// The starts of cells of weights: by them weights are written in one byte, two or three. A compact key is read by the
+/// book that it was written by.
 #[derive(Drop)]
 pub struct Book<A: Allocator = Global> {
     letters: Vec<u16, A>,
@@ -29,7 +29,8 @@ impl<A: Allocator> Model for Book<A> {
     ghost invariant = { λ b. forms.IsBook (record { letters = b.letters.items; accents = b.accents.items; cases = b.cases.items; variables = b.variables.items }) };
 }
 
-// Whether cells rise: the first one starts at `start`, the next ones at these starts, and the last one ends before `end`.
+// Whether cells rise: the first one starts at `start`, the next ones at these starts, and the last one ends before
+// `end`.
 fn are_rising(start: u32, later: &[u16], end: u32) -> bool
     ensures { IsTrue result ↔ forms.AreRising start later.now end }
 {
@@ -40,11 +41,13 @@ fn are_rising(start: u32, later: &[u16], end: u32) -> bool
 }
 
 impl<A: Allocator> Book<A> {
-    /// A book by the starts of the cells of each level, after the first cell. It starts at 0001 for weights of level 1, at 0021
-    /// for those of level 2 above the common one, at 0003 for those of level 3, and at 0001 for those of level 4 below FFFF.
+    /// A book by the starts of the cells of each level, after the first cell.
     ///
-    /// It returns `None` if the starts of a level do not rise, the last one is too great, or there are too many: the most are
-    /// 245, 115, 95 and 255.
+    /// The first cells start at 0001 for weights of level 1, and at 0021 for those of level 2 above the common weight.
+    /// They start at 0003 for those of level 3, and at 0001 for those of level 4 below FFFF.
+    ///
+    /// It returns `None` if the starts of a level do not rise, or the last one is too great. So it does if there are
+    /// more than 245 starts of level 1, 115 of level 2, 95 of level 3 or 255 of level 4.
     pub fn new(
         letters: Vec<u16, A>,
         accents: Vec<u16, A>,
@@ -54,7 +57,10 @@ impl<A: Allocator> Book<A> {
         ensures some { IfSome result (λ book. book ≡ record { letters = letters.items; accents = accents.items; cases = cases.items; variables = variables.items }) }
         ensures none { IfNone result (forms.IsBook (record { letters = letters.items; accents = accents.items; cases = cases.items; variables = variables.items }) → ⊥) }
     {
-        let are_few = letters.len() < 246 && accents.len() < 116 && cases.len() < 96 && variables.len() < 256;
+        let are_few = letters.len() < 246
+            && accents.len() < 116
+            && cases.len() < 96
+            && variables.len() < 256;
         if !are_few
             || !are_rising(1, &letters, 0x1_0000)
             || !are_rising(0x21, &accents, 0x1_0000)

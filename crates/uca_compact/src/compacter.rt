@@ -57,24 +57,41 @@ impl<A: Allocator + Copy> KeyCompacter<A> {
 }
 
 impl<A: Allocator> KeyCompacter<A> {
-    /// Writes the compact key of a stored key over the bytes that were there, and returns `true`. The memory is used again.
+    /// Writes the compact key of a stored key over the bytes that were there, and returns `true`. The memory is used
+    /// again.
     ///
-    /// It returns `false` if the bytes are no key of the settings: if they have too few levels, too many, or a single byte
-    /// at the end, or if at depth `Identical` other bytes than whole code points follow the weights: three bytes each, high
-    /// byte first, each a Unicode scalar value. What was written is then unspecified.
+    /// It returns `false` if the bytes are no key of the settings: if they have too few levels, too many, or a single
+    /// byte at the end. So it does at depth `Identical` if what follows the weights is not whole code points: three
+    /// bytes each, high byte first, each a Unicode scalar value. What was written is then unspecified.
     ///
     /// # Errors
     ///
     /// An allocation failed. The bytes are then unspecified.
-    pub fn write_compact<B: Allocator>(&mut self, key: &[u8], compact: &mut Vec<u8, B>) -> Result<bool, AllocError>
+    pub fn write_compact<B: Allocator>(
+        &mut self,
+        key: &[u8],
+        compact: &mut Vec<u8, B>,
+    ) -> Result<bool, AllocError>
         ensures same { self.new ≡ self.old }
         ensures key { IfOk result (λ found. option_map (compact_key self.old.settings.depth self.old.settings.weighting self.old.book)
             (stored_parts self.old.settings.depth self.old.settings.weighting key.now) ≡ (if found then Some compact.new.items else None)) }
     {
         compact.clear();
         match self.settings.weighting {
-            Weighting::NonIgnorable => write_three(key, self.settings.depth, &self.book, &mut self.levels, compact),
-            Weighting::Shifted => write_four(key, self.settings.depth, &self.book, &mut self.levels, compact),
+            Weighting::NonIgnorable => write_three(
+                key,
+                self.settings.depth,
+                &self.book,
+                &mut self.levels,
+                compact,
+            ),
+            Weighting::Shifted => write_four(
+                key,
+                self.settings.depth,
+                &self.book,
+                &mut self.levels,
+                compact,
+            ),
         }
     }
 }
@@ -98,7 +115,13 @@ fn write_three<A: Allocator, B: Allocator>(
         return Ok(false);
     };
     let end = read_weights(third, &mut levels.cases)?;
-    push_three(compact, book, &levels.letters, &levels.accents, &levels.cases)?;
+    push_three(
+        compact,
+        book,
+        &levels.letters,
+        &levels.accents,
+        &levels.cases,
+    )?;
     let found = push_points_after(compact, depth, end)?;
     Ok(found)
 }
@@ -125,7 +148,14 @@ fn write_four<A: Allocator, B: Allocator>(
         return Ok(false);
     };
     let end = read_weights(fourth, &mut levels.variables)?;
-    push_four(compact, book, &levels.letters, &levels.accents, &levels.cases, &levels.variables)?;
+    push_four(
+        compact,
+        book,
+        &levels.letters,
+        &levels.accents,
+        &levels.cases,
+        &levels.variables,
+    )?;
     let found = push_points_after(compact, depth, end)?;
     Ok(found)
 }

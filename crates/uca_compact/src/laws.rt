@@ -1,6 +1,8 @@
 //! What is true of the compact keys of all texts. The functions do nothing: their contracts are the laws.
 
-ghost use Rattle.uca_compact.specs.Laws.{CompactLevelsKeepOrder, CompactLevelsAreReadBack, OnlyCompactLevelsAreRead, CompactKeysAreReadBack, OnlyCompactKeysAreRead, NoCompactKeyBeginsAnother, StoredKeysAreRead, OnlyStoredKeysAreRead, CompactKeysKeepOrder};
+ghost use Rattle.uca_compact.specs.Laws.{CompactLevelsKeepOrder, CompactLevelsAreReadBack, OnlyCompactLevelsAreRead};
+ghost use Rattle.uca_compact.specs.Laws.{CompactKeysAreReadBack, OnlyCompactKeysAreRead, NoCompactKeyBeginsAnother};
+ghost use Rattle.uca_compact.specs.Laws.{StoredKeysAreRead, OnlyStoredKeysAreRead, CompactKeysKeepOrder};
 ghost use Rattle.uca_compact.specs.WorkedKeys.{WorkedKeys};
 
 /// Byte order of compact keys is the order of the levels, whatever the plain levels are and whatever follows a key.

@@ -24,7 +24,12 @@ pub struct LevelForm<'a> {
 }
 
 // Writes the number of a cell, and an offset in it.
-fn push_offset<A: Allocator>(out: &mut Vec<u8, A>, number: u8, width: u32, offset: u32) -> Result<(), AllocError>
+fn push_offset<A: Allocator>(
+    out: &mut Vec<u8, A>,
+    number: u8,
+    width: u32,
+    offset: u32,
+) -> Result<(), AllocError>
     requires two_bytes { offset < 65536 }
     requires inside { offset < width }
     ensures { OnOk result (out.new.items ≡ out.old.items ++ (number ∷ offset_bytes width offset)) }
@@ -105,7 +110,14 @@ fn push_weight<A: Allocator>(
     if run > 0 {
         out.push((full + longest - run) as u8)?;
     }
-    push_cell(out, (full + longest) as u8, common + 1, form.greater, 65536, weight)?;
+    push_cell(
+        out,
+        (full + longest) as u8,
+        common + 1,
+        form.greater,
+        65536,
+        weight,
+    )?;
     Ok(0)
 }
 

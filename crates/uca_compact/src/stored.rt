@@ -69,14 +69,16 @@ fn push_point<A: Allocator>(out: &mut Vec<u8, A>, point: char) -> Result<(), All
     Ok(())
 }
 
-// Writes code points of three bytes each as UTF-8, and returns whether the bytes are such code points. If they are not, what
-// was written is unspecified.
+// Writes code points of three bytes each as UTF-8, and returns whether the bytes are such code points. If they are not,
+// what was written is unspecified.
 fn push_points<A: Allocator>(out: &mut Vec<u8, A>, bytes: &[u8]) -> Result<bool, AllocError>
     ensures { IfOk result (λ found. with_points out.old.items (stored_points bytes.now) ≡ (if found then Some out.new.items else None)) }
 {
     let mut at = 0;
     while at + 2 < bytes.len() {
-        let number = 65536 * u32::from(bytes[at]) + 256 * u32::from(bytes[at + 1]) + u32::from(bytes[at + 2]);
+        let number = 65536 * u32::from(bytes[at])
+            + 256 * u32::from(bytes[at + 1])
+            + u32::from(bytes[at + 2]);
         match char::from_u32(number) {
             Some(point) => push_point(out, point)?,
             None => return Ok(false),
@@ -87,7 +89,11 @@ fn push_points<A: Allocator>(out: &mut Vec<u8, A>, bytes: &[u8]) -> Result<bool,
 }
 
 /// Writes the code points after the last level of weights, which ends so, and returns whether a key may end so.
-pub(crate) fn push_points_after<A: Allocator>(out: &mut Vec<u8, A>, depth: Depth, end: StoredEnd<'_>) -> Result<bool, AllocError>
+pub(crate) fn push_points_after<A: Allocator>(
+    out: &mut Vec<u8, A>,
+    depth: Depth,
+    end: StoredEnd<'_>,
+) -> Result<bool, AllocError>
     ensures { IfOk result (λ found. with_points out.old.items (points_of depth end.entry) ≡ (if found then Some out.new.items else None)) }
 {
     match (depth, end) {

@@ -15,7 +15,8 @@ use crate::plain::{compare_run, letter_count};
 use std::alloc::{AllocError, Allocator};
 use std::cmp::Ordering;
 
-// The end of a level, by how the next level compares to the plain one. `more` is the end by the `later` levels after that one.
+// The end of a level, by how the next level compares to the plain one. `more` is the end by the `later` levels after
+// that one.
 fn end_by(order: Ordering, all: u8, later: u8, more: u8) -> u8
     requires few { all ≤ 3 }
     requires within { later < all }
@@ -64,7 +65,13 @@ pub(crate) fn push_three<A: Allocator, B: Allocator>(
     let third = compare_run(cases, 2, accents.len());
     let end = end_by(second, 2, 1, end_by(third, 2, 0, 2));
     push_level(out, &book.letters_form(2), end, letters)?;
-    push_later(out, &book.accents_form(1), second, end_by(third, 1, 0, 1), accents)?;
+    push_later(
+        out,
+        &book.accents_form(1),
+        second,
+        end_by(third, 1, 0, 1),
+        accents,
+    )?;
     push_later(out, &book.cases_form(0), third, 0, cases)?;
     Ok(())
 }
@@ -92,7 +99,13 @@ pub(crate) fn push_four<A: Allocator, B: Allocator>(
     let second_end = end_by(third, 2, 1, end_by(fourth, 2, 0, 2));
     push_level(out, &book.letters_form(3), first_end, letters)?;
     push_later(out, &book.accents_form(2), second, second_end, accents)?;
-    push_later(out, &book.cases_form(1), third, end_by(fourth, 1, 0, 1), cases)?;
+    push_later(
+        out,
+        &book.cases_form(1),
+        third,
+        end_by(fourth, 1, 0, 1),
+        cases,
+    )?;
     push_later(out, &book.variables_form(), fourth, 0, variables)?;
     Ok(())
 }

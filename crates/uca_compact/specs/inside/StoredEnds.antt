@@ -1,5 +1,5 @@
 -- How a program finds the levels of stored keys.
-use Rattle.std.specs.Prelude.{◌≡◌, ℕ, ◌+◌, List, ◌++◌, Option, Some, None, option_map}
+use Rattle.std.specs.Prelude.{ℕ, List, ◌++◌, Option, Some, None, option_map}
 use Rattle.std.specs.Str.{encode_utf8_all}
 use Rattle.uca_weights.specs.declared.Depth.{Depth}
 use Rattle.uca_compact.specs.declared.stored.StoredEnd.{StoredEnd}

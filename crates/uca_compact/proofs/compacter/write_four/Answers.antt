@@ -23,8 +23,8 @@ returns g c =
     let all : c.push_four.new.out.items ≡ code (a ∷ b ∷ d ∷ v ∷ []) =
     c.in_ok-push_four.ensures ∙ ap (λ (xs : List ℕ). xs ++ code (c.deref.result.now ∷ c.deref-2.result.now ∷ c.deref-3.result.now ∷ c.deref-4.result.now ∷ [])) c.requires ∙ ap code lists in
     four_parts c.args.depth c.args.book.now c.args.key.now c.in-Some.second.now c.in-Some-2.third.now c.in-Some-3.fourth.now a b d v c.in_ok-end.end
-    (if_some (λ rest. stored_level c.args.key.now ≡ Some (record { weights = a; rest = Some rest.now })) c.in-Some.is c.in_ok-second.ensures.level) 
-    (if_some (λ rest. stored_level c.in-Some.second.now ≡ Some (record { weights = b; rest = Some rest.now })) c.in-Some-2.is c.in_ok-third.ensures.level) 
+    (if_some (λ rest. stored_level c.args.key.now ≡ Some (record { weights = a; rest = Some rest.now })) c.in-Some.is c.in_ok-second.ensures.level)
+    (if_some (λ rest. stored_level c.in-Some.second.now ≡ Some (record { weights = b; rest = Some rest.now })) c.in-Some-2.is c.in_ok-third.ensures.level)
     (if_some (λ rest. stored_level c.in-Some-2.third.now ≡ Some (record { weights = d; rest = Some rest.now })) c.in-Some-3.is c.in_ok-fourth.ensures.level) c.in_ok-end.ensures.level
     ∙ ap (λ (xs : List ℕ). with_points xs (points_of c.args.depth c.in_ok-end.end)) (sym all)
     ∙ c.in_ok-found.ensures
