@@ -14,3 +14,4 @@ pub mod PlainSteps
 pub mod LaterLevels
 pub mod StoredBack
 pub mod StoredSteps
+pub mod Places

@@ -1,1 +1,2 @@
 pub mod StoredEnds
+pub mod Places
