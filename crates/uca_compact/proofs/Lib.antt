@@ -13,3 +13,5 @@ pub mod WholeKeys
 pub mod PlainSteps
 pub mod LaterLevels
 pub mod StoredBack
+pub mod StoredSteps
+pub mod Places

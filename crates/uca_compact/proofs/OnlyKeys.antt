@@ -1,6 +1,5 @@
 -- Levels are read only from the bytes that are written for them.
-use Rattle.std.proofs.Common.{◌≡◌, ℕ, zero, suc, ◌+◌, ◌*◌, ◌-◌, ◌<◌, ◌≤◌, List, [], ◌∷◌, ◌++◌, Bool, true, false, cond, Option, Some, None, length, min, refl, ap, sym, subst, ◌∙◌, arith, append_assoc}
-use Rattle.std.specs.List.{AllByRecursion}
+use Rattle.std.proofs.Common.{◌≡◌, ℕ, zero, suc, ◌<◌, List, [], ◌∷◌, ◌++◌, Bool, true, false, cond, Option, Some, None, length, refl, ap, sym, subst, ◌∙◌, arith, append_assoc}
 use Rattle.std.specs.Ordering.{nat_cmp, is_eq}
 use Rattle.std.specs.Str.{bytes_eq}
 use Rattle.std.specs.declared.cmp.Ordering.{Ordering}
@@ -11,7 +10,7 @@ use Rattle.uca_order.specs.Levels.{lexicographic}
 use Rattle.uca_order.proofs.KeyOrder.{lexicographic_itself}
 use Rattle.uca_compact.specs.Forms.{Form, IsForm, ends_before, AreForms, AreWeights, AreLevels}
 use Rattle.uca_compact.specs.CompactKeys.{Plain, level_code, end_by, end_of, ended_level, later_levels, compact}
-use Rattle.uca_compact.specs.Reading.{ReadLevel, read_level, ReadLevels, with_level, level_then, plain_count, is_on_side, read_later, read_levels}
+use Rattle.uca_compact.specs.Reading.{ReadLevel, read_level, ReadLevels, with_level, level_then, plain_count, is_on_side, read_later}
 use Rattle.uca_compact.specs.Laws.{OnlyCompactLevelsAreRead}
 use Rattle.uca_compact.proofs.OnlyCells.{AreBytes, bytes_after, nothing, same_some}
 use Rattle.uca_compact.proofs.OnlyLevels.{IsWritten, level_only}

@@ -1,5 +1,5 @@
 -- A level is read only from the bytes that are written for it.
-use Rattle.std.proofs.Common.{◌≡◌, ◌≢◌, inl, inr, ℕ, zero, suc, ◌+◌, ◌*◌, ◌-◌, ◌/◌, ◌%◌, ◌<◌, ◌≤◌, List, [], ◌∷◌, ◌++◌, Bool, true, false, cond, Option, Some, None, nat_eq, nat_lt, length, refl, ap, sym, subst, ◌∙◌, arith, append_assoc, append-nil}
+use Rattle.std.proofs.Common.{◌≡◌, ◌≢◌, ℕ, zero, suc, ◌+◌, ◌*◌, ◌-◌, ◌/◌, ◌%◌, ◌<◌, ◌≤◌, List, [], ◌∷◌, ◌++◌, Bool, true, false, cond, Option, Some, None, nat_eq, nat_lt, length, refl, ap, sym, subst, ◌∙◌, arith, append_assoc, append-nil}
 use Rattle.std.specs.Ordering.{nat_cmp}
 use Rattle.std.specs.declared.cmp.Ordering.{Ordering}
 use Rattle.std.specs.declared.cmp.Ordering.TheVariants.{Less, Equal, Greater}
@@ -10,7 +10,7 @@ use Rattle.uca_compact.specs.Forms.{Form, step, full, first_cell, IsForm, AreWei
 use Rattle.uca_compact.specs.PlainLevels.{copies}
 use Rattle.uca_compact.specs.CompactKeys.{cell, run_before_greater, run_after, written, level_code}
 use Rattle.uca_compact.specs.Reading.{ReadNumber, read_cell, ReadLevel, with_weights, with_weight, lesser_then, greater_then, longest_run_then, read_steps, read_level}
-use Rattle.uca_compact.proofs.OnlyCells.{AreBytes, bytes_after, nothing, same_some, IsInCells, lesser_only, greater_only}
+use Rattle.uca_compact.proofs.OnlyCells.{AreBytes, bytes_after, nothing, same_some, lesser_only, greater_only}
 
 -- ---- Runs
 

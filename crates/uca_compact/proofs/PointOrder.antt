@@ -28,7 +28,7 @@ longer front back a b h less same =
           (below_after front (tail a ∷ []) (tail b ∷ []) (inl (omega (arith, eq.1))))
     ]
 
--- two bytes, three and four; the first one has the highest bits
+-- two bytes, three and four: the first has the highest bits
 abbrev two_of : ℕ → ℕ → List ℕ
 two_of k n = (k + n / 64) ∷ tail n ∷ []
 

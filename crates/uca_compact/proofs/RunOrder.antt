@@ -46,7 +46,7 @@ after_run f end (w ∷ ws) n ends short =
       | Greater ↦ (first_cell f - suc n, cell (first_cell f) (suc f.common) f.greater 65536 w ++ level_code f end 0 ws, omega (arith, room (suc n) f.longest (step f) short), omega arith, refl)
     ]
 
--- ---- The first byte of two levels: the first level ends, or has a lesser weight
+-- ---- The first bytes of two levels, where the first level ends or has a lesser weight
 
 -- the byte before a greater weight, or its cell
 pub greater_from : (f : Form) (run w : ℕ) (more : List ℕ) → run < f.longest → FirstFrom (suc (full f)) ((run_before_greater f run ++ cell (first_cell f) (suc f.common) f.greater 65536 w) ++ more)
@@ -95,8 +95,8 @@ common_below_greater f d e (suc n) w vs ws ends short =
 
 -- ---- Order
 
--- The first list with its end comes before the second. Where they first differ, it has the lesser weight, or it ends there.
--- Or they are equal, and it has the lesser end.
+-- The first list with its end comes before the second. Where they first differ, it has the lesser weight or ends. Or
+-- they are equal, and it has the lesser end.
 abbrev pub Precedes : List ℕ → ℕ → List ℕ → ℕ → Type 0
 Precedes [] d [] e = d < e
 Precedes [] d (w ∷ ws) e = ⊤

@@ -1,5 +1,5 @@
 -- The parts of stored keys are read, and nothing is read from other bytes.
-use Rattle.std.proofs.Common.{◌≡◌, ℕ, zero, suc, ◌+◌, ◌*◌, ◌-◌, ◌/◌, ◌%◌, ◌<◌, ◌≤◌, List, [], ◌∷◌, ◌++◌, Bool, true, false, ◌&&◌, cond, Option, Some, None, option_map, nat_eq, length, refl, ap, sym, subst, ◌∙◌, arith, append_assoc, append-nil}
+use Rattle.std.proofs.Common.{◌≡◌, ℕ, zero, suc, ◌+◌, ◌*◌, ◌-◌, ◌/◌, ◌%◌, ◌<◌, List, [], ◌∷◌, ◌++◌, Bool, true, false, ◌&&◌, cond, Option, Some, None, option_map, nat_eq, length, refl, ap, sym, subst, ◌∙◌, arith, append_assoc, append-nil}
 use Rattle.std.specs.List.{AllByRecursion}
 use Rattle.std.specs.Str.{all_scalars}
 use Rattle.std.proofs.lemmas.Bool.Decides.{nat_tests}
@@ -11,7 +11,7 @@ use Rattle.uca_weights.specs.declared.Weighting.TheVariants.{NonIgnorable, Shift
 use Rattle.uca_order.specs.Levels.{level_bytes, levels_bytes, level_count}
 use Rattle.uca_order.specs.Depths.{points_bytes}
 use Rattle.uca_compact.specs.Forms.{AreWeights, AreLevels}
-use Rattle.uca_compact.specs.CompactKeys.{KeyParts, points_at, stored_key, AreParts}
+use Rattle.uca_compact.specs.CompactKeys.{KeyParts, points_at, stored_key}
 use Rattle.uca_compact.specs.StoredParts.{StoredLevel, weight_then, stored_level, stored_points, points_after, level_before, after_level, parts_from, stored_parts}
 use Rattle.uca_compact.specs.Laws.{StoredKeysAreRead, OnlyStoredKeysAreRead}
 use Rattle.uca_compact.proofs.OnlyCells.{AreBytes, bytes_after, nothing, same_some}

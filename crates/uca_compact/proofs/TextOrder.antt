@@ -1,5 +1,5 @@
 -- Compact keys of texts keep the order of their keys.
-use Rattle.std.proofs.Common.{◌≡◌, ◌≢◌, ◌↔◌, inl, inr, ℕ, zero, suc, ◌+◌, ◌<◌, ◌≤◌, List, [], ◌∷◌, ◌++◌, Bool, true, false, cond, not, filter, map, length, nat_eq, refl, ap, sym, ◌∙◌, arith, append-nil, ◌&&◌, encode_utf8_all}
+use Rattle.std.proofs.Common.{◌≡◌, inl, inr, ℕ, zero, suc, ◌<◌, ◌≤◌, List, [], ◌∷◌, ◌++◌, Bool, true, false, cond, not, length, nat_eq, refl, ap, sym, ◌∙◌, arith, append-nil, ◌&&◌, encode_utf8_all}
 use Rattle.std.specs.List.{AllByRecursion}
 use Rattle.std.specs.Ordering.{ordering_then}
 use Rattle.std.proofs.lemmas.Bool.Decides.{nat_tests}
@@ -9,7 +9,7 @@ use Rattle.uca_weights.specs.declared.Element.{Element}
 use Rattle.uca_weights.specs.declared.Weighting.{Weighting}
 use Rattle.uca_weights.specs.declared.Weighting.TheVariants.{NonIgnorable, Shifted}
 use Rattle.uca_order.specs.Levels.{Weights as WeightList, is_ignorable, is_completely_ignorable, follows_variable, weights_of, weighted_following, weighted, level_count, weight_at, level_list, level_lists_from, level_lists, lexicographic}
-use Rattle.uca_order.specs.Depths.{ReadText, lists_at, key_at, compared_at}
+use Rattle.uca_order.specs.Depths.{ReadText, key_at, compared_at}
 use Rattle.uca_order.proofs.KeyOrder.{then_assoc, then_equal, lexicographic_itself, same_from_lexicographic}
 use Rattle.uca_order.proofs.DepthOrder.{depth_order}
 use Rattle.uca_compact.specs.Forms.{IsForm, AreForms, AreWeights, AreLevels, Book, IsBook, letters_form, accents_form, cases_form, variables_form, forms_of}

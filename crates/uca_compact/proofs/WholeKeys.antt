@@ -1,12 +1,12 @@
 -- Compact keys are read back, and no other bytes are.
-use Rattle.std.proofs.Common.{◌≡◌, ℕ, zero, suc, ◌+◌, ◌-◌, ◌<◌, List, [], ◌∷◌, ◌++◌, Bool, true, false, cond, Option, Some, None, length, refl, ap, sym, subst, ◌∙◌, arith, append_assoc, append-nil, chars, IsUtf8, encode_utf8_all}
+use Rattle.std.proofs.Common.{◌≡◌, ℕ, zero, suc, ◌+◌, ◌-◌, ◌<◌, List, [], ◌∷◌, ◌++◌, Bool, true, false, cond, Option, Some, None, length, refl, ap, sym, subst, ◌∙◌, arith, append-nil, chars, IsUtf8, encode_utf8_all}
 use Rattle.std.specs.Str.{is_utf8}
 use Rattle.std.proofs.lemmas.Str.{IsUtf8-from_is_utf8, is_utf8-from_IsUtf8, chars_from_encodes, encodes-chars, scalars-chars}
 use Rattle.uca_weights.specs.declared.Depth.{Depth}
 use Rattle.uca_weights.specs.declared.Depth.TheVariants.{Weights, Identical}
 use Rattle.uca_weights.specs.declared.Weighting.{Weighting}
 use Rattle.uca_order.specs.Levels.{level_count}
-use Rattle.uca_compact.specs.Forms.{AreForms, AreWeights, AreLevels, Book, IsBook, forms_of}
+use Rattle.uca_compact.specs.Forms.{AreWeights, AreLevels, Book, IsBook, forms_of}
 use Rattle.uca_compact.specs.PlainLevels.{copies, letter_count, plain_level}
 use Rattle.uca_compact.specs.CompactKeys.{compact, KeyParts, AreParts, compact_key}
 use Rattle.uca_compact.specs.Reading.{ReadLevels, read_levels, parts_then, with_rest, read_key}

@@ -1,4 +1,5 @@
--- Compact keys: a shorter form of keys. Byte order of compact keys is that of the keys, and no compact key begins another.
+-- Compact keys: a shorter form of keys. Byte order of compact keys is that of the keys, and no compact key begins
+-- another.
 use Rattle.std.specs.Prelude.{◌≡◌, ℕ, zero, suc, ◌+◌, ◌*◌, ◌-◌, ◌/◌, ◌%◌, List, [], ◌∷◌, ◌++◌, true, length, nat_lt, nat_eq, if◌then◌else◌}
 use Rattle.std.specs.Str.{bytes_eq, encode_utf8_all, all_scalars}
 use Rattle.std.specs.Ordering.{nat_cmp}
@@ -21,8 +22,8 @@ offset_bytes width offset =
     if nat_lt width 257 then offset ∷ [] else
     offset / 256 ∷ offset % 256 ∷ []
 
--- A weight: the number of its cell, and its offset there. Cell `number` starts at `start`, the next ones at the starts in the
--- list, and the last one ends before `end`.
+-- A weight: the number of its cell, and its offset there. Cell `number` starts at `start`, the next ones at the starts
+-- in the list, and the last one ends before `end`.
 abbrev pub cell : (number start : ℕ) → List ℕ → (end : ℕ) → ℕ → List ℕ
 cell number start [] end w = number ∷ offset_bytes (end - start) (w - start)
 cell number start (next ∷ later) end w =
@@ -65,8 +66,9 @@ end_by Less all later more = all - suc later
 end_by Equal all later more = more
 end_by Greater all later more = all + suc later
 
--- The end of a level: `all` if all levels after it are plain. Else it tells the first that is not plain. Count the levels from
--- that one on. The end is less than `all` by that count if the level is less than the plain one, else greater by it.
+-- The end of a level: `all` if all levels after it are plain. Else it tells the first that is not plain. It differs
+-- from `all` by the number of levels from that one on. It is less where that level is less than the plain one, and
+-- greater where it is greater.
 abbrev pub end_of : Plain → (all : ℕ) → (earlier levels : List (List ℕ)) → ℕ
 end_of plain all earlier [] = all
 end_of plain all earlier (level ∷ later) =
@@ -116,8 +118,8 @@ abbrev pub compact_key : Depth → Weighting → Book → KeyParts → List ℕ
 compact_key Weights weighting b k = compact plain_level (forms_of weighting b) k.levels
 compact_key Identical weighting b k = compact plain_level (forms_of weighting b) k.levels ++ encode_utf8_all k.points
 
--- A key may have these parts: as many levels as the weighting, and code points that are Unicode scalar values, which only keys
--- with an identical level have.
+-- A key may have these parts: as many levels as the weighting, and code points that are Unicode scalar values, which
+-- only keys with an identical level have.
 pub record AreParts (depth : Depth) (weighting : Weighting) (k : KeyParts) : Type 0 where
   pub levels : AreLevels (level_count weighting) k.levels
   pub points : all_scalars k.points ≡ true

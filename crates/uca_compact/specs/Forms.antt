@@ -4,8 +4,8 @@ use Rattle.std.specs.List.{AllByRecursion}
 use Rattle.uca_weights.specs.declared.Weighting.{Weighting}
 use Rattle.uca_weights.specs.declared.Weighting.TheVariants.{NonIgnorable, Shifted}
 
--- Cells of weights: each starts after the one before it, and the last one ends before `end`. The first starts at `start`, and
--- the list has the starts of the later ones.
+-- Cells of weights: each starts after the one before it, and the last one ends before `end`. The first starts at
+-- `start`, and the list has the starts of the later ones.
 abbrev pub AreRising : (start : ℕ) → List ℕ → (end : ℕ) → Type 0
 AreRising start [] end = start < end
 AreRising start (next ∷ later) end = (start < next) × AreRising next later end
@@ -27,7 +27,8 @@ pub record Form : Type 0 where
 abbrev pub step : Form → ℕ
 step f = suc f.ends
 
--- The code of a longest run. Codes of shorter runs before a greater weight come after it, and then the cells of greater weights.
+-- The code of a longest run. Codes of shorter runs before a greater weight come after it, and then the cells of greater
+-- weights.
 abbrev pub full : Form → ℕ
 full f = f.longest * step f
 
@@ -35,8 +36,8 @@ full f = f.longest * step f
 abbrev pub first_cell : Form → ℕ
 first_cell f = full f + f.longest
 
--- What every form has. A form without a common weight has no runs. A level may have no lesser weights, or no greater ones; then
--- there is one cell for these, which is empty. All codes are bytes.
+-- What every form has. A form without a common weight has no runs. A level may have no lesser weights, or no greater
+-- ones; then there is one cell for these, which is empty. All codes are bytes.
 pub record IsForm (f : Form) : Type 0 where
   pub common : f.common < 65536
   pub longest : 0 < f.longest
@@ -46,8 +47,8 @@ pub record IsForm (f : Form) : Type 0 where
   pub few_lesser : length f.lesser < 256
   pub few_greater : first_cell f + length f.greater < 256
 
--- How many ends a level has before so many others. They tell which of these is the first that is not plain. It is less or
--- greater than the plain one.
+-- How many ends a level has before so many others. An end tells which of these is the first that is not plain, and
+-- whether it is less or greater than the plain one.
 abbrev pub ends_before : ℕ → ℕ
 ends_before later = suc (2 * later)
 

@@ -66,8 +66,8 @@ pub record HasTwoBytes (e : Element) : Type 0 where
   pub secondary : e.secondary < 65536
   pub tertiary : e.tertiary < 65536
 
--- Byte order of the compact keys of texts is byte order of their keys, and so the order of the texts. Compact keys are equal
--- exactly if the keys are.
+-- Byte order of the compact keys of texts is byte order of their keys, and so the order of the texts. Compact keys are
+-- equal exactly if the keys are.
 pub record CompactKeysKeepOrder : Type 0 where
   pub order : (depth : Depth) (weighting : Weighting) (b : Book) (left right : ReadText) → IsBook b →
       AllByRecursion HasTwoBytes left.elements → AllByRecursion HasTwoBytes right.elements →

@@ -5,4 +5,6 @@ pub mod Programs
 pub mod Reading
 pub mod StoredParts
 pub mod WorkedKeys
+pub mod WorkedReadings
 pub mod Laws
+pub mod inside

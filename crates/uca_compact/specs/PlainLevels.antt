@@ -10,8 +10,8 @@ copies w (suc n) = w ∷ copies w n
 abbrev pub is_lead : ℕ → Bool
 is_lead w = not (nat_lt w 0xFB00) && nat_lt w 0xFC00
 
--- how many weights of level 1 mostly have a weight at level 2, by whether a lead comes before them: the weight after a lead is
--- not counted
+-- how many weights of level 1 mostly have a weight at level 2, by whether a lead comes before them: the weight after a
+-- lead is not counted
 abbrev pub letters_after : (lead : Bool) → List ℕ → ℕ
 letters_after lead [] = 0
 letters_after true (w ∷ ws) = letters_after false ws
@@ -20,8 +20,8 @@ letters_after false (w ∷ ws) = suc (letters_after (is_lead w) ws)
 abbrev pub letter_count : List ℕ → ℕ
 letter_count ws = letters_after false ws
 
--- The plain level after these: no accent, small letters, and nothing variable. Level 4 has a weight for each weight of level 3,
--- and for each of level 1 that was not counted.
+-- The plain level after these: no accent, small letters, and nothing variable. Level 4 has a weight for each weight of
+-- level 3, and for each of level 1 that was not counted.
 abbrev pub plain_level : (earlier : List (List ℕ)) → List ℕ
 plain_level [] = []
 plain_level (a ∷ []) = copies 0x20 (letter_count a)

@@ -1,6 +1,6 @@
 //! Books: the cells of weights.
 
-ghost use Rattle.std.specs.Prelude.{◌≡◌, ◌≤◌};
+ghost use Rattle.std.specs.Prelude.{◌≡◌, ◌↔◌, ◌≤◌, IsTrue, IfSome, IfNone};
 ghost use Rattle.uca_compact.specs.Forms as forms;
 ghost use Rattle.uca_compact.specs.Forms.{IsForm};
 ghost use Rattle.uca_compact.specs.Programs.{form_of};
@@ -9,8 +9,8 @@ use crate::levels::LevelForm;
 use std::alloc::{Allocator, Global};
 use std::marker::Model;
 
-/// The starts of cells of weights: by them weights are written in one byte, two or three. A compact key is read by the book
-/// that it was written by.
+/// The starts of cells of weights: by them weights are written in one byte, two or three. A compact key is read by the
+/// book that it was written by.
 #[derive(Drop)]
 pub struct Book<A: Allocator = Global> {
     letters: Vec<u16, A>,
@@ -29,7 +29,54 @@ impl<A: Allocator> Model for Book<A> {
     ghost invariant = { λ b. forms.IsBook (record { letters = b.letters.items; accents = b.accents.items; cases = b.cases.items; variables = b.variables.items }) };
 }
 
+// Whether cells rise: the first one starts at `start`, the next ones at these starts, and the last one ends before
+// `end`.
+fn are_rising(start: u32, later: &[u16], end: u32) -> bool
+    ensures { IsTrue result ↔ forms.AreRising start later.now end }
+{
+    match later {
+        [] => start < end,
+        [next, rest @ ..] => start < u32::from(*next) && are_rising(u32::from(*next), rest, end),
+    }
+}
+
 impl<A: Allocator> Book<A> {
+    /// A book by the starts of the cells of each level, after the first cell.
+    ///
+    /// The first cells start at 0001 for weights of level 1, and at 0021 for those of level 2 above the common weight.
+    /// They start at 0003 for those of level 3, and at 0001 for those of level 4 below FFFF.
+    ///
+    /// It returns `None` if the starts of a level do not rise, or the last one is too great. So it does if there are
+    /// more than 245 starts of level 1, 115 of level 2, 95 of level 3 or 255 of level 4.
+    pub fn new(
+        letters: Vec<u16, A>,
+        accents: Vec<u16, A>,
+        cases: Vec<u16, A>,
+        variables: Vec<u16, A>,
+    ) -> Option<Book<A>>
+        ensures some { IfSome result (λ book. book ≡ record { letters = letters.items; accents = accents.items; cases = cases.items; variables = variables.items }) }
+        ensures none { IfNone result (forms.IsBook (record { letters = letters.items; accents = accents.items; cases = cases.items; variables = variables.items }) → ⊥) }
+    {
+        let are_few = letters.len() < 246
+            && accents.len() < 116
+            && cases.len() < 96
+            && variables.len() < 256;
+        if !are_few
+            || !are_rising(1, &letters, 0x1_0000)
+            || !are_rising(0x21, &accents, 0x1_0000)
+            || !are_rising(3, &cases, 0x1_0000)
+            || !are_rising(1, &variables, 0xFFFF)
+        {
+            return None;
+        }
+        Some(Book {
+            letters,
+            accents,
+            cases,
+            variables,
+        })
+    }
+
     // How level 1 is written before so many other levels.
     pub(crate) fn letters_form(&self, later: u8) -> LevelForm<'_>
         requires { later ≤ 3 }

@@ -1,7 +1,10 @@
 //! What is true of the compact keys of all texts. The functions do nothing: their contracts are the laws.
 
-ghost use Rattle.uca_compact.specs.Laws.{CompactLevelsKeepOrder, CompactLevelsAreReadBack, OnlyCompactLevelsAreRead, CompactKeysAreReadBack, OnlyCompactKeysAreRead, NoCompactKeyBeginsAnother, StoredKeysAreRead, OnlyStoredKeysAreRead, CompactKeysKeepOrder};
+ghost use Rattle.uca_compact.specs.Laws.{CompactLevelsKeepOrder, CompactLevelsAreReadBack, OnlyCompactLevelsAreRead};
+ghost use Rattle.uca_compact.specs.Laws.{CompactKeysAreReadBack, OnlyCompactKeysAreRead, NoCompactKeyBeginsAnother};
+ghost use Rattle.uca_compact.specs.Laws.{StoredKeysAreRead, OnlyStoredKeysAreRead, CompactKeysKeepOrder};
 ghost use Rattle.uca_compact.specs.WorkedKeys.{WorkedKeys};
+ghost use Rattle.uca_compact.specs.WorkedReadings.{WorkedReadings};
 
 /// Byte order of compact keys is the order of the levels, whatever the plain levels are and whatever follows a key.
 pub fn compact_levels_keep_order()
@@ -52,4 +55,9 @@ pub fn compact_keys_keep_order()
 /// The definitions give some compact keys that were worked out by hand.
 pub fn worked_keys()
     ensures { WorkedKeys }
+{}
+
+/// The definitions read some bytes, and read nothing from others, as was worked out by hand.
+pub fn worked_readings()
+    ensures { WorkedReadings }
 {}

@@ -5,6 +5,7 @@ ghost use Rattle.std.specs.Ordering.{nat_cmp};
 ghost use Rattle.uca_compact.specs.Forms.{AreRising, IsForm, AreWeights};
 ghost use Rattle.uca_compact.specs.CompactKeys.{offset_bytes, cell, written, run_after, level_code};
 ghost use Rattle.uca_compact.specs.Programs.{form_of};
+ghost use Rattle.uca_compact.specs.inside.Places.{start_at, end_at, IsPlace};
 
 use std::alloc::{AllocError, Allocator};
 
@@ -47,6 +48,47 @@ fn push_offset<A: Allocator>(
     Ok(())
 }
 
+// The index of the cell of a weight, by a search in halves.
+fn cell_index(start: u32, later: &[u16], end: u32, weight: u32) -> usize
+    requires from { start ≤ weight }
+    requires below { weight < end }
+    ensures { IsPlace start later.now end weight result }
+{
+    let mut low = 0;
+    let mut high = later.len();
+    while low < high {
+        let middle = low + (high - low) / 2;
+        if u32::from(later[middle]) <= weight {
+            low = middle + 1;
+        } else {
+            high = middle;
+        }
+    }
+    low
+}
+
+// Where a cell starts.
+fn cell_start(start: u32, later: &[u16], index: usize) -> u32
+    requires { index ≤ length later.now }
+    ensures { result ≡ start_at start later.now index }
+{
+    if index == 0 {
+        return start;
+    }
+    u32::from(later[index - 1])
+}
+
+// Where a cell ends.
+fn cell_end(later: &[u16], end: u32, index: usize) -> u32
+    requires { index ≤ length later.now }
+    ensures { result ≡ end_at later.now end index }
+{
+    if index == later.len() {
+        return end;
+    }
+    u32::from(later[index])
+}
+
 // Writes a weight in its cell.
 fn push_cell<A: Allocator>(
     out: &mut Vec<u8, A>,
@@ -63,17 +105,11 @@ fn push_cell<A: Allocator>(
     requires below { weight < end }
     ensures { OnOk result (out.new.items ≡ out.old.items ++ cell number start later.now end weight) }
 {
-    match later {
-        [] => push_offset(out, number, end - start, weight - start),
-        [next, rest @ ..] => {
-            let next = u32::from(*next);
-            if weight < next {
-                push_offset(out, number, next - start, weight - start)
-            } else {
-                push_cell(out, number + 1, next, rest, end, weight)
-            }
-        }
-    }
+    let index = cell_index(start, later, end, weight);
+    let first = cell_start(start, later, index);
+    let width = cell_end(later, end, index) - first;
+    push_offset(out, number + index as u8, width, weight - first)?;
+    Ok(())
 }
 
 // Writes a weight after a run, and returns the length of the run after it.

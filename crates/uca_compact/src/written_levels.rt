@@ -15,7 +15,8 @@ use crate::plain::{compare_run, letter_count};
 use std::alloc::{AllocError, Allocator};
 use std::cmp::Ordering;
 
-// The end of a level, by how the next level compares to the plain one. `more` is the end by the `later` levels after that one.
+// The end of a level, by how the next level compares to the plain one. `more` is the end by the `later` levels after
+// that one.
 fn end_by(order: Ordering, all: u8, later: u8, more: u8) -> u8
     requires few { all ≤ 3 }
     requires within { later < all }

@@ -1,4 +1,4 @@
-use Rattle.std.proofs.Common.{◌≡◌, ◌+◌, ◌≤◌, ◌&&◌, ℕ, Bool, not, drop, get_or, if◌then◌else◌, cond, refl, subst, sym, arith}
+use Rattle.std.proofs.Common.{◌≡◌, ◌+◌, ◌≤◌, ◌&&◌, ℕ, Bool, not, drop, get_or, subst, sym}
 use Rattle.uca_compact.specs.PlainLevels.{letters_after, is_lead, letter_count}
 use Rattle.uca_compact.proofs.PlainSteps.{count_step, one_more}
 use Rattle.uca_compact.proofs.plain.letter_count.Goals as goal

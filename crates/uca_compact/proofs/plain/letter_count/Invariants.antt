@@ -1,4 +1,4 @@
-use Rattle.std.proofs.Common.{◌≡◌, ◌+◌, ◌≤◌, drop, length}
+use Rattle.std.proofs.Common.{◌≡◌, ◌+◌, ◌≤◌, drop}
 use Rattle.uca_compact.specs.PlainLevels.{letters_after, letter_count}
 use Rattle.uca_compact.proofs.plain.letter_count.Given as goal
 

@@ -1,4 +1,4 @@
-use Rattle.std.proofs.Common.{ℕ, ◌+◌, ◌-◌, length, ap, refl, ◌∙◌}
+use Rattle.std.proofs.Common.{ℕ, ◌+◌, ◌-◌, length, ap, ◌∙◌}
 use Rattle.uca_order.specs.Levels.{lexicographic}
 use Rattle.uca_compact.specs.Forms.{letters_form, accents_form, cases_form, variables_form}
 use Rattle.uca_compact.specs.PlainLevels.{copies, plain_level}

@@ -1,0 +1,2 @@
+pub mod StoredEnds
+pub mod Places

@@ -1,0 +1,161 @@
+//! `KeyCompacter`: stored keys become compact keys.
+
+ghost use Rattle.std.specs.Prelude.{◌≡◌, IfOk, [], if◌then◌else◌, None, Some, option_map};
+ghost use Rattle.uca_weights.specs.declared.Weighting.TheVariants.{NonIgnorable, Shifted};
+ghost use Rattle.uca_compact.specs.CompactKeys.{compact_key};
+ghost use Rattle.uca_compact.specs.StoredParts.{stored_parts};
+
+use crate::books::Book;
+use crate::stored::{next_level, push_points_after, read_weights};
+use crate::written_levels::{push_four, push_three};
+use std::alloc::{AllocError, Allocator, Global};
+use std::marker::Model;
+use uca_weights::{Depth, Settings, Weighting};
+
+// The weights of each level of a key.
+#[derive(Drop)]
+struct Levels<A: Allocator> {
+    letters: Vec<u16, A>,
+    accents: Vec<u16, A>,
+    cases: Vec<u16, A>,
+    variables: Vec<u16, A>,
+}
+
+/// Makes compact keys of stored keys. It needs no text and no table.
+#[derive(Drop)]
+pub struct KeyCompacter<A: Allocator = Global> {
+    book: Book<A>,
+    settings: Settings,
+    levels: Levels<A>,
+}
+
+impl<A: Allocator> Model for KeyCompacter<A> {
+    ghost use Rattle.uca_compact.specs.Programs.{CompacterState};
+
+    ghost Value = { CompacterState };
+
+    ghost view = { λ c. record { book = c.book; settings = c.settings } };
+}
+
+impl<A: Allocator + Copy> KeyCompacter<A> {
+    /// A book, for keys that were made under these settings.
+    pub fn new(alloc: A, book: Book<A>, settings: Settings) -> KeyCompacter<A>
+        ensures { result ≡ record { book = book; settings = settings } }
+    {
+        let levels = Levels {
+            letters: Vec::new(alloc),
+            accents: Vec::new(alloc),
+            cases: Vec::new(alloc),
+            variables: Vec::new(alloc),
+        };
+        KeyCompacter {
+            book,
+            settings,
+            levels,
+        }
+    }
+}
+
+impl<A: Allocator> KeyCompacter<A> {
+    /// Writes the compact key of a stored key over the bytes that were there, and returns `true`. The memory is used
+    /// again.
+    ///
+    /// It returns `false` if the bytes are no key of the settings: if they have too few levels, too many, or a single
+    /// byte at the end. So it does at depth `Identical` if what follows the weights is not whole code points: three
+    /// bytes each, high byte first, each a Unicode scalar value. What was written is then unspecified.
+    ///
+    /// # Errors
+    ///
+    /// An allocation failed. The bytes are then unspecified.
+    pub fn write_compact<B: Allocator>(
+        &mut self,
+        key: &[u8],
+        compact: &mut Vec<u8, B>,
+    ) -> Result<bool, AllocError>
+        ensures same { self.new ≡ self.old }
+        ensures key { IfOk result (λ found. option_map (compact_key self.old.settings.depth self.old.settings.weighting self.old.book)
+            (stored_parts self.old.settings.depth self.old.settings.weighting key.now) ≡ (if found then Some compact.new.items else None)) }
+    {
+        compact.clear();
+        match self.settings.weighting {
+            Weighting::NonIgnorable => write_three(
+                key,
+                self.settings.depth,
+                &self.book,
+                &mut self.levels,
+                compact,
+            ),
+            Weighting::Shifted => write_four(
+                key,
+                self.settings.depth,
+                &self.book,
+                &mut self.levels,
+                compact,
+            ),
+        }
+    }
+}
+
+// Writes the compact key of a key of three levels after no bytes.
+fn write_three<A: Allocator, B: Allocator>(
+    key: &[u8],
+    depth: Depth,
+    book: &Book<A>,
+    levels: &mut Levels<A>,
+    compact: &mut Vec<u8, B>,
+) -> Result<bool, AllocError>
+    requires { compact.old.items ≡ [] }
+    ensures { IfOk result (λ found. option_map (compact_key depth NonIgnorable book.now) (stored_parts depth NonIgnorable key.now)
+        ≡ (if found then Some compact.new.items else None)) }
+{
+    let Some(second) = next_level(key, &mut levels.letters)? else {
+        return Ok(false);
+    };
+    let Some(third) = next_level(second, &mut levels.accents)? else {
+        return Ok(false);
+    };
+    let end = read_weights(third, &mut levels.cases)?;
+    push_three(
+        compact,
+        book,
+        &levels.letters,
+        &levels.accents,
+        &levels.cases,
+    )?;
+    let found = push_points_after(compact, depth, end)?;
+    Ok(found)
+}
+
+// Writes the compact key of a key of four levels after no bytes.
+fn write_four<A: Allocator, B: Allocator>(
+    key: &[u8],
+    depth: Depth,
+    book: &Book<A>,
+    levels: &mut Levels<A>,
+    compact: &mut Vec<u8, B>,
+) -> Result<bool, AllocError>
+    requires { compact.old.items ≡ [] }
+    ensures { IfOk result (λ found. option_map (compact_key depth Shifted book.now) (stored_parts depth Shifted key.now)
+        ≡ (if found then Some compact.new.items else None)) }
+{
+    let Some(second) = next_level(key, &mut levels.letters)? else {
+        return Ok(false);
+    };
+    let Some(third) = next_level(second, &mut levels.accents)? else {
+        return Ok(false);
+    };
+    let Some(fourth) = next_level(third, &mut levels.cases)? else {
+        return Ok(false);
+    };
+    let end = read_weights(fourth, &mut levels.variables)?;
+    push_four(
+        compact,
+        book,
+        &levels.letters,
+        &levels.accents,
+        &levels.cases,
+        &levels.variables,
+    )?;
+    let found = push_points_after(compact, depth, end)?;
+    Ok(found)
+}

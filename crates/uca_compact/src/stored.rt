@@ -1,0 +1,104 @@
+//! Reads the levels and the code points of stored keys.
+
+ghost use Rattle.std.specs.Prelude.{◌≡◌, ℕ, ◌++◌, IfOk, IfSome, IfNone, OnOk, if◌then◌else◌, None, Some};
+ghost use Rattle.std.specs.Char.{encode_utf8};
+ghost use Rattle.uca_compact.specs.Forms.{AreWeights};
+ghost use Rattle.uca_compact.specs.StoredParts.{stored_level, stored_points};
+ghost use Rattle.uca_compact.specs.inside.StoredEnds.{level_of, next_of, points_of, with_points};
+
+use std::alloc::{AllocError, Allocator};
+use uca_weights::Depth;
+
+/// How a level of a stored key ends.
+#[derive(Clone, Copy)]
+pub(crate) enum StoredEnd<'a> {
+    /// By 00 00, before these bytes.
+    Next(&'a [u8]),
+    /// With the key.
+    Key,
+    /// In a single byte.
+    Single,
+}
+
+/// Reads a level from the beginning of these bytes. Its weights take the place of those that were there.
+pub(crate) fn read_weights<'a, A: Allocator>(
+    bytes: &'a [u8],
+    weights: &mut Vec<u16, A>,
+) -> Result<StoredEnd<'a>, AllocError>
+    ensures level { IfOk result (λ end. stored_level bytes.now ≡ level_of end weights.new.items) }
+    ensures weights { IfOk result (λ end. AreWeights weights.new.items) }
+{
+    weights.clear();
+    let mut at = 0;
+    while at + 1 < bytes.len() {
+        let weight = 256 * u16::from(bytes[at]) + u16::from(bytes[at + 1]);
+        if weight == 0 {
+            return Ok(StoredEnd::Next(&bytes[at + 2..]));
+        }
+        weights.push(weight)?;
+        at += 2;
+    }
+    if at == bytes.len() {
+        Ok(StoredEnd::Key)
+    } else {
+        Ok(StoredEnd::Single)
+    }
+}
+
+/// Reads a level from the beginning of these bytes, and returns the bytes after its 00 00. `None` if it ends otherwise.
+pub(crate) fn next_level<'a, A: Allocator>(
+    bytes: &'a [u8],
+    weights: &mut Vec<u16, A>,
+) -> Result<Option<&'a [u8]>, AllocError>
+    ensures level { IfOk result (λ next. IfSome next (λ rest. stored_level bytes.now ≡ Some (record { weights = weights.new.items; rest = Some rest.now }))) }
+    ensures none { IfOk result (λ next. IfNone next (next_of (stored_level bytes.now) ≡ None)) }
+    ensures weights { IfOk result (λ next. AreWeights weights.new.items) }
+{
+    match read_weights(bytes, weights)? {
+        StoredEnd::Next(rest) => Ok(Some(rest)),
+        StoredEnd::Key | StoredEnd::Single => Ok(None),
+    }
+}
+
+// Writes a code point as UTF-8.
+fn push_point<A: Allocator>(out: &mut Vec<u8, A>, point: char) -> Result<(), AllocError>
+    ensures { OnOk result (out.new.items ≡ out.old.items ++ encode_utf8 point) }
+{
+    let mut room = [0; 4];
+    out.extend_from_slice(point.encode_utf8(&mut room).as_bytes())?;
+    Ok(())
+}
+
+// Writes code points of three bytes each as UTF-8, and returns whether the bytes are such code points. If they are not,
+// what was written is unspecified.
+fn push_points<A: Allocator>(out: &mut Vec<u8, A>, bytes: &[u8]) -> Result<bool, AllocError>
+    ensures { IfOk result (λ found. with_points out.old.items (stored_points bytes.now) ≡ (if found then Some out.new.items else None)) }
+{
+    let mut at = 0;
+    while at + 2 < bytes.len() {
+        let number = 65536 * u32::from(bytes[at])
+            + 256 * u32::from(bytes[at + 1])
+            + u32::from(bytes[at + 2]);
+        match char::from_u32(number) {
+            Some(point) => push_point(out, point)?,
+            None => return Ok(false),
+        }
+        at += 3;
+    }
+    Ok(at == bytes.len())
+}
+
+/// Writes the code points after the last level of weights, which ends so, and returns whether a key may end so.
+pub(crate) fn push_points_after<A: Allocator>(
+    out: &mut Vec<u8, A>,
+    depth: Depth,
+    end: StoredEnd<'_>,
+) -> Result<bool, AllocError>
+    ensures { IfOk result (λ found. with_points out.old.items (points_of depth end.entry) ≡ (if found then Some out.new.items else None)) }
+{
+    match (depth, end) {
+        (Depth::Weights, StoredEnd::Key) => Ok(true),
+        (Depth::Identical, StoredEnd::Next(bytes)) => push_points(out, bytes),
+        _ => Ok(false),
+    }
+}
