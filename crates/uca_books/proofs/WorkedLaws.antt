@@ -16,7 +16,7 @@ use Rattle.uca_books.proofs.FileLaws.{lines_are, lines_say, means_file, gives_fi
 
 -- ---- Texts that are no books
 
--- a book has these starts, and after it comes this text
+-- the header was there, and the other lines list this book
 abbrev with_book : BookContent → Said
 with_book before = record { started = true; content = before }
 

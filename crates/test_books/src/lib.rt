@@ -1,0 +1,8 @@
+//! Tests of books: texts that are books and texts that are none, as lines of cases, books that are made by calls, and
+//! sources and writers that fail.
+#![tactic(auto)]
+
+#[cfg(test)]
+mod streams;
+#[cfg(test)]
+mod texts;
