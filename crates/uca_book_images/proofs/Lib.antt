@@ -1,0 +1,3 @@
+pub mod BookImages
+pub mod KeptKeys
+pub mod MovedKeys

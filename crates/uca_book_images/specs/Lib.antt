@@ -1,0 +1,4 @@
+pub mod BookImages
+pub mod KeptKeys
+pub mod Laws
+pub mod Worked
