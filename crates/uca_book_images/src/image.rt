@@ -18,9 +18,9 @@ const GREATEST_LETTER: u16 = 0xFFFF;
 /// The greatest start of level 4: the weight above it is the common one.
 const GREATEST_VARIABLE: u16 = 0xFFFE;
 
-/// The image of a book under the map of level 1, which serves level 4 too. A start becomes its image, or, if it has none,
-/// the weight after the last image below it. Where that is not greater than the start before it, it becomes the weight
-/// after that start. Starts that would be too great are left out, with those after them.
+/// The image of a book under the map of level 1, which serves level 4 too. A start becomes its image, or, if it has
+/// none, the weight after the last image below it. Where that is not greater than the start before it, it becomes the
+/// weight after that start. Starts that would be too great are left out, with those after them.
 ///
 /// # Errors
 ///

@@ -14,8 +14,8 @@ pub fn kept_keys_stay()
     ensures { KeptKeysStay }
 {}
 
-/// A stored key that is put through rising maps has the compact key that it had, under a new book, if each of its weights
-/// keeps its place.
+/// A stored key that is put through rising maps has the compact key that it had, under a new book, if each of its
+/// weights keeps its place.
 pub fn moved_keys_stay()
     ensures { MovedKeysStay }
 {}

@@ -1,7 +1,7 @@
 //! Books and compact keys under the maps of a certificate: the image of a book, and which compact keys stay.
 //!
 //! A new edition of a table numbers its weights anew, and a certificate says how. `image_of` puts the starts of a book
-//! through the map of level 1. `moved_keys_stay` says which stored keys have the compact key that they had, once both they
+//! through the map of level 1. `moved_keys_stay` says which stored keys have the compact key that they had, once they
 //! and the book went through the maps.
 #![tactic(auto)]
 
