@@ -1,19 +1,12 @@
 -- Both levels go through the map of level 1.
-use Rattle.std.proofs.Common.{◌≡◌, ◌∙◌, IfOk, ap, sym, subst, List}
-use Rattle.uca_weights.specs.declared.maps.Run.{Run}
+use Rattle.std.proofs.Common.{◌≡◌, ◌∙◌, IfOk, ap, subst}
 use Rattle.uca_weights.specs.Runs.{weight_image}
-use Rattle.uca_books.specs.Books.{BookContent, RiseAfter}
+use Rattle.uca_books.specs.Books.{BookContent}
 use Rattle.uca_certificates.specs.Certificates.{CertificateContent}
 use Rattle.uca_tailorings.specs.Inputs.{maps_of}
 use Rattle.uca_book_images.specs.BookImages.{starts_image, book_image}
 use Rattle.uca_book_images.proofs.BookImages.{book_is, image_is}
 use Rattle.uca_book_images.proofs.image.image_of.Goals as goal
-
-pub images_of-letters-requires : goal.images_of-letters-requires
-images_of-letters-requires g c = subst (RiseAfter 1) (sym c.letters.ensures.value) c.letters.ensures.book.letters.rise
-
-pub images_of-variables-requires : goal.images_of-variables-requires
-images_of-variables-requires g c = subst (RiseAfter 1) (sym c.variables.ensures.value) c.variables.ensures.book.variables.rise
 
 pub returns : goal.returns
 returns g c =

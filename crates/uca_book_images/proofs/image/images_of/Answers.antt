@@ -19,12 +19,12 @@ last_below-last-requires g c =
     let rise = rise_more c.args.starts.now c.loop-start.start-index c.loop-start.below c.loop-start-test.true c.loop-start.invariant.rise in
     record { up = omega (arith, rise.0); last = c.loop-start.invariant.last }
 
-pub returns-then-next-greatest : goal.returns-then-next-greatest
-returns-then-next-greatest g c =
+pub returns-then-next-from : goal.returns-then-next-from
+returns-then-next-from g c =
     let images = weight_image c.args.map.now.level c.args.map.now.runs in
     let next : c.greater_start-next.result ≡ max (suc c.loop-start.before) (start_image images (get_or c.args.starts.now c.loop-start.start-index 0)) =
     c.greater_start-next.ensures ∙ ap (max (suc c.loop-start.before)) c.start_image.ensures in
-    let above : c.args.greatest < c.greater_start-next.result = omega (arith, c.if-next-greatest.true, c.from.ensures) in
+    let above : c.args.greatest < c.greater_start-next.result = omega (arith, c.if-next-from.true, c.from.ensures) in
     images_cut images c.args.greatest c.args.starts.now c.loop-start.images.items (starts_image images c.args.greatest 1 c.args.starts.now)
     c.loop-start.start-index c.loop-start.before c.greater_start-next.result c.loop-start-test.true next above c.loop-start.invariant.images
 
@@ -34,7 +34,7 @@ loop-start-preserved g c =
     let rise = rise_more c.args.starts.now c.loop-start.start-index c.loop-start.below c.loop-start-test.true c.loop-start.invariant.rise in
     let next : c.greater_start-next.result ≡ max (suc c.loop-start.before) (start_image images (get_or c.args.starts.now c.loop-start.start-index 0)) =
     c.greater_start-next.ensures ∙ ap (max (suc c.loop-start.before)) c.start_image.ensures in
-    let fits : c.greater_start-next.result ≤ c.args.greatest = omega (arith, c.if-next-greatest.false, c.from.ensures) in
+    let fits : c.greater_start-next.result ≤ c.args.greatest = omega (arith, c.if-next-from.false, c.from.ensures) in
     record {
       rise = rise.1;
       last = c.last_below-last.ensures;
