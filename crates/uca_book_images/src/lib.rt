@@ -9,6 +9,9 @@ mod image;
 mod laws;
 
 pub use image::image_of;
-pub use laws::{images_are_books, kept_keys_stay, moved_keys_stay, worked_images};
+pub use laws::{
+    images_are_books, kept_keys_stay, moved_keys_stay, rising_maps_keep_places,
+    starts_become_their_images, worked_images,
+};
 pub use uca_books::Book;
 pub use uca_certificates::Certificate;
