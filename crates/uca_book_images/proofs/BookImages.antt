@@ -1,5 +1,5 @@
 -- The image of a book is a book, and how a program finds it.
-use Rattle.std.proofs.Common.{◌≡◌, ℕ, zero, suc, ◌+◌, ◌<◌, ◌≤◌, List, [], ◌∷◌, ◌++◌, Bool, true, false, Option, Some, None, cond, nat_le, max, length, get_or, take, drop, refl, ap, sym, subst, ◌∙◌, append_assoc, append-nil, arith}
+use Rattle.std.proofs.Common.{◌≡◌, ℕ, suc, ◌+◌, ◌<◌, ◌≤◌, List, [], ◌∷◌, ◌++◌, Bool, true, false, Option, Some, None, cond, nat_le, max, length, get_or, take, drop, refl, ap, sym, subst, ◌∙◌, append_assoc, append-nil, arith}
 use Rattle.std.specs.Prelude.{unwrap_or}
 use Rattle.std.specs.List.{AllByRecursion}
 use Rattle.std.proofs.lemmas.Bool.Decides.{nat_tests}
@@ -9,7 +9,7 @@ use Rattle.uca_weights.specs.declared.Level.TheVariants.{One, Two, Three}
 use Rattle.uca_weights.specs.declared.maps.Run.{Run}
 use Rattle.uca_weights.specs.Maps.{WeightImages}
 use Rattle.uca_weights.specs.Runs.{weight_image}
-use Rattle.uca_books.specs.Books.{BookContent, IsBook, AreStarts, RiseAfter}
+use Rattle.uca_books.specs.Books.{BookContent, AreStarts, RiseAfter}
 use Rattle.uca_book_images.specs.BookImages.{last_image, start_image, starts_image, book_image}
 use Rattle.uca_book_images.specs.Laws.{ImagesAreBooks}
 

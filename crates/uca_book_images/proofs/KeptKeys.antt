@@ -5,7 +5,6 @@ use Rattle.std.specs.Ordering.{nat_cmp, ordering_then, is_eq}
 use Rattle.std.specs.declared.cmp.Ordering.{Ordering}
 use Rattle.std.specs.declared.cmp.Ordering.TheVariants.{Less, Equal, Greater}
 use Rattle.std.proofs.lemmas.List.Elements.{length_all_zip}
-use Rattle.uca_weights.specs.declared.Depth.{Depth}
 use Rattle.uca_weights.specs.declared.Depth.TheVariants.{Weights, Identical}
 use Rattle.uca_weights.specs.declared.Weighting.{Weighting}
 use Rattle.uca_weights.specs.declared.Weighting.TheVariants.{NonIgnorable, Shifted}
@@ -13,7 +12,7 @@ use Rattle.uca_order.specs.Levels.{lexicographic}
 use Rattle.uca_books.specs.Books.{BookContent}
 use Rattle.uca_compact.specs.Forms.{Form, step, accent_starts, case_starts, letters_form, accents_form, cases_form, variables_form, forms_of}
 use Rattle.uca_compact.specs.PlainLevels.{copies, is_lead, letters_after, letter_count, plain_level}
-use Rattle.uca_compact.specs.CompactKeys.{Plain, run_before_greater, written, run_after, level_code, end_by, compact, KeyParts}
+use Rattle.uca_compact.specs.CompactKeys.{Plain, run_before_greater, written, run_after, level_code, end_by, compact}
 use Rattle.uca_compact.proofs.LaterLevels.{three_levels, four_levels}
 use Rattle.uca_book_images.specs.KeptKeys.{cell_by, KeepsPlace, LevelsKeepPlaces, leads_of}
 use Rattle.uca_book_images.specs.Laws.{KeptKeysStay}

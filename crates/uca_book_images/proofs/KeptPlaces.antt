@@ -1,22 +1,21 @@
 -- Weights keep their place in the image of a book, if their offsets stay.
-use Rattle.std.proofs.Common.{◌≡◌, ◌⊎◌, inl, inr, ℕ, suc, ◌+◌, ◌-◌, ◌/◌, ◌%◌, ◌<◌, ◌≤◌, List, [], ◌∷◌, Bool, true, false, cond, length, max, nat_le, nat_lt, unwrap_or, Option, Some, None, refl, ap, sym, subst, ◌∙◌, arith}
+use Rattle.std.proofs.Common.{◌≡◌, ◌⊎◌, inl, inr, ℕ, suc, ◌-◌, ◌/◌, ◌%◌, ◌<◌, ◌≤◌, List, [], ◌∷◌, Bool, true, false, cond, length, max, nat_le, nat_lt, unwrap_or, Option, refl, ap, sym, ◌∙◌, arith}
 use Rattle.std.specs.List.{AllByRecursion}
 use Rattle.std.specs.Ordering.{nat_cmp}
-use Rattle.std.specs.declared.cmp.Ordering.{Ordering}
-use Rattle.std.specs.declared.cmp.Ordering.TheVariants.{Less, Equal, Greater}
+use Rattle.std.specs.declared.cmp.Ordering.TheVariants.{Less, Greater}
 use Rattle.std.proofs.lemmas.Bool.{cases_lt}
 use Rattle.std.proofs.lemmas.Bool.Decides.{nat_tests}
 use Rattle.uca_order.proofs.KeyOrder.{cmp_less}
 use Rattle.uca_weights.specs.declared.Level.TheVariants.{One}
 use Rattle.uca_weights.specs.Maps.{WeightImages, Sends, IsRisingMap}
-use Rattle.uca_books.specs.Books.{BookContent, RiseAfter}
+use Rattle.uca_books.specs.Books.{RiseAfter}
 use Rattle.uca_compact.specs.Forms.{Form, first_cell, letters_form, variables_form}
 use Rattle.uca_compact.specs.CompactKeys.{offset_bytes, cell}
 use Rattle.uca_compact.proofs.OnlyCells.{same_some}
 use Rattle.uca_tailorings.specs.Moves.{AreSent}
 use Rattle.uca_book_images.specs.BookImages.{last_image, start_image, starts_image}
 use Rattle.uca_book_images.specs.KeptKeys.{cell_by, KeepsPlace}
-use Rattle.uca_book_images.specs.KeptPlaces.{StartsBecomeTheirImages, cell_start, cell_end, KeepsOffset, WeightsKeepTheirPlaces, RisingMapsKeepPlaces}
+use Rattle.uca_book_images.specs.KeptPlaces.{StartsBecomeTheirImages, cell_start, cell_end, RisingMapsKeepPlaces}
 
 -- ---- Starts that have images
 

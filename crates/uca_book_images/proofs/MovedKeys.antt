@@ -15,10 +15,10 @@ use Rattle.uca_order.specs.Levels.{level_count, weight_bytes}
 use Rattle.uca_compact.specs.Forms.{Form, forms_of}
 use Rattle.uca_compact.specs.PlainLevels.{is_lead}
 use Rattle.uca_compact.specs.CompactKeys.{KeyParts, compact_key}
-use Rattle.uca_compact.specs.StoredParts.{StoredLevel, weight_then, stored_level, stored_points, points_after, level_before, after_level, parts_from, stored_parts}
+use Rattle.uca_compact.specs.StoredParts.{StoredLevel, weight_then, stored_level, stored_points, points_after, level_before, after_level, parts_from}
 use Rattle.uca_compact.proofs.OnlyCells.{nothing, same_some}
 use Rattle.uca_tailorings.specs.Images.{Maps, AreRisingMaps}
-use Rattle.uca_tailorings.specs.Moves.{level_images, AreSent, weight_before, ended, are_points, moved_from, moved_key}
+use Rattle.uca_tailorings.specs.Moves.{level_images, AreSent, weight_before, ended, are_points, moved_from}
 use Rattle.uca_book_images.specs.KeptKeys.{KeepsPlace, LevelsKeepPlaces, leads_of, MapsKeepPlaces}
 use Rattle.uca_book_images.specs.Laws.{MovedKeysStay}
 use Rattle.uca_book_images.proofs.KeptKeys.{kept_keys_stay}

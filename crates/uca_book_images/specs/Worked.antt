@@ -3,7 +3,6 @@ use Rattle.std.specs.Prelude.{◌≡◌, ℕ, List, [], ◌∷◌}
 use Rattle.uca_weights.specs.declared.Depth.TheVariants.{Weights}
 use Rattle.uca_weights.specs.declared.Level.TheVariants.{One}
 use Rattle.uca_weights.specs.declared.Weighting.TheVariants.{NonIgnorable}
-use Rattle.uca_weights.specs.declared.maps.Run.{Run}
 use Rattle.uca_weights.specs.Maps.{WeightImages}
 use Rattle.uca_weights.specs.Runs.{weight_image}
 use Rattle.uca_books.specs.Books.{BookContent}

@@ -1,5 +1,5 @@
 -- The start has an image, or none.
-use Rattle.std.proofs.Common.{◌≡◌, ◌∙◌, ℕ, ap, ◌+◌, arith}
+use Rattle.std.proofs.Common.{◌∙◌, ℕ, ap, ◌+◌}
 use Rattle.uca_weights.specs.Runs.{weight_image}
 use Rattle.uca_book_images.proofs.BookImages.{start_sent, start_lost}
 use Rattle.uca_book_images.proofs.image.start_image.Goals as goal
