@@ -11,8 +11,8 @@ A compact key has one byte for a weight that is alone in its cell. It has two by
 finds where cells begin, so that the letters of these lines (level 1) and their blanks and punctuation (level 4) take few bytes. Any rising starts keep the
 order of the keys. So an error here makes keys longer, and no order wrong.
 
-Weights that the lines lack get a small share of what is counted. So other texts are not dear: each weight of the table, and of the Han characters that
-a table does not list.
+All weights of the table, and those of Han characters, which a table does not list, have a small share of the counts. So texts with other letters than those
+of the lines are not dear. With `--others N` the share is one part in N: the more N is, the less other texts matter.
 
 `--weighting both` takes shifted keys, and makes one book for both weightings: blanks and punctuation also count at level 1, where non-ignorable keys have them.
 
@@ -34,9 +34,10 @@ MOST = {1: 245, 4: 255}
 # How many weights a cell has at most whose offsets take one byte.
 SPAN = 256
 
-# Each weight of the lines counts so often. Those of the table share one part in 50 of that, and those of Han characters one part in 250.
+# Each weight of the lines counts so often.
 UNIT = 1_000_000
-TABLE_PART, HAN_PART = 50, 250
+# All weights of the table together count as one part in OTHERS of the lines, and Han characters as one part in so many times OTHERS.
+OTHERS, HAN_PART = 30, 5
 
 # The prices of a start that are tried differ by one part in so many.
 PRECISION = 256
@@ -105,23 +106,22 @@ def table_weights(name):
     found = {(mark, int(weight, 16)) for row in rows for mark, weight in re.findall(r"\[([.*])([0-9A-Fa-f]{4})\.", row)}
     if not found:
         sys.exit(f"{name}: this is no table: it has no rows with weights.")
-    return ({weight for mark, weight in found if mark == kind and weight} for kind in "*.")
+    return (sorted(weight for mark, weight in found if mark == kind and weight) for kind in "*.")
 
 
 def han_weights():
     """The two weights of each Han character of the first block: a table has no rows for them."""
-    for code in range(0x4E00, 0xA000):
-        yield from (0xFB40 + (code >> 15), code & 0x7FFF | 0x8000)
+    return [weight for code in range(0x4E00, 0xA000) for weight in (0xFB40 + (code >> 15), code & 0x7FFF | 0x8000)]
 
 
 def with_shares(counts, *shares):
-    """The counts with a share for other weights: each share is the weights, and which part of the whole they have together."""
+    """The counts with a share for other weights: each share is the weights, and which part of the whole they have together. The first of them get most."""
     total = sum(counts.values()) or 1
     found = collections.Counter({weight: count * UNIT for weight, count in counts.items()})
     for weights, part in shares:
-        weights = list(weights)
-        for weight in weights:
-            found[weight] += max(1, total * UNIT // (part * len(weights)))
+        size = len(weights)
+        for left, weight in zip(range(size, 0, -1), weights):
+            found[weight] += 2 * left * total * UNIT // (part * size * (size + 1)) or 1
     return found
 
 
@@ -162,7 +162,7 @@ def cheapest(before, price):
 
 
 def choose(counts, level):
-    """The starts of a level, the first one too: those that cost least among as many as there may be."""
+    """The starts of a level, the first one too: those that cost least among as many, and no more than there may be."""
     before = sums_before(counts, ENDS[level])
     low, high = 1, 3 * before[-1] + 1
     found = cheapest(before, low)
@@ -196,10 +196,11 @@ def bytes_of(counts, starts, level):
 # ---- The book
 
 
-def level_one(sample, weighting, variables, letters):
+def level_one(sample, weighting, others, variables, letters):
     """The starts of level 1, and the bytes that this level takes with the end of each key."""
     counts = sample.counts(1)
-    own = with_shares(counts, (letters if weighting == "shifted" else letters | variables, TABLE_PART), (han_weights(), HAN_PART))
+    listed = letters if weighting == "shifted" else variables + letters
+    own = with_shares(counts, (listed, others), (han_weights(), HAN_PART * others))
     if weighting == "both":
         # half of the keys are as they were counted, and half have the weights of level 4 too
         for weight, count in sample.counts(4).items():
@@ -208,10 +209,10 @@ def level_one(sample, weighting, variables, letters):
     return starts, bytes_of(counts, starts, 1) + sample.keys
 
 
-def level_four(sample, variables):
+def level_four(sample, others, variables):
     """The starts of level 4, and the bytes that this level takes where it is not plain: each weight has a byte for the run before it."""
     counts = sample.counts(4)
-    starts = choose(with_shares(counts, (variables, TABLE_PART)), 4)
+    starts = choose(with_shares(counts, (variables, others)), 4)
     return starts, bytes_of(counts, starts, 4) + sum(counts.values()) + sample.marked
 
 
@@ -220,18 +221,26 @@ def mean(total, keys):
     return "%d.%02d" % divmod((200 * total + keys) // (2 * keys), 100)
 
 
+def positive(digits):
+    """A number of at least 1, for argparse."""
+    if not re.fullmatch("[0-9]{1,9}", digits) or not int(digits):
+        raise argparse.ArgumentTypeError(f"{digits} is not a number from 1 on")
+    return int(digits)
+
+
 def main():
     signal.signal(signal.SIGPIPE, signal.SIG_DFL)
     parser = argparse.ArgumentParser(description=__doc__.split("\n")[0], epilog="examples/books/README.md says more.")
     parser.add_argument("--weighting", choices=("shifted", "non-ignorable", "both"), default="shifted", help="that of the keys, shifted unless named; both: shifted keys")
+    parser.add_argument("--others", type=positive, default=OTHERS, metavar="N", help=f"all weights of the table count as one part in N of the lines ({OTHERS})")
     parser.add_argument("table", metavar="TABLE", help="the table that made the keys")
     given = parser.parse_args()
     variables, letters = table_weights(given.table)
     sample = read_sample(sys.stdin.buffer, given.weighting)
-    starts, taken = level_one(sample, given.weighting, variables, letters)
+    starts, taken = level_one(sample, given.weighting, given.others, variables, letters)
     book, said = [f"1 {start:04X}\n" for start in starts[1:]], f"level 1 {mean(taken, sample.keys)}"
     if sample.has_fourth:
-        starts, taken = level_four(sample, variables)
+        starts, taken = level_four(sample, given.others, variables)
         book += [f"4 {start:04X}\n" for start in starts[1:]]
         said += f", level 4 {mean(taken, sample.keys)}"
     sys.stdout.write("@book 1\n" + "".join(book))

@@ -5,13 +5,15 @@
     examples/books/general_lines.py --odd > odd.txt        every second line, from the first on; --even: the others
 
 First there are words of nine languages from Debian's lists of words, as many of each. Then there are the names that iso-codes has: countries, languages,
-currencies and scripts, in English and in each language that it has them in. The last are numbers. The same editions of these packages always give the same lines.
+currencies and scripts, in English and in each language that it has them in. Then there are Han characters, about as often as Unihan counted them in Chinese texts.
+The last are numbers. The same editions of these packages always give the same lines.
 """
 import argparse
+import bz2
 import gettext
 import glob
 import json
-import os
+import re
 import signal
 import sys
 
@@ -28,6 +30,7 @@ LISTS = {
     "wcatalan": "catalan",
 }
 WORDS, CODES, LOCALES = "/usr/share/dict", "/usr/share/iso-codes/json", "/usr/share/locale"
+READINGS = "/usr/share/unicode/Unihan_Readings.txt.bz2"
 
 # What is named, and which fields of its rows are names.
 NAMES = {
@@ -39,8 +42,8 @@ NAMES = {
     "iso_15924": ("name",),
 }
 
-# How many words there are of each list, and how many numbers.
-WORDS_OF_A_LIST, NUMBERS = 4_000, 2_000
+# How many words there are of each list, how many numbers, and which part of the counted Han characters.
+WORDS_OF_A_LIST, NUMBERS, HAN_PART = 4_000, 2_000, 60
 
 
 def content(name, package):
@@ -79,6 +82,14 @@ def names():
             yield from (said for said in map(language.gettext, english) if said not in english)
 
 
+def han():
+    """A line for each Han character that Unihan counts in Chinese texts, by its readings: the character as often as its part."""
+    text = bz2.decompress(content(READINGS, "unicode-data")).decode()
+    for code, counted in re.findall(r"^U\+([0-9A-F]+)\tkHanyuPinlu\t(.*)$", text, re.M):
+        total = sum(map(int, re.findall(r"\((\d+)\)", counted)))
+        yield chr(int(code, 16)) * max(1, total // HAN_PART)
+
+
 def main():
     signal.signal(signal.SIGPIPE, signal.SIG_DFL)
     sys.stdout.reconfigure(encoding="utf-8", newline="\n")
@@ -87,7 +98,7 @@ def main():
     half.add_argument("--odd", action="store_true", help="every second line, from the first on")
     half.add_argument("--even", action="store_true", help="every second line, from the second on")
     given = parser.parse_args()
-    lines = [*words(), *names(), *map(str, range(NUMBERS))]
+    lines = [*words(), *names(), *han(), *map(str, range(NUMBERS))]
     sys.stdout.writelines(f"{line}\n" for line in lines[int(given.even) :: 2 if given.odd or given.even else 1])
 
 
