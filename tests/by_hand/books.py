@@ -14,6 +14,7 @@ import random
 import re
 import subprocess
 import sys
+import tempfile
 import time
 
 TOP = os.path.dirname(os.path.dirname(os.path.dirname(os.path.realpath(__file__))))
@@ -208,30 +209,34 @@ def try_time():
 LINES = ["a", "b", "ab", "ba", "cab", "a b", "c-h", "a-b c", "ch", "d", "dab", "hab", "", "bach", "bad a"]
 
 
-def try_program(program):
+def compact_keys(rows):
+    """The keys of lines with keys, as bytes, and what comes after each."""
+    return [(bytes.fromhex(key.decode()), rest) for key, _, rest in (row.partition(b"\t") for row in rows.splitlines())]
+
+
+def try_program(program, folder):
     """The command `compact` by the books, and the command `expand` back from that."""
     if subprocess.run([program, "compact", "--help"], capture_output=True, check=False).returncode:
         COUNTS["not run"] += 1
         print("not run: the program has no command compact")
         return
     run = lambda *words, given: subprocess.run([program, *words], input=given, capture_output=True, check=False).stdout
-    text = "".join(f"{line}\n" for line in LINES).encode()
+    text, own = "".join(f"{line}\n" for line in LINES).encode(), f"{folder}/own.book"
     for weighting in ("shifted", "non-ignorable"):
         keys = run("keys", "--lines", "--weighting", weighting, TABLE, DATA, given=text)
-        own = f"{os.path.dirname(os.path.abspath(program))}/uca-test-{os.getpid()}.book"
-        status, book, said = choosing(keys, "--weighting", weighting)
+        _, book, said = choosing(keys, "--weighting", weighting)
         with open(own, "w", encoding="utf-8") as file:
             file.write(book)
         for name, path in (("a chosen book", own), ("general.book", f"{BOOKS}/general.book")):
             made = run("compact", "--weighting", weighting, path, given=keys)
             see(f"{weighting}: the keys come back by {name}", made.count(b"\n") == len(LINES) and run("expand", "--weighting", weighting, path, given=made) == keys)
-            ordered = lambda rows: [row.split(b"\t")[1] for row in sorted(rows.splitlines(), key=lambda row: bytes.fromhex(row.split(b"\t")[0].decode()))]
-            see(f"{weighting}: they have the order of the keys", ordered(made) == ordered(keys))
+            order = [[rest for _, rest in sorted(compact_keys(rows), key=lambda row: row[0])] for rows in (keys, made)]
+            see(f"{weighting}: their order stays by {name}", order[0] == order[1])
             if path == own:
-                total = sum(len(bytes.fromhex(row.split(b"\t")[0].decode())) for row in made.splitlines())
-                expected = sum(round(100 * float(it)) for it in re.findall(r"level \d ([0-9.]+)", said))
-                see(f"{weighting}: they take as many bytes as were expected", abs(100 * total - expected * len(LINES)) <= len(LINES), f"{total} in {len(LINES)} keys; {said.strip()}")
-        os.remove(own)
+                total = sum(len(key) for key, _ in compact_keys(made))
+                expected = sum(int(it.replace(".", "")) for it in re.findall(r"level \d ([0-9.]+)", said))
+                what = f"{total} bytes in {len(LINES)} keys; {said.strip()}"
+                see(f"{weighting}: they take as many bytes as were expected", abs(100 * total - expected * len(LINES)) <= len(LINES), what)
 
 
 def main():
@@ -245,7 +250,8 @@ def main():
     try_time()
     with open(f"{BOOKS}/general.book", encoding="utf-8") as file:
         see("general.book is a book", is_book(file.read()))
-    try_program(program)
+    with tempfile.TemporaryDirectory(prefix="uca-books-") as folder:
+        try_program(program, folder)
     print(f"{COUNTS['passed']} passed, {COUNTS['failed']} failed" + (f", {COUNTS['not run']} not run" if COUNTS["not run"] else ""))
     return 1 if COUNTS["failed"] else 0
 
