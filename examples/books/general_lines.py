@@ -76,7 +76,10 @@ def names():
         (rows,) = json.loads(content(f"{CODES}/{kind}.json", "iso-codes")).values()
         english = dict.fromkeys(row[field] for row in rows for field in fields if field in row)
         yield from english
-        for path in sorted(glob.glob(f"{LOCALES}/*/LC_MESSAGES/{kind}.mo")):
+        paths = sorted(glob.glob(f"{LOCALES}/*/LC_MESSAGES/{kind}.mo"))
+        if not paths:
+            sys.exit(f"{LOCALES}: there are no translations of {kind}. Debian has them in the package iso-codes.")
+        for path in paths:
             with open(path, "rb") as file:
                 language = gettext.GNUTranslations(file)
             yield from (said for said in map(language.gettext, english) if said not in english)

@@ -5,9 +5,11 @@
 
 It tries the cells that are chosen against all that there may be, for short levels. It runs the script over keys that are made here, and over keys that it
 has to reject. Where the program has the command `compact`, that command has to read the books, and the lengths that the script expects have to be those of the
-compact keys. Otherwise these checks are not run. It needs no package but Python. The last line is `N passed, M failed`, and how many were not run if there are any.
+compact keys. Otherwise these checks are not run. It needs no package but Python. Where the packages are here that examples/books/README.md names, in those
+editions, it makes general.book again. The last line is `N passed, M failed`, and how many were not run if there are any.
 """
 import argparse
+import hashlib
 import itertools
 import os
 import random
@@ -20,13 +22,17 @@ import time
 TOP = os.path.dirname(os.path.dirname(os.path.dirname(os.path.realpath(__file__))))
 BOOKS = f"{TOP}/examples/books"
 SCRIPT, TABLE, DATA = f"{BOOKS}/choose_book.py", f"{TOP}/examples/table.txt", f"{TOP}/examples/data.txt"
-NEEDS, WANTS = [], []
 COUNTS = {"passed": 0, "failed": 0, "not run": 0}
 
 sys.dont_write_bytecode = True
 sys.path.insert(0, BOOKS)
 
 import choose_book  # noqa: E402
+import packages  # noqa: E402
+
+NEEDS, WANTS = [], ["unicode-data", "iso-codes", "wamerican", *(name for name in packages.LISTS if name != "wamerican-large")]
+# The SHA-256 of what general_lines.py prints, and of the table, by which general.book was chosen.
+GENERAL_LINES, GENERAL_TABLE = "02ff4f8a90f1b18484ff0fe6b29d9b25634ebb5b4130d4bc156162b8c4e99069", "335df88b8159baa48567ded2c5756178815f4d7c3fd494f7a8c659d0ba51be3b"
 
 
 def see(what, holds, said=""):
@@ -204,6 +210,38 @@ def try_time():
     see("100,000 keys in less than a minute", status == 0 and seconds < 60, f"{seconds:.1f} s, {len(text):,} bytes")
 
 
+# ---- general.book
+
+
+def not_run(what):
+    COUNTS["not run"] += 1
+    print(f"not run: {what}", flush=True)
+
+
+def try_general(program, folder):
+    """The book of the folder, and whether its commands make it again from the packages that they name."""
+    with open(f"{BOOKS}/general.book", encoding="utf-8") as file:
+        general = file.read()
+    see("general.book is a book", is_book(general))
+    if lacking := packages.missing(WANTS):
+        not_run(f"general.book is not made again, for lack of Debian's {', '.join(lacking)}")
+        return
+    run = lambda *words: subprocess.run([sys.executable, *words], stdout=subprocess.PIPE, check=True).stdout
+    lines = run(f"{BOOKS}/general_lines.py")
+    halves = [run(f"{BOOKS}/general_lines.py", it).splitlines() for it in ("--odd", "--even")]
+    see("the odd and the even lines are all lines", [lines.splitlines()[at::2] for at in (0, 1)] == halves)
+    table, data = (run(f"{TOP}/tools/unicode_files.py", it) for it in ("table", "data"))
+    if [hashlib.sha256(it).hexdigest() for it in (lines, table)] != [GENERAL_LINES, GENERAL_TABLE]:
+        not_run("general.book is not made again: the packages are of other editions")
+        return
+    for name, content in (("table", table), ("data", data)):
+        with open(f"{folder}/{name}", "wb") as file:
+            file.write(content)
+    keys = subprocess.run([program, "keys", f"{folder}/table", f"{folder}/data"], input=lines, stdout=subprocess.PIPE, check=True).stdout
+    status, book, said = choosing(keys, "--weighting", "both", "--others", "100", table=f"{folder}/table")
+    see("general.book is made again", status == 0 and book == general, said.strip())
+
+
 # ---- The program
 
 LINES = ["a", "b", "ab", "ba", "cab", "a b", "c-h", "a-b c", "ch", "d", "dab", "hab", "", "bach", "bad a"]
@@ -217,8 +255,7 @@ def compact_keys(rows):
 def try_program(program, folder):
     """The command `compact` by the books, and the command `expand` back from that."""
     if subprocess.run([program, "compact", "--help"], capture_output=True, check=False).returncode:
-        COUNTS["not run"] += 1
-        print("not run: the program has no command compact")
+        not_run("the program has no command compact")
         return
     run = lambda *words, given: subprocess.run([program, *words], input=given, capture_output=True, check=False).stdout
     text, own = "".join(f"{line}\n" for line in LINES).encode(), f"{folder}/own.book"
@@ -248,9 +285,8 @@ def main():
     try_inputs()
     try_errors()
     try_time()
-    with open(f"{BOOKS}/general.book", encoding="utf-8") as file:
-        see("general.book is a book", is_book(file.read()))
     with tempfile.TemporaryDirectory(prefix="uca-books-") as folder:
+        try_general(program, folder)
         try_program(program, folder)
     print(f"{COUNTS['passed']} passed, {COUNTS['failed']} failed" + (f", {COUNTS['not run']} not run" if COUNTS["not run"] else ""))
     return 1 if COUNTS["failed"] else 0
