@@ -63,16 +63,18 @@ abbrev pub with_weight : List ℕ → Option ReadNumber → (List ℕ → Option
 with_weight front None more = None
 with_weight front (Some x) more = with_weights (front ++ x.0 ∷ []) (more x.1)
 
--- a lesser weight after these weights: the number of its cell is the next byte
+-- a weight of cells that rise from `start` on; the number of its cell is the next byte
+abbrev pub next_cell : (number start : ℕ) → List ℕ → (end : ℕ) → List ℕ → Option ReadNumber
+next_cell number start later end [] = None
+next_cell number start later end (wanted ∷ bytes) = read_cell number start later end wanted bytes
+
+-- a lesser weight after these weights
 abbrev pub lesser_then : Form → List ℕ → List ℕ → (List ℕ → Option ReadLevel) → Option ReadLevel
-lesser_then f front [] more = None
-lesser_then f front (number ∷ bytes) more = with_weight front (read_cell 0 1 f.lesser f.common number bytes) more
+lesser_then f front bytes more = with_weight front (next_cell 0 1 f.lesser f.common bytes) more
 
 -- a greater one
 abbrev pub greater_then : Form → List ℕ → List ℕ → (List ℕ → Option ReadLevel) → Option ReadLevel
-greater_then f front [] more = None
-greater_then f front (code ∷ bytes) more =
-    with_weight front (read_cell (first_cell f) (suc f.common) f.greater 65536 code bytes) more
+greater_then f front bytes more = with_weight front (next_cell (first_cell f) (suc f.common) f.greater 65536 bytes) more
 
 -- a longest run, if there is a common weight, and what is read after it
 abbrev pub longest_run_then : Form → Option ReadLevel → Option ReadLevel
