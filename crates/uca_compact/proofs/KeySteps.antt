@@ -156,6 +156,14 @@ three_read b bytes letters accents cases f g h m n o p q fe ge he ff gf hf me ne
 
 -- ---- Four levels
 
+-- how long the plain level is, by the counts that a program has
+pub plain_count_is : (cases all count : ℕ) (letters third : List ℕ) → cases ≡ length third → all ≡ length letters → count ≡ letter_count letters
+    → cases + (all - count) ≡ length third + (length letters - letter_count letters)
+plain_count_is cases all count letters third is_cases is_all is_count =
+    ap (λ (n : ℕ). n + (all - count)) is_cases
+    ∙ ap (λ (n : ℕ). length third + (n - count)) is_all
+    ∙ ap (λ (n : ℕ). length third + (length letters - n)) is_count
+
 pub four_read : (b : Book) (bytes letters accents cases variables : List ℕ) (f g h v : Form) (l m n : ℕ) (o p q r : Option Later)
     → f ≡ letters_form b 3 → g ≡ accents_form b 2 → h ≡ cases_form b 1 → v ≡ variables_form b 0 → IsForm f → IsForm g → IsForm h → IsForm v
     → l ≡ letter_count letters → m ≡ length accents → n ≡ length cases + (length letters - letter_count letters)

@@ -126,8 +126,7 @@ fn low_step<'a, A: Allocator>(
             rest: bytes,
         }));
     }
-    let step = run_step(weights, form.common, run, &lesser_cells(form), bytes)?;
-    Ok(step)
+    run_step(weights, form.common, run, &lesser_cells(form), bytes)
 }
 
 // The code of a longest run.
@@ -162,11 +161,10 @@ fn high_step<'a, A: Allocator>(
 {
     let cells = greater_cells(form);
     if code < cells.number {
-        let step = run_step(weights, form.common, cells.number - code, &cells, after)?;
-        return Ok(step);
+        run_step(weights, form.common, cells.number - code, &cells, after)
+    } else {
+        run_step(weights, form.common, 0, &cells, bytes)
     }
-    let step = run_step(weights, form.common, 0, &cells, bytes)?;
-    Ok(step)
 }
 
 // A step of reading a level from the beginning of these bytes.
@@ -185,12 +183,12 @@ fn read_step<'a, A: Allocator>(
     let code = u32::from(*code);
     let full = full_code(form);
     if code < full {
-        return low_step(form, code, after, weights);
+        low_step(form, code, after, weights)
+    } else if code == full {
+        longest_step(form, after, weights)
+    } else {
+        high_step(form, code, bytes, after, weights)
     }
-    if code == full {
-        return longest_step(form, after, weights);
-    }
-    high_step(form, code, bytes, after, weights)
 }
 
 /// Reads a level from the beginning of these bytes. Its weights take the place of those that were there.

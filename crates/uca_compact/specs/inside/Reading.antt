@@ -1,6 +1,6 @@
 -- Reading compact keys, in steps as a decoder has them.
 use Rattle.std.specs.Prelude.{ℕ, zero, suc, ◌+◌, ◌*◌, ◌-◌, ◌/◌, ◌%◌, List, [], ◌∷◌, ◌++◌, Bool, true, false, Option, Some, None, length, min, nat_lt, nat_eq, if◌then◌else◌}
-use Rattle.std.specs.Ordering.{nat_cmp}
+use Rattle.std.specs.Ordering.{nat_cmp, is_lt, is_gt}
 use Rattle.std.specs.declared.cmp.Ordering.{Ordering}
 use Rattle.std.specs.declared.cmp.Ordering.TheVariants.{Less, Equal, Greater}
 use Rattle.std.specs.Str.{chars, is_utf8}
@@ -119,13 +119,9 @@ plain_count later end = min end (2 * later - end)
 
 -- A level that is written is not plain: it is less than the plain one, or greater, as the end before it says.
 abbrev pub is_on_side : Ordering → Ordering → Bool
-is_on_side Less Less = true
-is_on_side Less Equal = false
-is_on_side Less Greater = false
+is_on_side Less order = is_lt order
 is_on_side Equal order = false
-is_on_side Greater Less = false
-is_on_side Greater Equal = false
-is_on_side Greater Greater = true
+is_on_side Greater order = is_gt order
 
 -- The levels after some. The next `count` of them are plain, and the one after these is on this side of the plain one.
 abbrev pub read_later : Plain → List Form → (earlier : List (List ℕ)) → (count : ℕ) → (side : Ordering) → List ℕ → Option ReadLevels
