@@ -45,13 +45,18 @@ passed_by test None ws false is = refl
 passed_by test (Some k) ws b is = ap (λ (t : Bool). cond t (then_of (Some k) ws) None) is
 
 -- a level that is written
-pub written_next : (f : Form) (later count : ℕ) (plain ws : List ℕ) (side order : Ordering) (bytes : List ℕ) (o : Option Later) (b : Bool) → count ≡ 0
-    → told_of later (read_level f bytes) ≡ then_of o ws → order ≡ lexicographic ws plain → b ≡ is_on_side side order
-    → level_by f later plain count side bytes ≡ cond b (then_of o ws) None
-written_next f later (suc count) plain ws side order bytes o b none is compared test = absurd (omega arith)
-written_next f later zero plain ws side order bytes o b none is compared test =
+pub written_next : (f : Form) (later count : ℕ) (plain read ws : List ℕ) (side order : Ordering) (bytes : List ℕ) (o : Option Later) (b t : Bool) → count ≡ 0
+    → told_of later (read_level f bytes) ≡ then_of o ws → read ≡ ws → order ≡ lexicographic read plain → b ≡ is_on_side side order → b ≡ t
+    → level_by f later plain count side bytes ≡ cond t (then_of o ws) None
+written_next f later (suc count) plain read ws side order bytes o b t none is same compared test so = absurd (omega arith)
+written_next f later zero plain read ws side order bytes o b t none is same compared test so =
     ap (passed (λ (level : List ℕ). is_on_side side (lexicographic level plain))) is
-    ∙ passed_by (λ (level : List ℕ). is_on_side side (lexicographic level plain)) o ws b (sym (test ∙ ap (is_on_side side) compared))
+    ∙ passed_by (λ (level : List ℕ). is_on_side side (lexicographic level plain)) o ws t
+    (sym (ap (λ (xs : List ℕ). is_on_side side (lexicographic xs plain)) same) ∙ sym (test ∙ ap (is_on_side side) compared) ∙ so)
+
+-- no level follows, if none was read
+pub none_next : (f : Form) (later : ℕ) (plain : List ℕ) (o : Option Later) → o ≡ None → level_after f later plain o ≡ None
+none_next f later plain o is = ap (level_after f later plain) is
 
 -- ---- Levels after one another
 
