@@ -79,8 +79,8 @@ level_of_end (Some e) ws = Some (record { weights = ws; end = e.end; rest = e.re
 
 -- ---- Levels
 
--- a level, and what its end tells: so many of the next levels are plain, the one after these is on this side of the
--- plain one, and its bytes are these
+-- A level, and what its end tells: so many of the next levels are plain, and the one after these is on this side of
+-- the plain one. The bytes are those after the level.
 pub record LevelThen : Type 0 where
   pub level : List ℕ
   pub count : ℕ
