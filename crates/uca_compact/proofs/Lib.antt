@@ -19,3 +19,4 @@ pub mod CellSteps
 pub mod LevelSteps
 pub mod KeySteps
 pub mod ExpandedKeys
+pub mod KeyBytes

@@ -58,12 +58,14 @@ fn push_points<A: Allocator>(key: &mut Vec<u8, A>, text: &str) -> Result<(), All
 fn push_identical<A: Allocator>(key: &mut Vec<u8, A>, bytes: &[u8]) -> Result<bool, AllocError>
     ensures { IfOk result (λ found. option_map (λ more. key.old.items ++ more) (key_end Identical bytes.now) ≡ (if found then Some key.new.items else None)) }
 {
-    let Ok(text) = str::from_utf8(bytes) else {
-        return Ok(false);
-    };
-    key.extend_from_slice(&SEPARATOR)?;
-    push_points(key, text)?;
-    Ok(true)
+    match str::from_utf8(bytes) {
+        Ok(text) => {
+            key.extend_from_slice(&SEPARATOR)?;
+            push_points(key, text)?;
+            Ok(true)
+        }
+        Err(_) => Ok(false),
+    }
 }
 
 /// Adds to a key what follows its levels, by the bytes after the levels of a compact key. It returns whether a compact
