@@ -45,15 +45,15 @@ point_written front key new points bytes point so_far is added =
 
 -- the test of bytes that are no UTF-8
 not_utf8 : (bytes : List ℕ) (t : Bool) → is_utf8 bytes ≡ t → ¬ (IsUtf8 bytes) → t ≡ false
-not_utf8 bytes true test not = absurd (not (IsUtf8-from_is_utf8 bytes test))
-not_utf8 bytes false test not = refl
+not_utf8 bytes true test other = absurd (other (IsUtf8-from_is_utf8 bytes test))
+not_utf8 bytes false test other = refl
 
 -- a key ends so, by the test
 abbrev pub ended_by : (front bytes : List ℕ) → Bool → Option (List ℕ)
 ended_by front bytes t = option_map (λ (more : List ℕ). front ++ more) (cond t (Some (0 ∷ 0 ∷ points_bytes (chars bytes))) None)
 
 pub no_identical : (front bytes : List ℕ) → ¬ (IsUtf8 bytes) → option_map (λ more. front ++ more) (key_end Identical bytes) ≡ None
-no_identical front bytes not = ap (ended_by front bytes) (not_utf8 bytes (is_utf8 bytes) refl not)
+no_identical front bytes other = ap (ended_by front bytes) (not_utf8 bytes (is_utf8 bytes) refl other)
 
 pub identical_written : (front one two bytes text : List ℕ) → IsUtf8 bytes → text ≡ bytes → one ≡ front ++ 0 ∷ 0 ∷ [] → two ≡ one ++ points_bytes (chars text)
     → option_map (λ more. front ++ more) (key_end Identical bytes) ≡ Some two
