@@ -1,5 +1,5 @@
 -- Steps of reading a level.
-use Rattle.std.proofs.Common.{◌≡◌, ◌≢◌, ℕ, zero, suc, ◌+◌, ◌-◌, ◌/◌, ◌%◌, ◌<◌, ◌≤◌, List, [], ◌∷◌, ◌++◌, Bool, true, false, cond, Option, Some, None, Result, Ok, Err, IfOk, nat_eq, nat_lt, length, refl, ap, sym, subst, ◌∙◌, arith, append_assoc, append-nil}
+use Rattle.std.proofs.Common.{◌≡◌, ◌≢◌, ℕ, zero, suc, ◌+◌, ◌-◌, ◌/◌, ◌%◌, ◌<◌, ◌≤◌, List, [], ◌∷◌, ◌++◌, Bool, true, false, cond, Option, Some, None, Result, Ok, Err, IfOk, nat_eq, nat_lt, length, get_or, drop, refl, ap, sym, subst, ◌∙◌, arith, append_assoc, append-nil}
 use Rattle.std.proofs.lemmas.Bool.Decides.{nat_tests}
 use Rattle.uca_compact.specs.Forms.{Form, step, full, first_cell}
 use Rattle.uca_compact.specs.PlainLevels.{copies}
@@ -177,6 +177,16 @@ high_taken {E} f r code longest all bytes out new is_all is_longest over =
     let below : nat_lt code (full f) ≡ false = (let le : full f ≤ code = omega (arith, is_longest, over) in grind (arith, nat_tests)) in
     let test : nat_eq code (full f) ≡ false = (let lt : full f < code = omega (arith, is_longest, over) in grind (arith, nat_tests)) in
     ap (read_steps f (suc steps)) is_all ∙ by_tests f steps code bytes false false below test)
+
+-- nothing is left to read
+pub nothing_taken : (f : Form) (out bytes : List ℕ) → length bytes < 1 → (steps : ℕ) → None ≡ with_weights out (read_steps f (suc steps) bytes)
+nothing_taken f out [] none steps = refl
+nothing_taken f out (b ∷ bytes) none steps = absurd (omega arith)
+
+-- the first byte, and those after it
+pub first_rest : (bytes : List ℕ) → 1 ≤ length bytes → bytes ≡ get_or bytes 0 0 ∷ drop 1 bytes
+first_rest [] some = absurd (omega arith)
+first_rest (b ∷ bytes) some = refl
 
 -- a step leaves less of more bytes
 pub leaves_less : {E : Type 0} (r : Result Step E) (m n : ℕ) → m ≤ n → IfOk r (λ taken. LeavesLess taken m) → IfOk r (λ taken. LeavesLess taken n)
