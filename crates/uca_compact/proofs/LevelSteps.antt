@@ -178,6 +178,12 @@ high_taken {E} f r code longest all bytes out new is_all is_longest over =
     let test : nat_eq code (full f) ≡ false = (let lt : full f < code = omega (arith, is_longest, over) in grind (arith, nat_tests)) in
     ap (read_steps f (suc steps)) is_all ∙ by_tests f steps code bytes false false below test)
 
+-- a step, by what it was
+pub step_known : (f : Form) (out new rest : List ℕ) (taken known : Step) → taken ≡ known
+    → ((steps : ℕ) → after_step (read_steps f steps) new taken ≡ with_weights out (read_steps f (suc steps) rest))
+    → (steps : ℕ) → after_step (read_steps f steps) new known ≡ with_weights out (read_steps f (suc steps) rest)
+step_known f out new rest taken known is h = λ steps. ap (after_step (read_steps f steps) new) (sym is) ∙ h steps
+
 -- nothing is left to read
 pub nothing_taken : (f : Form) (out bytes : List ℕ) → length bytes < 1 → (steps : ℕ) → None ≡ with_weights out (read_steps f (suc steps) bytes)
 nothing_taken f out [] none steps = refl

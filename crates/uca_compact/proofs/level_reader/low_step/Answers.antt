@@ -2,7 +2,7 @@ use Rattle.std.proofs.Common.{◌≡◌, ℕ, ◌+◌, ◌/◌, ◌%◌, ap, ari
 use Rattle.uca_compact.specs.Forms.{step}
 use Rattle.uca_compact.specs.Programs.{form_of}
 use Rattle.uca_compact.specs.inside.LevelSteps.{row_of}
-use Rattle.uca_compact.proofs.LevelSteps.{low_end, low_weight, leaves_less}
+use Rattle.uca_compact.proofs.LevelSteps.{low_end, low_weight}
 use Rattle.uca_compact.proofs.level_reader.low_step.Goals as goal
 
 pub returns-then-end-ends-clause-read : goal.returns-then-end-ends-clause-read
