@@ -1,6 +1,7 @@
 -- Steps of reading a level.
-use Rattle.std.proofs.Common.{◌≡◌, ◌≢◌, ℕ, zero, suc, ◌+◌, ◌-◌, ◌/◌, ◌%◌, ◌<◌, ◌≤◌, List, [], ◌∷◌, ◌++◌, Bool, true, false, cond, Option, Some, None, Result, Ok, Err, IfOk, nat_eq, nat_lt, length, get_or, drop, refl, ap, sym, subst, ◌∙◌, arith, append_assoc, append-nil}
+use Rattle.std.proofs.Common.{◌≡◌, ◌≢◌, ℕ, zero, suc, ◌+◌, ◌-◌, ◌/◌, ◌%◌, ◌<◌, ◌≤◌, List, [], ◌∷◌, ◌++◌, Bool, true, false, cond, Option, Some, None, Result, Ok, Err, IfOk, nat_eq, nat_lt, length, get_or, take, drop, refl, ap, sym, subst, ◌∙◌, arith, append_assoc, append-nil}
 use Rattle.std.proofs.lemmas.Bool.Decides.{nat_tests}
+use Rattle.std.proofs.lemmas.List.{take_all}
 use Rattle.uca_compact.specs.Forms.{Form, step, full, first_cell}
 use Rattle.uca_compact.specs.PlainLevels.{copies}
 use Rattle.uca_compact.specs.inside.Reading.{ReadNumber, ReadLevel, with_weights, with_weight, lesser_then, greater_then, longest_run_then, read_steps, read_level}
@@ -190,9 +191,11 @@ nothing_taken f out [] none steps = refl
 nothing_taken f out (b ∷ bytes) none steps = absurd (omega arith)
 
 -- the first byte, and those after it
-pub first_rest : (bytes : List ℕ) → 1 ≤ length bytes → bytes ≡ get_or bytes 0 0 ∷ drop 1 bytes
-first_rest [] some = absurd (omega arith)
-first_rest (b ∷ bytes) some = refl
+pub first_rest : (bytes : List ℕ) (first : ℕ) → 1 ≤ length bytes → first ≡ get_or bytes 0 0 → bytes ≡ first ∷ take (length bytes - 1) (drop 1 bytes)
+first_rest [] first some is = absurd (omega arith)
+first_rest (b ∷ bytes) first some is =
+    ap (λ (xs : List ℕ). b ∷ xs) (sym (take_all (suc (length bytes) - 1) bytes (omega arith)))
+    ∙ ap (λ (n : ℕ). n ∷ take (suc (length bytes) - 1) bytes) (sym is)
 
 -- a step leaves less of more bytes
 pub leaves_less : {E : Type 0} (r : Result Step E) (m n : ℕ) → m ≤ n → IfOk r (λ taken. LeavesLess taken m) → IfOk r (λ taken. LeavesLess taken n)

@@ -16,7 +16,7 @@ returns g c =
     let two = c.push_next.new.key.items in
     let three = c.push_next-2.new.key.items in
     let four = c.push_next-3.new.key.items in
-    key_written Shifted c.args.depth c.args.book.now c.args.compact.now c.in_ok-last.last c.in-Some.last (a ∷ b ∷ d ∷ e ∷ []) four c.push_end.new.key.items c.in_ok-found.found
+    key_written Shifted c.args.depth c.args.book.now c.args.compact.now c.in_ok-last.field-0 c.in-Some.last (a ∷ b ∷ d ∷ e ∷ []) four c.push_end.new.key.items c.in_ok-found.found
     c.in_ok-last.ensures c.in-Some.is
     (four_bytes start one two three four a b d e c.requires
     (c.in_ok-push_weights.ensures ∙ ap (λ (xs : List ℕ). start ++ level_bytes xs) c.as_slice.ensures.value)

@@ -14,7 +14,7 @@ returns g c =
     let one = c.push_weights.new.key.items in
     let two = c.push_next.new.key.items in
     let three = c.push_next-2.new.key.items in
-    key_written NonIgnorable c.args.depth c.args.book.now c.args.compact.now c.in_ok-last.last c.in-Some.last (a ∷ b ∷ d ∷ []) three c.push_end.new.key.items c.in_ok-found.found
+    key_written NonIgnorable c.args.depth c.args.book.now c.args.compact.now c.in_ok-last.field-0 c.in-Some.last (a ∷ b ∷ d ∷ []) three c.push_end.new.key.items c.in_ok-found.found
     c.in_ok-last.ensures c.in-Some.is
     (three_bytes start one two three a b d c.requires
     (c.in_ok-push_weights.ensures ∙ ap (λ (xs : List ℕ). start ++ level_bytes xs) c.as_slice.ensures.value)

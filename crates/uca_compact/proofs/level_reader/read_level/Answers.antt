@@ -16,11 +16,11 @@ loop-after-preserved g c =
     let rest = c.loop-after.rest.now in
     let new = c.read_step.new.weights.items in
     gone_on f c.args.bytes.now ws rest new c.in-More.after.now c.loop-after.invariant
-    (subst (λ (s : Step). LeavesLess s (length rest)) c.in-More.is c.in_ok-read_step.ensures.less)
-    (step_known f ws new rest _ (More c.in-More.after) c.in-More.is c.in_ok-read_step.ensures.read)
+    (subst (λ (s : Step). LeavesLess s (length rest)) c.in-More.is c.in_ok-after.ensures.less)
+    (step_known f ws new rest _ (More c.in-More.after) c.in-More.is c.in_ok-after.ensures.read)
 
 pub loop-after-smaller : goal.loop-after-smaller
-loop-after-smaller g c = subst (λ (s : Step). LeavesLess s (length c.loop-after.rest.now)) c.in-More.is c.in_ok-read_step.ensures.less
+loop-after-smaller g c = subst (λ (s : Step). LeavesLess s (length c.loop-after.rest.now)) c.in-More.is c.in_ok-after.ensures.less
 
 pub returns-in-End : goal.returns-in-End
 returns-in-End g c =
@@ -29,7 +29,7 @@ returns-in-End g c =
     let rest = c.loop-after.rest.now in
     let new = c.read_step.new.weights.items in
     read_out f c.args.bytes.now ws rest (level_of_end (Some c.in-End.level) new) c.loop-after.invariant
-    (step_known f ws new rest _ (End c.in-End.level) c.in-End.is c.in_ok-read_step.ensures.read)
+    (step_known f ws new rest _ (End c.in-End.level) c.in-End.is c.in_ok-after.ensures.read)
 
 pub returns-in-Nothing : goal.returns-in-Nothing
 returns-in-Nothing g c =
@@ -38,4 +38,4 @@ returns-in-Nothing g c =
     let rest = c.loop-after.rest.now in
     let new = c.read_step.new.weights.items in
     read_out f c.args.bytes.now ws rest (level_of_end None new) c.loop-after.invariant
-    (step_known f ws new rest _ Nothing c.in-Nothing.is c.in_ok-read_step.ensures.read)
+    (step_known f ws new rest _ Nothing c.in-Nothing.is c.in_ok-after.ensures.read)
