@@ -1,5 +1,5 @@
 -- Steps of reading all levels of a key.
-use Rattle.std.proofs.Common.{◌≡◌, ℕ, zero, suc, ◌+◌, ◌-◌, ◌<◌, ◌≤◌, List, [], ◌∷◌, ◌++◌, Bool, true, false, cond, Option, Some, None, option_map, length, refl, ap, sym, subst, ◌∙◌, arith, append_assoc, append-nil}
+use Rattle.std.proofs.Common.{◌≡◌, ℕ, zero, suc, ◌+◌, ◌-◌, ◌<◌, List, [], ◌∷◌, ◌++◌, Bool, true, false, cond, Option, Some, None, option_map, length, refl, ap, sym, subst, ◌∙◌, arith, append_assoc, append-nil}
 use Rattle.std.specs.Ordering.{nat_cmp}
 use Rattle.std.specs.Str.{chars, is_utf8}
 use Rattle.std.specs.declared.cmp.Ordering.{Ordering}
@@ -9,10 +9,10 @@ use Rattle.uca_weights.specs.declared.Weighting.{Weighting}
 use Rattle.uca_weights.specs.declared.Weighting.TheVariants.{NonIgnorable, Shifted}
 use Rattle.uca_order.specs.Levels.{lexicographic, level_bytes, levels_bytes}
 use Rattle.uca_order.specs.Depths.{points_bytes}
-use Rattle.uca_compact.specs.Forms.{Form, AreForms, IsForm, Book, letters_form, accents_form, cases_form, variables_form, forms_of}
+use Rattle.uca_compact.specs.Forms.{Form, IsForm, Book, letters_form, accents_form, cases_form, variables_form}
 use Rattle.uca_compact.specs.PlainLevels.{copies, letter_count, plain_level}
-use Rattle.uca_compact.specs.CompactKeys.{Plain, KeyParts, stored_key}
-use Rattle.uca_compact.specs.inside.Reading.{ReadLevel, read_level, ReadLevels, with_level, level_then, plain_count, is_on_side, read_later, read_levels, with_rest, read_key}
+use Rattle.uca_compact.specs.CompactKeys.{Plain, stored_key}
+use Rattle.uca_compact.specs.inside.Reading.{ReadLevel, read_level, ReadLevels, with_level, level_then, plain_count, is_on_side, read_later, read_levels, with_rest}
 use Rattle.uca_compact.specs.inside.LevelSteps.{level_of_end, LevelThen, then_of, told_of, passed, level_by, level_after, levels_of, AreRead, key_end, IsExpanded}
 use Rattle.uca_compact.specs.declared.level_reader.LevelEnd.{LevelEnd}
 use Rattle.uca_compact.specs.declared.key_reader.Later.{Later}

@@ -93,10 +93,7 @@ fn read_later<'a, A: Allocator>(
         }));
     }
     let next = read_first(form, later, known.rest, weights)?;
-    if is_on_side(
-        known.side,
-        compare_run(weights.as_slice(), weight, count),
-    ) {
+    if is_on_side(known.side, compare_run(weights.as_slice(), weight, count)) {
         Ok(next)
     } else {
         Ok(None)

@@ -1,5 +1,5 @@
 -- Reading compact keys, as a program takes its steps.
-use Rattle.std.specs.Prelude.{◌≡◌, ⊤, ℕ, zero, suc, ◌+◌, ◌*◌, ◌-◌, ◌/◌, ◌%◌, ◌<◌, ◌≤◌, List, [], ◌∷◌, ◌++◌, Bool, Option, Some, None, length, option_map, nat_lt, if◌then◌else◌}
+use Rattle.std.specs.Prelude.{◌≡◌, ⊤, ℕ, zero, suc, ◌-◌, ◌/◌, ◌%◌, ◌<◌, List, [], ◌∷◌, Bool, Option, Some, None, length, option_map, nat_lt, if◌then◌else◌}
 use Rattle.std.specs.Ordering.{nat_cmp}
 use Rattle.std.specs.Str.{chars, is_utf8}
 use Rattle.std.specs.declared.cmp.Ordering.{Ordering}
@@ -11,7 +11,7 @@ use Rattle.uca_order.specs.Depths.{points_bytes}
 use Rattle.uca_compact.specs.Forms.{Form, step, first_cell, AreForms, Book, forms_of}
 use Rattle.uca_compact.specs.PlainLevels.{copies, plain_level}
 use Rattle.uca_compact.specs.CompactKeys.{stored_key}
-use Rattle.uca_compact.specs.inside.Reading.{ReadNumber, next_cell, ReadLevel, with_weights, with_weight, lesser_then, greater_then, read_level, ReadLevels, plain_count, is_on_side, read_levels, read_key}
+use Rattle.uca_compact.specs.inside.Reading.{ReadNumber, next_cell, ReadLevel, with_weights, lesser_then, greater_then, read_level, ReadLevels, plain_count, is_on_side, read_levels, read_key}
 use Rattle.uca_compact.specs.declared.cells.Number.{Number}
 use Rattle.uca_compact.specs.declared.cells.Cells.{Cells}
 use Rattle.uca_compact.specs.declared.level_reader.LevelEnd.{LevelEnd}

@@ -1,7 +1,6 @@
-use Rattle.std.proofs.Common.{ℕ, List, [], ◌∷◌, refl}
+use Rattle.std.proofs.Common.{[], ◌∷◌, refl}
 use Rattle.uca_weights.specs.declared.Depth.TheVariants.{Weights, Identical}
 use Rattle.uca_weights.specs.declared.Weighting.TheVariants.{NonIgnorable, Shifted}
-use Rattle.uca_compact.specs.WorkedReadings.{IsOfNone}
 use Rattle.uca_compact.specs.WorkedKeys.{small_book}
 use Rattle.uca_compact.proofs.ExpandedKeys.{is_of_no_key, small_forms, half_point_read}
 use Rattle.uca_compact.proofs.laws.worked_readings.Goals as goal
