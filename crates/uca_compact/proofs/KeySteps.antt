@@ -54,10 +54,6 @@ written_next f later zero plain read ws side order bytes o b t none is same comp
     ∙ passed_by (λ (level : List ℕ). is_on_side side (lexicographic level plain)) o ws t
     (sym (ap (λ (xs : List ℕ). is_on_side side (lexicographic xs plain)) same) ∙ sym (test ∙ ap (is_on_side side) compared) ∙ so)
 
--- no level follows, if none was read
-pub none_next : (f : Form) (later : ℕ) (plain : List ℕ) (o : Option Later) → o ≡ None → level_after f later plain o ≡ None
-none_next f later plain o is = ap (level_after f later plain) is
-
 -- ---- Levels after one another
 
 -- a level, and those after it
@@ -225,15 +221,6 @@ key_written weighting depth b compact last k levels front key found h is written
       read = ap (λ (o : Option ReadLevels). option_map (stored_key depth) (with_rest depth o)) (h.read ∙ ap (λ (o : Option Later). levels_of o levels) is)
           ∙ ended_key depth levels k.rest.now
           ∙ ap (λ (xs : List ℕ). option_map (λ (more : List ℕ). xs ++ more) (key_end depth k.rest.now)) (sym written) ∙ ended;
-    }
-
--- no levels were read
-pub none_written : (weighting : Weighting) (depth : Depth) (b : Book) (compact : List ℕ) (last : Option Later) (levels : List (List ℕ)) (key : List ℕ)
-    → AreRead weighting b compact last levels → last ≡ None → IsExpanded depth weighting b compact key false
-none_written weighting depth b compact last levels key h is =
-    record {
-      forms = h.forms;
-      read = ap (λ (o : Option ReadLevels). option_map (stored_key depth) (with_rest depth o)) (h.read ∙ ap (λ (o : Option Later). levels_of o levels) is);
     }
 
 -- ---- Bytes of levels

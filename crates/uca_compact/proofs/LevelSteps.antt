@@ -185,24 +185,12 @@ pub step_known : (f : Form) (out new rest : List ℕ) (taken known : Step) → t
     → (steps : ℕ) → after_step (read_steps f steps) new known ≡ with_weights out (read_steps f (suc steps) rest)
 step_known f out new rest taken known is h = λ steps. ap (after_step (read_steps f steps) new) (sym is) ∙ h steps
 
--- nothing is left to read
-pub nothing_taken : (f : Form) (out bytes : List ℕ) → length bytes < 1 → (steps : ℕ) → None ≡ with_weights out (read_steps f (suc steps) bytes)
-nothing_taken f out [] none steps = refl
-nothing_taken f out (b ∷ bytes) none steps = absurd (omega arith)
-
 -- the first byte, and those after it
 pub first_rest : (bytes : List ℕ) (first : ℕ) → 1 ≤ length bytes → first ≡ get_or bytes 0 0 → bytes ≡ first ∷ take (length bytes - 1) (drop 1 bytes)
 first_rest [] first some is = absurd (omega arith)
 first_rest (b ∷ bytes) first some is =
     ap (λ (xs : List ℕ). b ∷ xs) (sym (take_all (suc (length bytes) - 1) bytes (omega arith)))
     ∙ ap (λ (n : ℕ). n ∷ take (suc (length bytes) - 1) bytes) (sym is)
-
--- a step leaves less of more bytes
-pub leaves_less : {E : Type 0} (r : Result Step E) (m n : ℕ) → m ≤ n → IfOk r (λ taken. LeavesLess taken m) → IfOk r (λ taken. LeavesLess taken n)
-leaves_less {E} (Ok (More rest)) m n le h = omega (arith, h)
-leaves_less {E} (Ok (End e)) m n le h = h
-leaves_less {E} (Ok Nothing) m n le h = h
-leaves_less {E} (Err e) m n le h = h
 
 -- ---- A level
 
