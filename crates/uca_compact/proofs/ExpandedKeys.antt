@@ -6,13 +6,14 @@ use Rattle.uca_weights.specs.declared.Depth.{Depth}
 use Rattle.uca_weights.specs.declared.Depth.TheVariants.{Identical}
 use Rattle.uca_weights.specs.declared.Weighting.{Weighting}
 use Rattle.uca_weights.specs.declared.Weighting.TheVariants.{NonIgnorable}
-use Rattle.uca_compact.specs.Forms.{AreForms, Book, IsBook, forms_of}
+use Rattle.uca_books.specs.Books.{BookContent, IsBook}
+use Rattle.uca_compact.specs.Forms.{AreForms, forms_of}
 use Rattle.uca_compact.specs.CompactKeys.{KeyParts, stored_key, compact_key}
 use Rattle.uca_compact.specs.StoredParts.{stored_parts, IsCompactOf, IsOfNoKey}
 use Rattle.uca_compact.specs.WorkedKeys.{small_book}
 use Rattle.uca_compact.specs.inside.Reading.{read_key}
 use Rattle.uca_compact.specs.inside.LevelSteps.{IsExpanded}
-use Rattle.uca_compact.proofs.TextOrder.{forms_fit}
+use Rattle.uca_compact.proofs.Forms.{forms_fit}
 use Rattle.uca_compact.proofs.OnlyCells.{AreBytes, nothing, same_some}
 use Rattle.uca_compact.proofs.StoredBack.{stored_again, stored_only}
 use Rattle.uca_compact.proofs.WholeKeys.{keys_back, keys_only}
@@ -25,7 +26,7 @@ bytes_are (b ∷ bytes) h = (h 0 (omega arith), bytes_are bytes (λ k low. h (su
 -- ---- No key
 
 -- what is read of the compact key of a key
-origin_by : (depth : Depth) (weighting : Weighting) (b : Book) → AreForms (forms_of weighting b) → (compact key : List ℕ) → AreBytes key → (o : Option KeyParts)
+origin_by : (depth : Depth) (weighting : Weighting) (b : BookContent) → AreForms (forms_of weighting b) → (compact key : List ℕ) → AreBytes key → (o : Option KeyParts)
     → stored_parts depth weighting key ≡ o → option_map (compact_key depth weighting b) o ≡ Some compact → (k : KeyParts) × (read_key depth weighting b compact ≡ Some k)
 origin_by depth weighting b fs compact key are None is h = nothing h
 origin_by depth weighting b fs compact key are (Some k) is h =
@@ -33,7 +34,7 @@ origin_by depth weighting b fs compact key are (Some k) is h =
     (k, ap (read_key depth weighting b) (sym code) ∙ keys_back depth weighting b k fs (stored_only depth weighting key are k is).0)
 
 -- if nothing is read of bytes, they are of no key
-pub is_of_no_key : (depth : Depth) (weighting : Weighting) (b : Book) → AreForms (forms_of weighting b) → (compact : List ℕ)
+pub is_of_no_key : (depth : Depth) (weighting : Weighting) (b : BookContent) → AreForms (forms_of weighting b) → (compact : List ℕ)
     → read_key depth weighting b compact ≡ None → IsOfNoKey depth weighting b compact
 is_of_no_key depth weighting b fs compact none =
     λ key are is. let found = origin_by depth weighting b fs compact key are (stored_parts depth weighting key) refl is in
@@ -42,7 +43,7 @@ is_of_no_key depth weighting b fs compact none =
 -- ---- A key
 
 -- these are the compact bytes of the key of what was read
-key_by : (depth : Depth) (weighting : Weighting) (b : Book) → AreForms (forms_of weighting b) → (compact key : List ℕ) → AreBytes compact → (o : Option KeyParts)
+key_by : (depth : Depth) (weighting : Weighting) (b : BookContent) → AreForms (forms_of weighting b) → (compact key : List ℕ) → AreBytes compact → (o : Option KeyParts)
     → read_key depth weighting b compact ≡ o → option_map (stored_key depth) o ≡ Some key → IsCompactOf depth weighting b key compact
 key_by depth weighting b fs compact key are None is h = nothing h
 key_by depth weighting b fs compact key are (Some k) is h =
@@ -58,7 +59,7 @@ none_by depth None h = refl
 none_by depth (Some k) h = nothing (sym h)
 
 -- what an expander promises
-pub promised : (depth : Depth) (weighting : Weighting) (b : Book) (compact key : List ℕ) (found : Bool) → AreBytes compact
+pub promised : (depth : Depth) (weighting : Weighting) (b : BookContent) (compact key : List ℕ) (found : Bool) → AreBytes compact
     → IsExpanded depth weighting b compact key found
     → MatchBool found (IsCompactOf depth weighting b key compact) (IsOfNoKey depth weighting b compact)
 promised depth weighting b compact key true are h = key_by depth weighting b h.forms compact key are (read_key depth weighting b compact) refl h.read
@@ -66,7 +67,7 @@ promised depth weighting b compact key false are h =
     is_of_no_key depth weighting b h.forms compact (none_by depth (read_key depth weighting b compact) h.read)
 
 -- if no allocation failed
-pub promised_if_ok : {E : Type 0} (r : Result Bool E) (depth : Depth) (weighting : Weighting) (b : Book) (compact key : List ℕ) → AreBytes compact
+pub promised_if_ok : {E : Type 0} (r : Result Bool E) (depth : Depth) (weighting : Weighting) (b : BookContent) (compact key : List ℕ) → AreBytes compact
     → IfOk r (λ found. IsExpanded depth weighting b compact key found)
     → IfOk r (λ found. MatchBool found (IsCompactOf depth weighting b key compact) (IsOfNoKey depth weighting b compact))
 promised_if_ok {E} (Ok found) depth weighting b compact key are h = promised depth weighting b compact key found are h
@@ -75,17 +76,14 @@ promised_if_ok {E} (Err e) depth weighting b compact key are h = tt
 -- ---- Worked readings
 
 small_is_book : IsBook small_book
-small_is_book =
-    record {
-      letters = (omega arith, (omega arith, (omega arith, (omega arith, (omega arith, omega arith)))));
-      accents = (omega arith, (omega arith, (omega arith, omega arith)));
-      cases = (omega arith, (omega arith, omega arith));
-      variables = (omega arith, (omega arith, omega arith));
-      few_letters = omega arith;
-      few_accents = omega arith;
-      few_cases = omega arith;
-      few_variables = omega arith;
-    }
+small_is_book = record {
+  letters = record {
+    rise = (omega arith, (omega arith, (omega arith, (omega arith, (omega arith, tt)))));
+    fit = (omega arith, (omega arith, (omega arith, (omega arith, (omega arith, tt)))));
+    few = omega arith;
+  };
+  variables = record { rise = (omega arith, (omega arith, tt)); fit = (omega arith, (omega arith, tt)); few = omega arith };
+}
 
 pub small_forms : (weighting : Weighting) → AreForms (forms_of weighting small_book)
 small_forms weighting = forms_fit weighting small_book small_is_book

@@ -9,7 +9,8 @@ use Rattle.uca_weights.specs.declared.Weighting.{Weighting}
 use Rattle.uca_weights.specs.declared.Weighting.TheVariants.{NonIgnorable, Shifted}
 use Rattle.uca_order.specs.Levels.{lexicographic, level_bytes, levels_bytes}
 use Rattle.uca_order.specs.Depths.{points_bytes}
-use Rattle.uca_compact.specs.Forms.{Form, IsForm, Book, letters_form, accents_form, cases_form, variables_form}
+use Rattle.uca_books.specs.Books.{BookContent}
+use Rattle.uca_compact.specs.Forms.{Form, IsForm, letters_form, accents_form, cases_form, variables_form}
 use Rattle.uca_compact.specs.PlainLevels.{copies, letter_count, plain_level}
 use Rattle.uca_compact.specs.CompactKeys.{Plain, stored_key}
 use Rattle.uca_compact.specs.inside.Reading.{ReadLevel, read_level, ReadLevels, with_level, level_then, plain_count, is_on_side, read_later, read_levels, with_rest}
@@ -135,8 +136,8 @@ fits_form f g same is = subst IsForm same is
 
 -- ---- Three levels
 
-pub three_read : (b : Book) (bytes letters accents cases : List ℕ) (f g h : Form) (m n : ℕ) (o p q : Option Later)
-    → f ≡ letters_form b 2 → g ≡ accents_form b 1 → h ≡ cases_form b 0 → IsForm f → IsForm g → IsForm h
+pub three_read : (b : BookContent) (bytes letters accents cases : List ℕ) (f g h : Form) (m n : ℕ) (o p q : Option Later)
+    → f ≡ letters_form b 2 → g ≡ accents_form 1 → h ≡ cases_form 0 → IsForm f → IsForm g → IsForm h
     → m ≡ letter_count letters → n ≡ length accents
     → told_of 2 (read_level f bytes) ≡ then_of o letters
     → level_after g 1 (copies 0x20 m) o ≡ then_of p accents
@@ -144,12 +145,12 @@ pub three_read : (b : Book) (bytes letters accents cases : List ℕ) (f g h : Fo
     → AreRead NonIgnorable b bytes q (letters ∷ accents ∷ cases ∷ [])
 three_read b bytes letters accents cases f g h m n o p q fe ge he ff gf hf me ne one two three =
     record {
-      forms = (fits_form f (letters_form b 2) fe ff, refl, (fits_form g (accents_form b 1) ge gf, refl, (fits_form h (cases_form b 0) he hf, refl, tt)));
-      read = first_level plain_level (letters_form b 2) (accents_form b 1 ∷ cases_form b 0 ∷ []) bytes letters o (told_form 2 f (letters_form b 2) bytes letters o fe one)
-          ∙ ap (with_level letters) (next_level plain_level (accents_form b 1) (cases_form b 0 ∷ []) (letters ∷ []) accents (copies 0x20 m) o p
-          (ap (copies 0x20) me) (after_form 1 g (accents_form b 1) (copies 0x20 m) accents o p ge two)
-          ∙ ap (with_level accents) (next_level plain_level (cases_form b 0) [] (letters ∷ accents ∷ []) cases (copies 2 n) p q
-          (ap (copies 2) ne) (after_form 0 h (cases_form b 0) (copies 2 n) cases p q he three)
+      forms = (fits_form f (letters_form b 2) fe ff, refl, (fits_form g (accents_form 1) ge gf, refl, (fits_form h (cases_form 0) he hf, refl, tt)));
+      read = first_level plain_level (letters_form b 2) (accents_form 1 ∷ cases_form 0 ∷ []) bytes letters o (told_form 2 f (letters_form b 2) bytes letters o fe one)
+          ∙ ap (with_level letters) (next_level plain_level (accents_form 1) (cases_form 0 ∷ []) (letters ∷ []) accents (copies 0x20 m) o p
+          (ap (copies 0x20) me) (after_form 1 g (accents_form 1) (copies 0x20 m) accents o p ge two)
+          ∙ ap (with_level accents) (next_level plain_level (cases_form 0) [] (letters ∷ accents ∷ []) cases (copies 2 n) p q
+          (ap (copies 2) ne) (after_form 0 h (cases_form 0) (copies 2 n) cases p q he three)
           ∙ ap (with_level cases) (last_level plain_level (letters ∷ accents ∷ cases ∷ []) q) ∙ level_joined cases [] q)
           ∙ level_joined accents (cases ∷ []) q)
           ∙ level_joined letters (accents ∷ cases ∷ []) q;
@@ -165,8 +166,8 @@ plain_count_is cases all count letters third is_cases is_all is_count =
     ∙ ap (λ (n : ℕ). length third + (n - count)) is_all
     ∙ ap (λ (n : ℕ). length third + (length letters - n)) is_count
 
-pub four_read : (b : Book) (bytes letters accents cases variables : List ℕ) (f g h v : Form) (l m n : ℕ) (o p q r : Option Later)
-    → f ≡ letters_form b 3 → g ≡ accents_form b 2 → h ≡ cases_form b 1 → v ≡ variables_form b 0 → IsForm f → IsForm g → IsForm h → IsForm v
+pub four_read : (b : BookContent) (bytes letters accents cases variables : List ℕ) (f g h v : Form) (l m n : ℕ) (o p q r : Option Later)
+    → f ≡ letters_form b 3 → g ≡ accents_form 2 → h ≡ cases_form 1 → v ≡ variables_form b 0 → IsForm f → IsForm g → IsForm h → IsForm v
     → l ≡ letter_count letters → m ≡ length accents → n ≡ length cases + (length letters - letter_count letters)
     → told_of 3 (read_level f bytes) ≡ then_of o letters
     → level_after g 2 (copies 0x20 l) o ≡ then_of p accents
@@ -178,14 +179,14 @@ four_read b bytes letters accents cases variables f g h v l m n o p q r fe ge he
       forms = (
         fits_form f (letters_form b 3) fe ff,
         refl,
-        (fits_form g (accents_form b 2) ge gf, refl, (fits_form h (cases_form b 1) he hf, refl, (fits_form v (variables_form b 0) ve vf, refl, tt))),
+        (fits_form g (accents_form 2) ge gf, refl, (fits_form h (cases_form 1) he hf, refl, (fits_form v (variables_form b 0) ve vf, refl, tt))),
       );
-      read = first_level plain_level (letters_form b 3) (accents_form b 2 ∷ cases_form b 1 ∷ variables_form b 0 ∷ []) bytes letters o
+      read = first_level plain_level (letters_form b 3) (accents_form 2 ∷ cases_form 1 ∷ variables_form b 0 ∷ []) bytes letters o
           (told_form 3 f (letters_form b 3) bytes letters o fe one)
-          ∙ ap (with_level letters) (next_level plain_level (accents_form b 2) (cases_form b 1 ∷ variables_form b 0 ∷ []) (letters ∷ []) accents (copies 0x20 l) o p
-          (ap (copies 0x20) le) (after_form 2 g (accents_form b 2) (copies 0x20 l) accents o p ge two)
-          ∙ ap (with_level accents) (next_level plain_level (cases_form b 1) (variables_form b 0 ∷ []) (letters ∷ accents ∷ []) cases (copies 2 m) p q
-          (ap (copies 2) me) (after_form 1 h (cases_form b 1) (copies 2 m) cases p q he three)
+          ∙ ap (with_level letters) (next_level plain_level (accents_form 2) (cases_form 1 ∷ variables_form b 0 ∷ []) (letters ∷ []) accents (copies 0x20 l) o p
+          (ap (copies 0x20) le) (after_form 2 g (accents_form 2) (copies 0x20 l) accents o p ge two)
+          ∙ ap (with_level accents) (next_level plain_level (cases_form 1) (variables_form b 0 ∷ []) (letters ∷ accents ∷ []) cases (copies 2 m) p q
+          (ap (copies 2) me) (after_form 1 h (cases_form 1) (copies 2 m) cases p q he three)
           ∙ ap (with_level cases) (next_level plain_level (variables_form b 0) [] (letters ∷ accents ∷ cases ∷ []) variables (copies 0xFFFF n) q r
           (ap (copies 0xFFFF) ne) (after_form 0 v (variables_form b 0) (copies 0xFFFF n) variables q r ve four)
           ∙ ap (with_level variables) (last_level plain_level (letters ∷ accents ∷ cases ∷ variables ∷ []) r) ∙ level_joined variables [] r)
@@ -212,7 +213,7 @@ ended_key Weights levels (b ∷ bytes) = refl
 ended_key Identical levels bytes = utf8_key levels bytes (is_utf8 bytes)
 
 -- a key that was written
-pub key_written : (weighting : Weighting) (depth : Depth) (b : Book) (compact : List ℕ) (last : Option Later) (k : Later) (levels : List (List ℕ)) (front key : List ℕ) (found : Bool)
+pub key_written : (weighting : Weighting) (depth : Depth) (b : BookContent) (compact : List ℕ) (last : Option Later) (k : Later) (levels : List (List ℕ)) (front key : List ℕ) (found : Bool)
     → AreRead weighting b compact last levels → last ≡ Some k → front ≡ levels_bytes levels
     → option_map (λ more. front ++ more) (key_end depth k.rest.now) ≡ cond found (Some key) None → IsExpanded depth weighting b compact key found
 key_written weighting depth b compact last k levels front key found h is written ended =

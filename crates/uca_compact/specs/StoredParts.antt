@@ -6,7 +6,7 @@ use Rattle.uca_weights.specs.declared.Depth.{Depth}
 use Rattle.uca_weights.specs.declared.Depth.TheVariants.{Weights, Identical}
 use Rattle.uca_weights.specs.declared.Weighting.{Weighting}
 use Rattle.uca_order.specs.Levels.{level_count}
-use Rattle.uca_compact.specs.Forms.{Book}
+use Rattle.uca_books.specs.Books.{BookContent}
 use Rattle.uca_compact.specs.CompactKeys.{KeyParts, compact_key}
 
 -- a level: its weights, and the bytes after its 00 00, or `None` if it ends with the key
@@ -65,9 +65,9 @@ stored_parts depth weighting key = parts_from depth (level_count weighting - 1) 
 -- ---- Compact keys of stored keys
 
 -- the bytes are a key, and these are its compact key
-abbrev pub IsCompactOf : Depth → Weighting → Book → (key compact : List ℕ) → Type 0
+abbrev pub IsCompactOf : Depth → Weighting → BookContent → (key compact : List ℕ) → Type 0
 IsCompactOf depth weighting b key compact = option_map (compact_key depth weighting b) (stored_parts depth weighting key) ≡ Some compact
 
 -- these are the compact key of no bytes
-abbrev pub IsOfNoKey : Depth → Weighting → Book → (compact : List ℕ) → Type 0
+abbrev pub IsOfNoKey : Depth → Weighting → BookContent → (compact : List ℕ) → Type 0
 IsOfNoKey depth weighting b compact = (key : List ℕ) → AllByRecursion (λ byte. byte < 256) key → ¬ (IsCompactOf depth weighting b key compact)

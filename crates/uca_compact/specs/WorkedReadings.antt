@@ -17,7 +17,7 @@ pub record WorkedReadings : Type 0 where
   -- a letter, and plain levels
   pub letter : IsOf (0x1C ∷ 0x47 ∷ 0 ∷ 0 ∷ 0 ∷ 0x20 ∷ 0 ∷ 0 ∷ 0 ∷ 2 ∷ []) (8 ∷ 2 ∷ [])
   -- a capital with an accent
-  pub accent : IsOf (0x1C ∷ 0x47 ∷ 0 ∷ 0 ∷ 0 ∷ 0x20 ∷ 0 ∷ 0x24 ∷ 0 ∷ 0 ∷ 0 ∷ 8 ∷ 0 ∷ 2 ∷ []) (8 ∷ 4 ∷ 99 ∷ 101 ∷ 2 ∷ 97 ∷ 2 ∷ [])
+  pub accent : IsOf (0x1C ∷ 0x47 ∷ 0 ∷ 0 ∷ 0 ∷ 0x20 ∷ 0 ∷ 0x24 ∷ 0 ∷ 0 ∷ 0 ∷ 8 ∷ 0 ∷ 2 ∷ []) (8 ∷ 4 ∷ 99 ∷ 103 ∷ 2 ∷ 101 ∷ 2 ∷ [])
   -- the last weight of the cell 1C48 to 1C5F, and an offset past it
   pub last_of_cell : IsOf (0x1C ∷ 0x5F ∷ 0 ∷ 0 ∷ 0 ∷ 0x20 ∷ 0 ∷ 0 ∷ 0 ∷ 2 ∷ []) (9 ∷ 23 ∷ 2 ∷ [])
   pub past_cell : IsOfNone (9 ∷ 24 ∷ 2 ∷ [])
@@ -31,7 +31,7 @@ pub record WorkedReadings : Type 0 where
   -- level 2 is written, and is plain
   pub plain_written : IsOfNone (8 ∷ 4 ∷ 5 ∷ [])
   -- level 2 is greater than the plain one, and the end before it says less
-  pub wrong_side : IsOfNone (8 ∷ 0 ∷ 99 ∷ 101 ∷ 1 ∷ [])
+  pub wrong_side : IsOfNone (8 ∷ 0 ∷ 99 ∷ 103 ∷ 1 ∷ [])
   -- no end, no bytes, and bytes after the key
   pub no_end : IsOfNone (8 ∷ [])
   pub no_bytes : IsOfNone []

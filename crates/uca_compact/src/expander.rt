@@ -6,12 +6,12 @@ ghost use Rattle.uca_weights.specs.declared.Weighting.TheVariants.{NonIgnorable,
 ghost use Rattle.uca_compact.specs.StoredParts.{IsCompactOf, IsOfNoKey};
 ghost use Rattle.uca_compact.specs.inside.LevelSteps.{IsExpanded};
 
-use crate::books::Book;
 use crate::buffers::Levels;
 use crate::key_reader::{read_four, read_three};
 use crate::stored_bytes::{push_end, push_next, push_weights};
 use std::alloc::{AllocError, Allocator, Global};
 use std::marker::Model;
+use uca_books::Book;
 use uca_weights::{Depth, Settings, Weighting};
 
 /// Makes stored keys of compact keys. It needs no text and no table.

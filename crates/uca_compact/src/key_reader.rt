@@ -8,13 +8,14 @@ ghost use Rattle.uca_compact.specs.Programs.{form_of};
 ghost use Rattle.uca_compact.specs.inside.Reading as reading;
 ghost use Rattle.uca_compact.specs.inside.LevelSteps.{AreRead, level_after, then_of, told_of};
 
-use crate::books::Book;
+use crate::book_forms::{accents_form, cases_form, letters_form, variables_form};
 use crate::buffers::Levels;
 use crate::level_reader::{LevelEnd, push_copies, read_level};
 use crate::levels::LevelForm;
 use crate::plain::{compare_run, letter_count};
 use std::alloc::{AllocError, Allocator};
 use std::cmp::Ordering;
+use uca_books::Book;
 
 /// What is known of the next levels.
 #[derive(Clone, Copy)]
@@ -109,12 +110,12 @@ pub(crate) fn read_three<'a, A: Allocator, B: Allocator>(
     ensures { IfOk result (λ last. AreRead NonIgnorable book.now bytes.now last
         (levels.new.letters.items ∷ levels.new.accents.items ∷ levels.new.cases.items ∷ [])) }
 {
-    let first = read_first(&book.letters_form(2), 2, bytes, &mut levels.letters)?;
+    let first = read_first(&letters_form(book, 2), 2, bytes, &mut levels.letters)?;
     let count = letter_count(levels.letters.as_slice());
-    let form = book.accents_form(1);
+    let form = accents_form(1);
     let second = read_later(&form, 1, 0x20, count, first, &mut levels.accents)?;
     let count = levels.accents.as_slice().len();
-    let last = read_later(&book.cases_form(0), 0, 2, count, second, &mut levels.cases)?;
+    let last = read_later(&cases_form(0), 0, 2, count, second, &mut levels.cases)?;
     Ok(last)
 }
 
@@ -127,16 +128,16 @@ pub(crate) fn read_four<'a, A: Allocator, B: Allocator>(
     ensures { IfOk result (λ last. AreRead Shifted book.now bytes.now last
         (levels.new.letters.items ∷ levels.new.accents.items ∷ levels.new.cases.items ∷ levels.new.variables.items ∷ [])) }
 {
-    let first = read_first(&book.letters_form(3), 3, bytes, &mut levels.letters)?;
+    let first = read_first(&letters_form(book, 3), 3, bytes, &mut levels.letters)?;
     let letters = levels.letters.as_slice();
     let count = letter_count(letters);
-    let form = book.accents_form(2);
+    let form = accents_form(2);
     let second = read_later(&form, 2, 0x20, count, first, &mut levels.accents)?;
     let accents = levels.accents.as_slice();
-    let form = book.cases_form(1);
+    let form = cases_form(1);
     let third = read_later(&form, 1, 2, accents.len(), second, &mut levels.cases)?;
     let plain = levels.cases.as_slice().len() + (letters.len() - count);
-    let form = book.variables_form();
+    let form = variables_form(book);
     let last = read_later(&form, 0, 0xFFFF, plain, third, &mut levels.variables)?;
     Ok(last)
 }

@@ -6,7 +6,7 @@
 //! order stays, and that keys with one compact key are one.
 #![tactic(auto)]
 
-mod books;
+mod book_forms;
 mod buffers;
 mod cells;
 mod compacter;
@@ -20,7 +20,6 @@ mod stored;
 mod stored_bytes;
 mod written_levels;
 
-pub use books::Book;
 pub use compacter::KeyCompacter;
 pub use expander::KeyExpander;
 pub use levels::{LevelForm, push_level};

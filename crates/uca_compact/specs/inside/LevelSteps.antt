@@ -8,7 +8,8 @@ use Rattle.uca_weights.specs.declared.Depth.TheVariants.{Weights, Identical}
 use Rattle.uca_weights.specs.declared.Weighting.{Weighting}
 use Rattle.uca_order.specs.Levels.{lexicographic}
 use Rattle.uca_order.specs.Depths.{points_bytes}
-use Rattle.uca_compact.specs.Forms.{Form, step, first_cell, AreForms, Book, forms_of}
+use Rattle.uca_books.specs.Books.{BookContent}
+use Rattle.uca_compact.specs.Forms.{Form, step, first_cell, AreForms, forms_of}
 use Rattle.uca_compact.specs.PlainLevels.{copies, plain_level}
 use Rattle.uca_compact.specs.CompactKeys.{stored_key}
 use Rattle.uca_compact.specs.inside.Reading.{ReadNumber, next_cell, ReadLevel, with_weights, lesser_then, greater_then, read_level, ReadLevels, plain_count, is_on_side, read_levels, read_key}
@@ -117,7 +118,7 @@ levels_of None levels = None
 levels_of (Some k) levels = Some (record { levels = levels; rest = k.rest.now })
 
 -- all levels were read
-pub record AreRead (weighting : Weighting) (b : Book) (bytes : List ℕ) (last : Option Later) (levels : List (List ℕ)) : Type 0 where
+pub record AreRead (weighting : Weighting) (b : BookContent) (bytes : List ℕ) (last : Option Later) (levels : List (List ℕ)) : Type 0 where
   pub forms : AreForms (forms_of weighting b)
   pub read : read_levels plain_level (forms_of weighting b) bytes ≡ levels_of last levels
 
@@ -130,6 +131,6 @@ key_end Weights (byte ∷ bytes) = None
 key_end Identical bytes = if is_utf8 bytes then Some (0 ∷ 0 ∷ points_bytes (chars bytes)) else None
 
 -- this is the key of what is read of the bytes, or nothing is read
-pub record IsExpanded (depth : Depth) (weighting : Weighting) (b : Book) (compact key : List ℕ) (found : Bool) : Type 0 where
+pub record IsExpanded (depth : Depth) (weighting : Weighting) (b : BookContent) (compact key : List ℕ) (found : Bool) : Type 0 where
   pub forms : AreForms (forms_of weighting b)
   pub read : option_map (stored_key depth) (read_key depth weighting b compact) ≡ (if found then Some key else None)
