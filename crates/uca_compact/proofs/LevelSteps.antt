@@ -5,9 +5,8 @@ use Rattle.std.proofs.lemmas.List.{take_all}
 use Rattle.uca_compact.specs.Forms.{Form, step, full, first_cell}
 use Rattle.uca_compact.specs.PlainLevels.{copies}
 use Rattle.uca_compact.specs.inside.Reading.{ReadNumber, ReadLevel, with_weights, with_weight, lesser_then, greater_then, longest_run_then, read_steps, read_level}
-use Rattle.uca_compact.specs.inside.LevelSteps.{CellRow, next_in, lesser_row, greater_row, after_step, LeavesLess, low_then, high_then}
+use Rattle.uca_compact.specs.inside.LevelSteps.{CellRow, next_in, lesser_row, greater_row, after_step, low_then, high_then}
 use Rattle.uca_compact.specs.declared.level_reader.Step.{Step}
-use Rattle.uca_compact.specs.declared.level_reader.Step.TheVariants.{More, End, Nothing}
 
 -- ---- Runs
 
