@@ -5,6 +5,7 @@ pub mod LevelsOrder
 pub mod ReadBack
 pub mod LevelsBack
 pub mod PointOrder
+pub mod Forms
 pub mod TextOrder
 pub mod OnlyCells
 pub mod OnlyLevels
@@ -15,3 +16,8 @@ pub mod LaterLevels
 pub mod StoredBack
 pub mod StoredSteps
 pub mod Places
+pub mod CellSteps
+pub mod LevelSteps
+pub mod KeySteps
+pub mod ExpandedKeys
+pub mod KeyBytes
