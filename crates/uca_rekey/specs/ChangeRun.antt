@@ -21,7 +21,8 @@ use Rattle.uca_rekey.specs.ChangedLines.{BecomesNone, LineBecomes, LinesBecome, 
 
 -- ---- A line that has no new line
 
--- The line has more than 2^30 bytes. Or its new line has more than 2^63 together with those of the lines before it, each with its LF.
+-- The line has more than 2^30 bytes. Or its new line has more than 2^63 together with those of the lines before it,
+-- each with its LF.
 abbrev pub IsTooLongToChange : (List ℕ → List ℕ → Type 0) → List (List ℕ) → List ℕ → Type 0
 IsTooLongToChange KeyBecomes before line = (2 ^ 30 < length line)
     ⊎ ((news : List (List ℕ)) × (new : List ℕ) × LinesBecome KeyBecomes before news × LineBecomes KeyBecomes line new
@@ -31,8 +32,8 @@ IsTooLongToChange KeyBecomes before line = (2 ^ 30 < length line)
 abbrev pub HasOtherKey : (List ℕ → List ℕ → Type 0) → List ℕ → Type 0
 HasOtherKey KeyBecomes line = IsSomeAnd (key_in line) (BecomesNone KeyBecomes)
 
--- Why a line after these has no new line. A key that becomes none has an error of its own in each run, which is `none` here. An allocation may
--- fail at any line.
+-- Why a line after these has no new line. A key that becomes none has an error of its own in each run, which is `none`
+-- here. An allocation may fail at any line.
 abbrev pub IsChangeCause : (List ℕ → List ℕ → Type 0) → (none : StoredKeyKind) → List (List ℕ) → List ℕ → StoredKeyKind → Type 0
 IsChangeCause KeyBecomes none before line kinds.NoKey = key_in line ≡ None
 IsChangeCause KeyBecomes none before line kinds.OtherKey = (none ≡ kinds.OtherKey) × HasOtherKey KeyBecomes line
@@ -43,8 +44,9 @@ IsChangeCause KeyBecomes none before line _ = ⊥
 
 -- ---- The runs
 
--- What is written of an input: the new lines of all its lines, or of those before the first that has an error. After an error of the
--- writer it is a part of the new lines of some first lines. The source has something left, and the writer held `begun` and holds `now`.
+-- What is written of an input: the new lines of all its lines, or of those before the first that has an error. After an
+-- error of the writer it is a part of the new lines of some first lines. The source has something left, and the writer
+-- held `begun` and holds `now`.
 abbrev pub WritesChanged : {A : Type 0} → (List ℕ → List ℕ → Type 0) → (none : StoredKeyKind) → List ℕ → Option (List ℕ) → Option (List ℕ) → Option (List ℕ) → Result A RunFault → Type 0
 WritesChanged KeyBecomes none bytes left begun now (Ok x) =
     (news : List (List ℕ)) × LinesBecome KeyBecomes (lines_of bytes) news × Appends begun now (flat_map ended news)
@@ -61,7 +63,8 @@ RunsChange KeyBecomes none input input_new out out_new (Err Memory) = ⊤
 RunsChange KeyBecomes none input input_new out out_new result =
     IfSome input.remaining (λ bytes. WritesChanged KeyBecomes none bytes input_new.remaining out.contents out_new.contents result)
 
--- A run that compacts the keys of lines by a book. `OtherKey` is its error at a key that is none of this weighting and depth.
+-- A run that compacts the keys of lines by a book. `OtherKey` is its error at a key that is none of this weighting and
+-- depth.
 abbrev pub CompactsLines : {A : Type 0} → Weighting → Depth → List SourceState → List SourceState → SourceState → SourceState → SinkState → SinkState → Result A RunFault → Type 0
 CompactsLines weighting depth olds news input input_new out out_new result =
     PrintsEach book_file (roles.Book ∷ []) (λ book. RunsChange (compacts (record { weighting = weighting; depth = depth }) book) kinds.OtherKey input input_new out out_new result) olds news input input_new out out_new result

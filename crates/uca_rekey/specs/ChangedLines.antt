@@ -10,8 +10,8 @@ use Rattle.uca_rekey.specs.RekeyedLines.{key_in}
 
 -- ---- Keys
 
--- A key of these settings becomes its compact key: under `NonIgnorable`, at depth `Weights`, and by a book in which 1C47 has a cell of its own,
--- 1C47 0000 0020 0000 0002 becomes a byte for this cell, and one for all the rest.
+-- A key of these settings becomes its compact key. By a book in which 1C47 has the cell 08, the key 1C47 0000 0020
+-- 0000 0002 becomes 08 02, under `NonIgnorable` and at depth `Weights`.
 abbrev pub compacts : Settings → BookContent → List ℕ → List ℕ → Type 0
 compacts settings book key compact =
     option_map (compact_key settings.depth settings.weighting book) (stored_parts settings.depth settings.weighting key) ≡ Some compact

@@ -12,15 +12,15 @@ abbrev pub three_levels : Settings
 three_levels = record { weighting = NonIgnorable; depth = Weights }
 
 -- the key of a line, a tab and `a b`
-abbrev pub keyed : List ℕ → List ℕ
-keyed key = key ++ 9 ∷ codes "a b"
+abbrev pub with_text : List ℕ → List ℕ
+with_text key = key ++ 9 ∷ codes "a b"
 
 pub record WorkedLines : Type 0 where
   -- 1C47 has a cell of its own, 08, and 02 says that all later levels are plain
-  pub letter : LineBecomes (compacts three_levels small_book) (keyed (codes "1C47 0000 0020 0000 0002")) (keyed (codes "0802"))
+  pub letter : LineBecomes (compacts three_levels small_book) (with_text (codes "1C47 0000 0020 0000 0002")) (with_text (codes "0802"))
   -- the key comes back without spaces
-  pub expanded : LineBecomes (expands three_levels small_book) (keyed (codes "08 02")) (keyed (codes "1C470000002000000002"))
+  pub expanded : LineBecomes (expands three_levels small_book) (with_text (codes "08 02")) (with_text (codes "1C470000002000000002"))
   -- two levels, where the settings have three
-  pub few_levels : IsChangeCause (compacts three_levels small_book) OtherKey [] (keyed (codes "1C47 0000 0020")) OtherKey
+  pub few_levels : IsChangeCause (compacts three_levels small_book) OtherKey [] (with_text (codes "1C47 0000 0020")) OtherKey
   -- three digits are no bytes
-  pub odd : IsChangeCause (compacts three_levels small_book) OtherKey [] (keyed (codes "1C4")) NoKey
+  pub odd : IsChangeCause (compacts three_levels small_book) OtherKey [] (with_text (codes "1C4")) NoKey

@@ -128,21 +128,25 @@ fn run_lines<A: Allocator + Copy, C: ChangesKeys, I: Read, W: Write>(
     end
 }
 
-/// Puts the compact key of each stored key of the lines of `input` in its place, for keys that were made at this depth and under this
-/// weighting. The book is read first.
+/// Puts the compact key of each stored key of the lines of `input` in its place, for keys that were made at this depth
+/// and under this weighting. The book is read first.
 ///
-/// A line begins with the upper-case hexadecimal digits of its key. They end before the first tab, or with the line, and there may be spaces
-/// among them. So a line may be one that `run_keys` or `run_keyed_lines` of the crate `uca_key_runs` printed. Its new line has the digits of
-/// the compact key, without spaces, then all from the first tab on, and LF. Memory grows with the longest line alone.
+/// A line begins with the upper-case hexadecimal digits of its key. They end before the first tab, or with the line,
+/// and there may be spaces among them. So a line may be one that `run_keys` or `run_keyed_lines` of the crate
+/// `uca_key_runs` printed. Its new line has the digits of the compact key, without spaces, then all from the first tab
+/// on, and LF. Memory grows with the longest line alone.
 ///
 /// # Errors
 ///
 /// - `File`: the book is rejected.
-/// - `Memory`: an allocation failed for the buffer. In both cases nothing was written, and nothing of the input was read.
-/// - `StoredKey`: the first line with an error. `NoKey`: it begins with no digits of a key. `OtherKey`: its key is none of this weighting and
-///   depth. `TooLong`: it has more than 2^30 bytes, or all new lines up to it have more than 2^63. `Read` comes if the source failed, and
-///   `Memory` if an allocation failed. The new lines of the lines before it were written.
-/// - `Write`: the writer failed, also where a later line has an error. The first `written` bytes of the whole output went out.
+/// - `Memory`: an allocation failed for the buffer. In both cases nothing was written, and nothing of the input was
+///   read.
+/// - `StoredKey`: the first line with an error. `NoKey`: it begins with no digits of a key. `OtherKey`: its key is
+///   none of this weighting and depth. `TooLong`: it has more than 2^30 bytes, or all new lines up to it have more than
+///   2^63. `Read` comes if the source failed, and `Memory` if an allocation failed. The new lines of the lines before
+///   it were written.
+/// - `Write`: the writer failed, also where a later line has an error. The first `written` bytes of the whole output
+///   went out.
 pub fn run_compact<A: Allocator + Copy, B: Read, I: Read, W: Write>(
     alloc: A,
     book: &mut Source<B>,

@@ -20,11 +20,13 @@ pub(crate) struct Keys<A: Allocator> {
     pub new: Vec<u8, A>,
 }
 
-/// Writes the new line of a line over the bytes that were there: the digits of what its key becomes, and all from its first tab on.
+/// Writes the new line of a line over the bytes that were there: the digits of what its key becomes, and all from its
+/// first tab on.
 ///
 /// # Errors
 ///
-/// `NoKey` if the line begins with no key, and the error of `C` if that key becomes none. `Memory` if an allocation failed.
+/// `NoKey` if the line begins with no key, and the error of `C` if that key becomes none. `Memory` if an allocation
+/// failed.
 pub(crate) fn change_line<C: ChangesKeys, A: Allocator>(
     change: &mut C,
     line: &[u8],

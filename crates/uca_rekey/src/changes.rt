@@ -23,7 +23,8 @@ pub(crate) trait ChangesKeys: Drop {
         ensures value { result ≡ none }
         ensures of_key { IsOfKey result };
 
-    /// Writes what a key becomes over the bytes that were there, and returns `true`. It returns `false` if it becomes none.
+    /// Writes what a key becomes over the bytes that were there, and returns `true`. It returns `false` if it becomes
+    /// none.
     fn change<A: Allocator>(&mut self, key: &[u8], new: &mut Vec<u8, A>) -> Result<bool, AllocError>
         ensures same { self.new ≡ self.old }
         ensures key { IfOk result (λ found. MatchBool found (becomes self.old key.now new.new.items) (BecomesNone (becomes self.old) key.now)) };

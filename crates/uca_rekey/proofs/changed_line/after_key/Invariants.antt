@@ -3,8 +3,8 @@ use Rattle.std.proofs.Common.{◌≡◌, length}
 use Rattle.uca_rekey.specs.ChangedLines.{from_tab}
 use Rattle.uca_rekey.proofs.changed_line.after_key.Given as goal
 
-abbrev pub invariant-loop-byte : goal.invariant-loop-byte
-invariant-loop-byte l = from_tab l.line ≡ from_tab l.rest
+abbrev pub invariant-loop-rest : goal.invariant-loop-rest
+invariant-loop-rest l = from_tab l.line ≡ from_tab l.rest
 
-abbrev pub decreases-loop-byte : goal.decreases-loop-byte
-decreases-loop-byte l = length l.rest
+abbrev pub decreases-loop-rest : goal.decreases-loop-rest
+decreases-loop-rest l = length l.rest
