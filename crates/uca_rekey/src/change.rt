@@ -117,7 +117,7 @@ fn run_lines<A: Allocator + Copy, C: ChangesKeys, I: Read, W: Write>(
         lines,
         keys: Keys {
             key: Vec::new(alloc),
-            new: Vec::new(alloc),
+            changed: Vec::new(alloc),
         },
         line: Vec::new(alloc),
         written: WrittenLines::new(),

@@ -17,7 +17,7 @@ pub(crate) struct Keys<A: Allocator> {
     /// The key.
     pub key: Vec<u8, A>,
     /// What it becomes.
-    pub new: Vec<u8, A>,
+    pub changed: Vec<u8, A>,
 }
 
 /// Writes the new line of a line over the bytes that were there: the digits of what its key becomes, and all from its
@@ -31,15 +31,15 @@ pub(crate) fn change_line<C: ChangesKeys, A: Allocator>(
     change: &mut C,
     line: &[u8],
     keys: &mut Keys<A>,
-    new: &mut Vec<u8, A>,
+    made: &mut Vec<u8, A>,
 ) -> Result<(), StoredKeyKind>
     ensures same { change.new ≡ change.old }
-    ensures becomes { OnOk result (LineBecomes (C.becomes change.old) line.now new.new.items) }
+    ensures becomes { OnOk result (LineBecomes (C.becomes change.old) line.now made.new.items) }
     ensures cause { (before : List (List ℕ)) → IfErr result (IsChangeCause (C.becomes change.old) C.none before line.now) }
 {
     read_key(line, &mut keys.key)?;
-    match change.change(&keys.key, &mut keys.new) {
-        Ok(true) => put_line(new, &keys.new, line),
+    match change.change(&keys.key, &mut keys.changed) {
+        Ok(true) => put_line(made, &keys.changed, line),
         Ok(false) => Err(C::none()),
         Err(_) => Err(StoredKeyKind::Memory),
     }
@@ -47,14 +47,14 @@ pub(crate) fn change_line<C: ChangesKeys, A: Allocator>(
 
 // Writes the line of a key over the bytes that were there: its digits, and all of a line from its first tab on.
 fn put_line<A: Allocator>(
-    new: &mut Vec<u8, A>,
+    made: &mut Vec<u8, A>,
     key: &[u8],
     line: &[u8],
 ) -> Result<(), StoredKeyKind>
-    ensures put { OnOk result (new.new.items ≡ with_new_key line.now key.now) }
+    ensures put { OnOk result (made.new.items ≡ with_new_key line.now key.now) }
     ensures memory { IfErr result (λ kind. kind ≡ StoredKeyKind.Memory) }
 {
-    match put_bytes(new, key, after_key(line)) {
+    match put_bytes(made, key, after_key(line)) {
         Ok(()) => Ok(()),
         Err(_) => Err(StoredKeyKind::Memory),
     }
@@ -62,18 +62,18 @@ fn put_line<A: Allocator>(
 
 // Writes the digits of a key and then other bytes over the bytes that were there.
 fn put_bytes<A: Allocator>(
-    new: &mut Vec<u8, A>,
+    made: &mut Vec<u8, A>,
     key: &[u8],
     rest: &[u8],
 ) -> Result<(), AllocError>
-    ensures { OnOk result (new.new.items ≡ flat_map byte_digits key.now ++ rest.now) }
+    ensures { OnOk result (made.new.items ≡ flat_map byte_digits key.now ++ rest.now) }
 {
-    new.clear();
+    made.clear();
     for byte in key {
-        new.push(digit(*byte / 16))?;
-        new.push(digit(*byte % 16))?;
+        made.push(digit(*byte / 16))?;
+        made.push(digit(*byte % 16))?;
     }
-    new.extend_from_slice(rest)
+    made.extend_from_slice(rest)
 }
 
 // All of a line from its first tab on.

@@ -13,7 +13,7 @@ returns-in_err-read_key-clause-cause g c =
 pub returns-in-Ok-true-clause-becomes : goal.returns-in-Ok-true-clause-becomes
 returns-in-Ok-true-clause-becomes g c =
     let changed = rw c.in-Ok-true.field-0-test at c.in-Ok-true.ensures.key in
-    line_put (g.C.ChangesKeys.becomes c.args.change.now) c.args.line.now c.deref.result.now c.change.new.new.items c.deref-in-Ok-true.result.now c.put_line.new.new.items c.put_line.result
+    line_put (g.C.ChangesKeys.becomes c.args.change.now) c.args.line.now c.deref.result.now c.change.new.changed.items c.deref-in-Ok-true.result.now c.put_line.new.made.items c.put_line.result
     (c.in_ok-read_key.ensures.key ∙ ap (λ (key : List ℕ). Some key) (sym c.deref.ensures.value)) changed c.deref-in-Ok-true.ensures.value c.put_line.ensures.put
 
 pub returns-in-Ok-true-clause-cause : goal.returns-in-Ok-true-clause-cause

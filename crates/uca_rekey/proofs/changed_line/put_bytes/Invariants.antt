@@ -5,4 +5,4 @@ use Rattle.uca_run_parts.specs.Print.{byte_digits}
 use Rattle.uca_rekey.proofs.changed_line.put_bytes.Given as goal
 
 abbrev pub invariant-loop-byte : goal.invariant-loop-byte
-invariant-loop-byte g l = flat_map byte_digits l.key ≡ l.new.items ++ flat_map byte_digits (drop l.byte-index l.key)
+invariant-loop-byte g l = flat_map byte_digits l.key ≡ l.made.items ++ flat_map byte_digits (drop l.byte-index l.key)

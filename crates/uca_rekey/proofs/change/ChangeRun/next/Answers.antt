@@ -12,7 +12,7 @@ returns-in-Ok-clause-changes g c = λ start begun before news out h.
     record {
       line = c.next.new.self.line;
       read = rw c.in-Ok-true.field-0-test at c.in-Ok-true.ensures.reads start before h.read;
-      becomes = subst (λ (l : List ℕ). LineBecomes becomes l c.change_line.new.new.items) c.line-old.ensures.value c.in-Ok.ensures.becomes;
+      becomes = subst (λ (l : List ℕ). LineBecomes becomes l c.change_line.new.made.items) c.line-old.ensures.value c.in-Ok.ensures.becomes;
     }
 
 pub returns-in-Err-change_line-clause-changes : goal.returns-in-Err-change_line-clause-changes
