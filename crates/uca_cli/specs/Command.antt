@@ -45,7 +45,7 @@ use Rattle.uca_change_runs.specs.AuditRun.{AuditsChanges}
 use Rattle.uca_change_runs.specs.AffectedRun.{PrintsAffectedByChanges}
 use Rattle.uca_rekey.specs.HeadedRun.{RekeysHeaded}
 use Rattle.uca_rekey.specs.RekeyRun.{RekeysLines}
-use Rattle.uca_rekey.specs.CompactRun.{CompactsLines, ExpandsLines}
+use Rattle.uca_rekey.specs.ChangeRun.{CompactsLines, ExpandsLines}
 use Rattle.uca_fingerprint_runs.specs.FingerprintRun.{PrintsFingerprint}
 use Rattle.uca_host.specs.NamedFiles.{FileSystem, NamedFile, file_for, table_and_data, tailor_files, affected_files, audit_files, edition_files, change_files, AreOpened, DoesNotOpen, AreOthers, IsFirstSame, KeepsCertificate}
 use Rattle.uca_tailor_runs.specs.AuditRun.{Audits}
