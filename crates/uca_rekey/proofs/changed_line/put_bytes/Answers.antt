@@ -11,9 +11,9 @@ loop-byte-init g c = no_digit_put (flat_map byte_digits c.args.key.now) c.clear.
 pub loop-byte-preserved : goal.loop-byte-preserved
 loop-byte-preserved g c =
     let one : c.push.new.self.items ≡ c.loop-byte.made.items ++ c.digit.result ∷ [] = search rules in
-    let two : c.push-2.new.self.items ≡ c.push.new.self.items ++ c.digit-2.result ∷ [] = search rules in
-    digits_put c.args.key.now c.loop-byte.made.items c.push.new.self.items c.push-2.new.self.items c.loop-byte.byte-index c.digit.result c.digit-2.result
-    (flat_map byte_digits c.args.key.now) c.loop-byte.invariant c.loop-byte-test.true c.digit.ensures c.digit-2.ensures one two
+    let two : c.push-in-loop-byte.new.self.items ≡ c.push.new.self.items ++ c.digit-in-loop-byte.result ∷ [] = search rules in
+    digits_put c.args.key.now c.loop-byte.made.items c.push.new.self.items c.push-in-loop-byte.new.self.items c.loop-byte.byte-index c.digit.result c.digit-in-loop-byte.result
+    (flat_map byte_digits c.args.key.now) c.loop-byte.invariant c.loop-byte-test.true c.digit.ensures c.digit-in-loop-byte.ensures one two
 
 pub returns : goal.returns
 returns g c =
