@@ -431,7 +431,12 @@ const STORED_KEYS: [(u64, StoredKeyKind, &str, u8); 9] = [
     (1, StoredKeyKind::NoKey, "input line 1: NoKey\n", 1),
     (7, StoredKeyKind::NoImage, "input line 7: NoImage\n", 1),
     (2, StoredKeyKind::OtherKey, "input line 2: OtherKey\n", 1),
-    (3, StoredKeyKind::NoCompactKey, "input line 3: NoCompactKey\n", 1),
+    (
+        3,
+        StoredKeyKind::NoCompactKey,
+        "input line 3: NoCompactKey\n",
+        1,
+    ),
     (1, StoredKeyKind::Header, "input line 1: Header\n", 1),
     (8, StoredKeyKind::TooLong, "input line 8: TooLong\n", 1),
     (9, StoredKeyKind::Read, "input line 9: Read\n", 3),

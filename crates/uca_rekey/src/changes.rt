@@ -25,7 +25,11 @@ pub(crate) trait ChangesKeys: Drop {
 
     /// Writes what a key becomes over the bytes that were there, and returns `true`. It returns `false` if it becomes
     /// none.
-    fn change<A: Allocator>(&mut self, key: &[u8], changed: &mut Vec<u8, A>) -> Result<bool, AllocError>
+    fn change<A: Allocator>(
+        &mut self,
+        key: &[u8],
+        changed: &mut Vec<u8, A>,
+    ) -> Result<bool, AllocError>
         ensures same { self.new ≡ self.old }
         ensures key { IfOk result (λ found. MatchBool found (becomes self.old key.now changed.new.items) (BecomesNone (becomes self.old) key.now)) };
 }
@@ -39,7 +43,11 @@ impl<C: Allocator> ChangesKeys for KeyCompacter<C> {
         StoredKeyKind::OtherKey
     }
 
-    fn change<A: Allocator>(&mut self, key: &[u8], changed: &mut Vec<u8, A>) -> Result<bool, AllocError> {
+    fn change<A: Allocator>(
+        &mut self,
+        key: &[u8],
+        changed: &mut Vec<u8, A>,
+    ) -> Result<bool, AllocError> {
         self.write_compact(key, changed)
     }
 }
