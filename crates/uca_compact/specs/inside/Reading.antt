@@ -1,6 +1,6 @@
 -- Reading compact keys, in steps as a decoder has them.
 use Rattle.std.specs.Prelude.{ℕ, zero, suc, ◌+◌, ◌*◌, ◌-◌, ◌/◌, ◌%◌, List, [], ◌∷◌, ◌++◌, Bool, true, false, Option, Some, None, length, min, nat_lt, nat_eq, if◌then◌else◌}
-use Rattle.std.specs.Ordering.{nat_cmp}
+use Rattle.std.specs.Ordering.{nat_cmp, is_lt, is_gt}
 use Rattle.std.specs.declared.cmp.Ordering.{Ordering}
 use Rattle.std.specs.declared.cmp.Ordering.TheVariants.{Less, Equal, Greater}
 use Rattle.std.specs.Str.{chars, is_utf8}
@@ -64,16 +64,18 @@ abbrev pub with_weight : List ℕ → Option ReadNumber → (List ℕ → Option
 with_weight front None more = None
 with_weight front (Some x) more = with_weights (front ++ x.0 ∷ []) (more x.1)
 
--- a lesser weight after these weights: the number of its cell is the next byte
+-- a weight of cells that rise from `start` on; the number of its cell is the next byte
+abbrev pub next_cell : (number start : ℕ) → List ℕ → (end : ℕ) → List ℕ → Option ReadNumber
+next_cell number start later end [] = None
+next_cell number start later end (wanted ∷ bytes) = read_cell number start later end wanted bytes
+
+-- a lesser weight after these weights
 abbrev pub lesser_then : Form → List ℕ → List ℕ → (List ℕ → Option ReadLevel) → Option ReadLevel
-lesser_then f front [] more = None
-lesser_then f front (number ∷ bytes) more = with_weight front (read_cell 0 1 f.lesser f.common number bytes) more
+lesser_then f front bytes more = with_weight front (next_cell 0 1 f.lesser f.common bytes) more
 
 -- a greater one
 abbrev pub greater_then : Form → List ℕ → List ℕ → (List ℕ → Option ReadLevel) → Option ReadLevel
-greater_then f front [] more = None
-greater_then f front (code ∷ bytes) more =
-    with_weight front (read_cell (first_cell f) (suc f.common) f.greater 65536 code bytes) more
+greater_then f front bytes more = with_weight front (next_cell (first_cell f) (suc f.common) f.greater 65536 bytes) more
 
 -- a longest run, if there is a common weight, and what is read after it
 abbrev pub longest_run_then : Form → Option ReadLevel → Option ReadLevel
@@ -118,13 +120,9 @@ plain_count later end = min end (2 * later - end)
 
 -- A level that is written is not plain: it is less than the plain one, or greater, as the end before it says.
 abbrev pub is_on_side : Ordering → Ordering → Bool
-is_on_side Less Less = true
-is_on_side Less Equal = false
-is_on_side Less Greater = false
+is_on_side Less order = is_lt order
 is_on_side Equal order = false
-is_on_side Greater Less = false
-is_on_side Greater Equal = false
-is_on_side Greater Greater = true
+is_on_side Greater order = is_gt order
 
 -- The levels after some. The next `count` of them are plain, and the one after these is on this side of the plain one.
 abbrev pub read_later : Plain → List Form → (earlier : List (List ℕ)) → (count : ℕ) → (side : Ordering) → List ℕ → Option ReadLevels
