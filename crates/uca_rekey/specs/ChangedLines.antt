@@ -1,10 +1,9 @@
 -- Lines that begin with the digits of a key, and the same lines with another key, which may have another length.
-use Rattle.std.specs.Prelude.{◌≡◌, ℕ, ◌<◌, ◌==◌, List, [], ◌∷◌, ◌++◌, Some, option_map, if◌then◌else◌, ⊤}
+use Rattle.std.specs.Prelude.{◌≡◌, ℕ, ◌<◌, ◌==◌, List, [], ◌∷◌, ◌++◌, Some, if◌then◌else◌, ⊤}
 use Rattle.std.specs.List.{AllByRecursion, flat_map}
 use Rattle.uca_weights.specs.declared.Settings.{Settings}
 use Rattle.uca_books.specs.Books.{BookContent}
-use Rattle.uca_compact.specs.CompactKeys.{compact_key}
-use Rattle.uca_compact.specs.StoredParts.{stored_parts}
+use Rattle.uca_compact.specs.StoredParts.{IsCompactOf}
 use Rattle.uca_run_parts.specs.Print.{byte_digits}
 use Rattle.uca_rekey.specs.RekeyedLines.{key_in}
 
@@ -13,8 +12,7 @@ use Rattle.uca_rekey.specs.RekeyedLines.{key_in}
 -- A key of these settings becomes its compact key. By a book in which 1C47 has the cell 08, the key 1C47 0000 0020
 -- 0000 0002 becomes 08 02, under `NonIgnorable` and at depth `Weights`.
 abbrev pub compacts : Settings → BookContent → List ℕ → List ℕ → Type 0
-compacts settings book key compact =
-    option_map (compact_key settings.depth settings.weighting book) (stored_parts settings.depth settings.weighting key) ≡ Some compact
+compacts settings book key compact = IsCompactOf settings.depth settings.weighting book key compact
 
 -- A compact key becomes the key that it is made of.
 abbrev pub expands : Settings → BookContent → List ℕ → List ℕ → Type 0

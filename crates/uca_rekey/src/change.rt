@@ -5,7 +5,7 @@ ghost use Rattle.uca_weights.specs.Streams.{SinkState};
 ghost use Rattle.uca_run_parts.specs.EachLine.{ended_before_input};
 ghost use Rattle.uca_run_parts.specs.Files.{ended_by_file};
 ghost use Rattle.uca_run_parts.specs.Runs.{ended_by_output, is_input_read};
-ghost use Rattle.uca_rekey.specs.ChangeRun.{CompactsLines, RunsChange};
+ghost use Rattle.uca_rekey.specs.ChangeRun.{CompactsLines, ExpandsLines, RunsChange};
 ghost use Rattle.uca_rekey.specs.inside.ChangeSoFar.{ChangesLine, ChangesRest, HasChanged};
 
 use crate::changed_line::{Keys, change_line};
@@ -14,7 +14,7 @@ use crate::lines::KeyLines;
 use crate::written::WrittenLines;
 use std::alloc::Allocator;
 use std::io::{Read, Write};
-use uca_compact::KeyCompacter;
+use uca_compact::{KeyCompacter, KeyExpander};
 use uca_run_parts::{RunFault, read_book_file};
 use uca_weights::{Depth, Settings, Sink, Source, Weighting};
 
@@ -160,6 +160,30 @@ pub fn run_compact<A: Allocator + Copy, B: Read, I: Read, W: Write>(
     let settings = Settings { weighting, depth };
     match read_book_file(alloc, book) {
         Ok(book) => run_changes(alloc, KeyCompacter::new(alloc, book, settings), input, out),
+        Err(fault) => Err(fault),
+    }
+}
+
+/// As [`run_compact`] the other way round: puts the stored key of each compact key of the lines of `input` in its place,
+/// without spaces. The compact keys were made by this book, of keys of this weighting and depth.
+///
+/// # Errors
+///
+/// - `StoredKey` with `NoCompactKey`, in place of `OtherKey`: no key has these bytes as its compact key.
+/// - The others of [`run_compact`].
+pub fn run_expand<A: Allocator + Copy, B: Read, I: Read, W: Write>(
+    alloc: A,
+    book: &mut Source<B>,
+    input: &mut Source<I>,
+    out: &mut Sink<W>,
+    weighting: Weighting,
+    depth: Depth,
+) -> Result<(), RunFault>
+    ensures { ExpandsLines weighting depth (book.old ∷ []) (book.new ∷ []) input.old input.new out.old out.new result }
+{
+    let settings = Settings { weighting, depth };
+    match read_book_file(alloc, book) {
+        Ok(book) => run_changes(alloc, KeyExpander::new(alloc, book, settings), input, out),
         Err(fault) => Err(fault),
     }
 }

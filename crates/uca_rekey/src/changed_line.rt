@@ -61,11 +61,7 @@ fn put_line<A: Allocator>(
 }
 
 // Writes the digits of a key and then other bytes over the bytes that were there.
-fn put_bytes<A: Allocator>(
-    made: &mut Vec<u8, A>,
-    key: &[u8],
-    rest: &[u8],
-) -> Result<(), AllocError>
+fn put_bytes<A: Allocator>(made: &mut Vec<u8, A>, key: &[u8], rest: &[u8]) -> Result<(), AllocError>
     ensures { OnOk result (made.new.items ≡ flat_map byte_digits key.now ++ rest.now) }
 {
     made.clear();

@@ -21,6 +21,6 @@ mod lines;
 pub mod rekey;
 mod written;
 
-pub use change::run_compact;
+pub use change::{run_compact, run_expand};
 pub use laws::{lines_move_with_keys, worked_lines};
 pub use rekey::{run_headed_rekey, run_rekey};
