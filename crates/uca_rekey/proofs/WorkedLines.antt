@@ -1,5 +1,5 @@
 -- The worked lines follow from the definitions.
-use Rattle.std.proofs.Common.{◌≡◌, ℕ, List, [], ◌∷◌, ◌++◌, Option, Some, None, refl, sym, subst, ◌∙◌}
+use Rattle.std.proofs.Common.{◌≡◌, ℕ, List, [], ◌∷◌, Some, None, refl}
 use Rattle.uca_compact.specs.WorkedKeys.{small_book}
 use Rattle.uca_rekey.specs.ChangedLines.{compacts}
 use Rattle.uca_rekey.specs.WorkedLines.{WorkedLines, three_levels}

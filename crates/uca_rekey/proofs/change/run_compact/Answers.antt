@@ -1,6 +1,6 @@
 -- The whole run, from what its book means and what is written of its lines.
 use Rattle.std.specs.Prelude.{⊤}
-use Rattle.std.proofs.Common.{◌≡◌, [], ◌∷◌, Err, ap, subst, ◌∙◌}
+use Rattle.std.proofs.Common.{◌≡◌, [], ◌∷◌, Err, subst}
 use Rattle.uca_weights.specs.declared.Settings.{Settings}
 use Rattle.uca_run_parts.specs.declared.faults.Role.TheVariants as roles
 use Rattle.uca_run_parts.specs.declared.faults.StoredKeyKind.TheVariants as kinds

@@ -1,5 +1,5 @@
 -- Two more digits, and all of them.
-use Rattle.std.proofs.Common.{[], ◌≡◌, ◌∷◌, ◌++◌, ap, sym, ◌∙◌, rules}
+use Rattle.std.proofs.Common.{[], ◌≡◌, ◌∷◌, ◌++◌, rules}
 use Rattle.std.specs.List.{flat_map}
 use Rattle.uca_run_parts.specs.Print.{byte_digits}
 use Rattle.uca_rekey.proofs.Changing.{digits_put, no_digit_put, all_digits_put}

@@ -3,7 +3,6 @@ use Rattle.std.specs.Prelude.{⊤}
 use Rattle.std.proofs.Common.{[], ◌∷◌, ◌++◌, ℕ, Bool, List, true, false, Ok, Err, refl, ap, arith, sym, subst, subst₂, ◌∙◌}
 use Rattle.std.proofs.Math.Bool.{or-false}
 use Rattle.std.proofs.lemmas.Result.{err_from_is_err_and}
-use Rattle.uca_lines.specs.OutputBuffer.{BufferState}
 use Rattle.uca_rekey.specs.inside.ChangeSoFar.{ChangesLine, HasChanged}
 use Rattle.uca_rekey.specs.inside.RekeySoFar.{WritesLine, WrittenState}
 use Rattle.uca_rekey.proofs.Changing.{all_changed, change_not_written, line_changed, none_changed}
