@@ -9,18 +9,18 @@ use Rattle.uca_weights.specs.declared.Weighting.{Weighting}
 use Rattle.uca_weights.specs.declared.Weighting.TheVariants.{NonIgnorable, Shifted}
 use Rattle.uca_order.specs.Levels.{lexicographic, level_count}
 use Rattle.uca_order.proofs.KeyOrder.{cmp_greater}
-use Rattle.uca_compact.specs.Forms.{Form, step, first_cell, ends_before, AreRising, AreWeights, AreLevels, Book, IsBook, letters_form, forms_of}
+use Rattle.uca_compact.specs.Forms.{Form, IsForm, step, first_cell, ends_before, AreRising, AreWeights, AreLevels, Book, IsBook, letters_form, forms_of}
 use Rattle.uca_compact.specs.PlainLevels.{plain_level}
-use Rattle.uca_compact.specs.CompactKeys.{offset_bytes, cell, written, run_after, level_code, end_of, later_levels, compact, KeyParts, compact_key, AreParts}
+use Rattle.uca_compact.specs.CompactKeys.{offset_bytes, cell, written, run_after, level_code, end_of, later_levels, compact, compact_key}
 use Rattle.uca_compact.proofs.Below.{IsBelow, below_append, below_less}
-use Rattle.uca_compact.proofs.CellOrder.{FirstFrom, below_from, cell_from, cell_order}
+use Rattle.uca_compact.proofs.CellOrder.{below_from, cell_from, cell_order}
 use Rattle.uca_compact.proofs.LevelsOrder.{end_fits}
 use Rattle.uca_compact.proofs.RunOrder.{FirstWithin}
-use Rattle.uca_compact.proofs.TextOrder.{forms_count}
+use Rattle.uca_compact.proofs.TextOrder.{forms_fit}
 use Rattle.uca_lookups.specs.Ranges.{InRange, LettersBegin, letters_code, compact_letters_low, compact_letters_high}
 use Rattle.uca_lookups.specs.Laws.{CompactKeysByLetters}
-use Rattle.uca_lookups.proofs.Ranges.{both_hold, neither_holds, iff_then, range_as, range_after, below_low, above_high, three_ways}
-use Rattle.uca_lookups.proofs.StoredRanges.{Begins, begins_after, begins_same, begins_none, first_letters, from_nothing, no_level}
+use Rattle.uca_lookups.proofs.Ranges.{both_hold, neither_holds, iff_then, range_as, range_after, below_low, above_high, from_nothing, three_ways}
+use Rattle.uca_lookups.proofs.StoredRanges.{Begins, begins_after, begins_same, begins_none, first_letters, no_level}
 
 -- ---- Cells of weights of level 1
 
@@ -102,6 +102,7 @@ cells_by number e w v greater ws vs xs rising w0 w1 v0 v1 more (inr (inl same)) 
     (iff_then (range_after (here w) (cells number greater ws) (cells number greater ws ++ (255 ∷ [])) (cells number greater vs ++ e ∷ xs))
     (iff_then more (begins_after w ws vs)))
 
+-- level 1 by its weights
 pub cells_found : (number e : ℕ) (greater letters first xs : List ℕ) → AreRising 1 greater 65536 → e < number → number + length greater < 255
     → AreWeights letters → AreWeights first
     → InRange (cells number greater letters) (cells number greater letters ++ (255 ∷ [])) (cells number greater first ++ e ∷ xs) ↔ Begins letters first
@@ -154,10 +155,11 @@ compact_is Weights weighting b levels points = sym (append-nil (compact plain_le
 compact_is Identical weighting b levels points = refl
 
 -- the forms after the first
-abbrev later_forms : List Form → List Form
+abbrev pub later_forms : List Form → List Form
 later_forms [] = []
 later_forms (f ∷ forms) = forms
 
+-- so a key does
 pub key_cells : (depth : Depth) (weighting : Weighting) (b : Book) (a : List ℕ) (later : List (List ℕ)) (points : List ℕ) → AreLevels (level_count weighting) (a ∷ later)
     → BeginsByCells weighting b a (compact_key depth weighting b (record { levels = a ∷ later; points = points }))
 key_cells depth NonIgnorable b a later points are =
@@ -174,6 +176,21 @@ first_number : (weighting : Weighting) (b : Book) → IsBook b
 first_number NonIgnorable b book = (omega arith, omega (arith, book.few_letters))
 first_number Shifted b book = (omega arith, omega (arith, book.few_letters))
 
+-- level 1 of a book has a form
+pub letters_form_fits : (weighting : Weighting) (b : Book) → IsBook b → IsForm (letters_form b (level_count weighting - 1))
+letters_form_fits NonIgnorable b book = (forms_fit NonIgnorable b book).0
+letters_form_fits Shifted b book = (forms_fit Shifted b book).0
+
+-- so its cells rise
+letters_rise : (weighting : Weighting) (b : Book) → IsBook b → AreRising 1 b.letters 65536
+letters_rise weighting b book =
+    let form = letters_form_fits weighting b book in
+    elim form.greater [
+      | inl none ↦ absurd (omega (arith, none.0))
+      | inr rising ↦ rising
+    ]
+
+-- a key with a first level
 letters_law : (depth : Depth) (weighting : Weighting) (b : Book) (letters a : List ℕ) (later : List (List ℕ)) (points : List ℕ) → IsBook b → AreWeights letters
     → AreLevels (level_count weighting) (a ∷ later)
     → InRange (compact_letters_low weighting b letters) (compact_letters_high weighting b letters) (compact_key depth weighting b (record { levels = a ∷ later; points = points }))
@@ -186,8 +203,9 @@ letters_law depth weighting b letters a later points book ls are =
     let less : found.0 < number = omega (arith, found.2, room.0) in
     iff_then (range_as (compact_letters_low weighting b letters) (cells number b.letters letters) (compact_letters_high weighting b letters) (cells number b.letters letters ++ (255 ∷ []))
     key (cells number b.letters a ++ found.0 ∷ found.1) refl refl found.3)
-    (iff_then (cells_found number found.0 b.letters letters a found.1 book.letters less room.1 ls are.1.0) (first_letters letters a later))
+    (iff_then (cells_found number found.0 b.letters letters a found.1 (letters_rise weighting b book) less room.1 ls are.1.0) (first_letters letters a later))
 
+-- a key
 letters_of : (depth : Depth) (weighting : Weighting) (b : Book) (letters : List ℕ) (levels : List (List ℕ)) (points : List ℕ) → IsBook b → AreWeights letters
     → AreLevels (level_count weighting) levels
     → InRange (compact_letters_low weighting b letters) (compact_letters_high weighting b letters) (compact_key depth weighting b (record { levels = levels; points = points }))

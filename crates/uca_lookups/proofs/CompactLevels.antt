@@ -9,11 +9,11 @@ use Rattle.uca_weights.specs.declared.Weighting.{Weighting}
 use Rattle.uca_order.specs.Levels.{lexicographic, level_count}
 use Rattle.uca_compact.specs.Forms.{Form, AreForms, AreWeights, AreLevels, Book, IsBook, forms_of}
 use Rattle.uca_compact.specs.PlainLevels.{plain_level}
-use Rattle.uca_compact.specs.CompactKeys.{end_of, later_levels, compact, KeyParts, compact_key, AreParts}
+use Rattle.uca_compact.specs.CompactKeys.{end_of, later_levels, compact, compact_key}
 use Rattle.uca_compact.proofs.Below.{IsBelow}
 use Rattle.uca_compact.proofs.LevelsOrder.{levels_order, order_turned, end_bounds}
 use Rattle.uca_compact.proofs.TextOrder.{forms_fit, forms_count}
-use Rattle.uca_lookups.specs.Ranges.{InRange, LevelsBegin, plain_levels, levels_after, plain_key, with_last, compact_levels_low, compact_levels_high}
+use Rattle.uca_lookups.specs.Ranges.{InRange, LevelsBegin, plain_levels, levels_after, with_last, compact_levels_low, compact_levels_high}
 use Rattle.uca_lookups.specs.Laws.{CompactKeysByLevels}
 use Rattle.uca_lookups.proofs.Ranges.{both_hold, neither_holds, iff_then, range_as, range_between, below_low, past_last, below_longer, below_longer_right}
 use Rattle.uca_lookups.proofs.CompactLetters.{utf8_part, compact_is}
@@ -22,27 +22,30 @@ use Rattle.uca_lookups.proofs.FirstOrder.{IsNear, AreFirst, first_below, equal_l
 
 -- ---- What other levels make of an end
 
+-- levels do
 rest_near : (levels rest : List (List ℕ)) (count : ℕ) → length rest ≡ count → IsNear count (λ n. end_of plain_level n levels rest)
 rest_near levels rest count tie all room =
     let bounds = end_bounds plain_level all levels rest (omega (arith, tie)) in
     (omega (arith, bounds.0, tie), omega (arith, bounds.1, tie))
 
+-- the least end
 lower_near : (count : ℕ) → IsNear count (λ n. n - count)
 lower_near count all room = (omega arith, omega arith)
 
+-- the greatest end
 upper_near : (count : ℕ) → IsNear count (λ n. n + count)
 upper_near count all room = (omega arith, omega arith)
 
 -- ---- The two ends
 
 -- the last byte after others
-last_of : (change : ℕ → ℕ) (front : List ℕ) (x : ℕ) → with_last change (front ++ x ∷ []) ≡ front ++ change x ∷ []
+pub last_of : (change : ℕ → ℕ) (front : List ℕ) (x : ℕ) → with_last change (front ++ x ∷ []) ≡ front ++ change x ∷ []
 last_of change [] x = refl
 last_of change (y ∷ []) x = refl
 last_of change (y ∷ z ∷ front) x = ap (λ (xs : List ℕ). y ∷ xs) (last_of change (z ∷ front) x)
 
 -- first levels with an end
-abbrev Ending : Form → List Form → ℕ → List ℕ → List (List ℕ) → Type 0
+abbrev pub Ending : Form → List Form → ℕ → List ℕ → List (List ℕ) → Type 0
 Ending f forms count a fs = HasEnding count (λ ends more. first_code plain_level (f ∷ forms) count ends more (a ∷ fs))
 
 -- these levels and plain ones
@@ -67,6 +70,7 @@ lower_end f forms count a fs e = e.front ++ (e.base + e.last - count) ∷ []
 abbrev upper_end : (f : Form) (forms : List Form) (count : ℕ) (a : List ℕ) (fs : List (List ℕ)) → Ending f forms count a fs → List ℕ
 upper_end f forms count a fs e = e.front ++ (e.base + e.last + suc count) ∷ []
 
+-- the first levels with the least end
 lower_is : (f : Form) (forms : List Form) (count : ℕ) (a : List ℕ) (fs : List (List ℕ)) (e : Ending f forms count a fs)
     → first_code plain_level (f ∷ forms) count (λ n. n - count) [] (a ∷ fs) ≡ lower_end f forms count a fs e
 lower_is f forms count a fs e =
@@ -74,6 +78,7 @@ lower_is f forms count a fs e =
     let same : e.base + (e.last - count) ≡ e.base + e.last - count = omega arith in
     e.is (λ n. n - count) [] ∙ ap (λ (n : ℕ). e.front ++ n ∷ []) same
 
+-- the high end is after the greatest end
 upper_is : (f : Form) (forms : List Form) (count : ℕ) (a : List ℕ) (fs : List (List ℕ)) (e : Ending f forms count a fs)
     → e.front ++ suc (e.base + (e.last + count)) ∷ [] ≡ upper_end f forms count a fs e
 upper_is f forms count a fs e =
@@ -132,6 +137,7 @@ code_found f forms count s more ext a c fs gs are af cf at ct near e Greater is 
 abbrev Cut : (firsts levels : List (List ℕ)) → Type 0
 Cut firsts levels = (front : List (List ℕ)) × (rest : List (List ℕ)) × (levels ≡ front ++ rest) × (length front ≡ length firsts) × AllByRecursion AreWeights front
 
+-- levels are so
 cut : (firsts levels : List (List ℕ)) → length firsts ≤ length levels → AllByRecursion AreWeights levels → Cut firsts levels
 cut [] levels few weights = ([], levels, refl, refl, tt)
 cut (a ∷ firsts) [] few weights = absurd (omega arith)
@@ -157,6 +163,7 @@ same_front (x ∷ xs) (y ∷ ys) rest more long h =
     let same : xs ≡ ys = same_front xs ys rest more (omega (arith, long)) later in
     cc
 
+-- so they begin with these
 begins_if : (firsts front rest : List (List ℕ)) → length front ≡ length firsts → (front ≡ firsts) ↔ LevelsBegin firsts (front ++ rest)
 begins_if firsts front rest long = (
   (λ same. (rest, ap (λ (l : List (List ℕ)). l ++ rest) same)),
@@ -170,6 +177,7 @@ first_form : (forms : List Form) → 0 < length forms → (f : Form) × (more : 
 first_form [] some = absurd (omega arith)
 first_form (f ∷ more) some = (f, more, refl)
 
+-- a key that is cut so
 key_found : (depth : Depth) (weighting : Weighting) (b : Book) (f : Form) (forms : List Form) (a d : List ℕ) (fs gs rest : List (List ℕ)) (points : List ℕ)
     → AreForms (f ∷ forms) → forms_of weighting b ≡ f ∷ forms → length forms ≡ length fs + levels_after weighting (a ∷ fs)
     → length rest ≡ levels_after weighting (a ∷ fs) → length gs ≡ length fs → AllByRecursion AreWeights (a ∷ fs) → AllByRecursion AreWeights (d ∷ gs)
@@ -199,6 +207,7 @@ key_found depth weighting b f forms a d fs gs rest points fits is tie few long f
     tie gt (rest_near (d ∷ gs) rest count few) e (levels_order (d ∷ gs) (a ∷ fs)) refl)
     (begins_if (a ∷ fs) (d ∷ gs) rest (ap suc long)))
 
+-- a key
 levels_of : (depth : Depth) (weighting : Weighting) (b : Book) (firsts levels : List (List ℕ)) (points : List ℕ) → IsBook b → 0 < length firsts
     → length firsts ≤ level_count weighting → AllByRecursion AreWeights firsts → AreLevels (level_count weighting) levels
     → InRange (compact_levels_low weighting b firsts) (compact_levels_high weighting b firsts) (compact_key depth weighting b (record { levels = levels; points = points }))

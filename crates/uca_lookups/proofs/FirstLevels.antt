@@ -1,5 +1,5 @@
 -- The first levels of a compact key, whatever comes after them.
-use Rattle.std.proofs.Common.{◌≡◌, ◌⊎◌, inl, inr, ℕ, zero, suc, ◌+◌, ◌*◌, ◌-◌, ◌<◌, ◌≤◌, List, [], ◌∷◌, ◌++◌, Bool, true, false, cond, length, bytes_eq, refl, ap, sym, subst, ◌∙◌, arith, append_assoc, append-nil, length-append}
+use Rattle.std.proofs.Common.{◌≡◌, ◌⊎◌, inl, inr, ℕ, zero, suc, ◌+◌, ◌*◌, ◌-◌, ◌≤◌, List, [], ◌∷◌, ◌++◌, Bool, cond, length, bytes_eq, refl, ap, sym, ◌∙◌, arith, append_assoc, append-nil, length-append}
 use Rattle.std.specs.Ordering.{nat_cmp, is_eq}
 use Rattle.std.specs.declared.cmp.Ordering.{Ordering}
 use Rattle.std.specs.declared.cmp.Ordering.TheVariants.{Less, Equal, Greater}
@@ -7,7 +7,7 @@ use Rattle.std.proofs.lemmas.Map.Text.{is_eq-slice_cmp}
 use Rattle.uca_order.specs.Levels.{lexicographic}
 use Rattle.uca_order.proofs.KeyOrder.{lexicographic_itself}
 use Rattle.uca_weights.proofs.Tests.{same_bytes}
-use Rattle.uca_compact.specs.Forms.{Form, step, AreWeights}
+use Rattle.uca_compact.specs.Forms.{Form, step}
 use Rattle.uca_compact.specs.PlainLevels.{plain_level}
 use Rattle.uca_compact.specs.CompactKeys.{Plain, written, run_after, level_code, end_by, end_of, ended_level, later_levels, compact}
 use Rattle.uca_lookups.specs.Ranges.{plain_levels}
@@ -47,6 +47,7 @@ forms_after (f ∷ forms) (level ∷ later) = forms_after forms later
 
 -- ---- A compact key is so
 
+-- the end
 end_is : (plain : Plain) (all count : ℕ) (earlier levels rest total : List (List ℕ)) → length rest ≡ count → earlier ++ levels ≡ total
     → end_of plain all earlier (levels ++ rest) ≡ first_end plain count (λ n. end_of plain n total rest) all earlier levels
 end_is plain all count earlier [] rest total tie same =
@@ -66,6 +67,7 @@ same_by b c f level d e xs ys test end more =
     ∙ ap (λ (n : ℕ). cond c xs (ended f n level xs)) end
     ∙ ap (λ (zs : List ℕ). cond c zs (ended f e level zs)) more
 
+-- the later levels
 later_is : (plain : Plain) (forms : List Form) (count : ℕ) (earlier levels rest total : List (List ℕ)) → length rest ≡ count → length (levels ++ rest) ≡ length forms
     → earlier ++ levels ≡ total
     → later_levels plain forms earlier (levels ++ rest)
@@ -171,6 +173,7 @@ code_with plain f forms count o level earlier later ends more =
     cond (is_eq o) (first_later plain forms count ends more earlier later)
     (ended f (first_end plain count ends (length forms) earlier later) level (first_later plain forms count ends more earlier later))
 
+-- such levels are all plain or have an end
 ending_by : (plain : Plain) (f : Form) (forms : List Form) (count : ℕ) (level : List ℕ) (earlier later : List (List ℕ)) → count ≤ length forms
     → AllPlain plain forms count earlier later ⊎ HasOwnEnd plain forms count earlier later → (o : Ordering)
     → (((all : ℕ) (ends : ℕ → ℕ) → end_with plain count o earlier later ends all ≡ ends all)
@@ -183,6 +186,7 @@ ending_by plain f forms count level earlier later room h Equal = h
 ending_by plain f forms count level earlier later room h Greater =
     inr ((λ all ends others. refl), written_ending plain f forms count (length forms) earlier later level room h)
 
+-- so are all later levels
 later_ending : (plain : Plain) (forms : List Form) (count : ℕ) (earlier levels : List (List ℕ)) → length forms ≡ length levels + count
     → AllPlain plain forms count earlier levels ⊎ HasOwnEnd plain forms count earlier levels
 later_ending plain forms count earlier [] tie = inl ((λ all ends. refl), (λ ends more. refl))

@@ -107,6 +107,7 @@ end_and_bytes all plain f forms count ends more earlier a left o = (
 wrong_order : (a b : List ℕ) (left right : List (List ℕ)) → lexicographic a b ≡ Greater → ordering_then (lexicographic a b) (levels_order left right) ≡ Less → Less ≡ Greater
 wrong_order a b left right is h = sym h ∙ ap (λ (o : Ordering). ordering_then o (levels_order left right)) is
 
+-- one level
 later_step : (all : ℕ) (plain : Plain) (f : Form) (forms : List Form) (count : ℕ) (s t : ℕ → ℕ) (xs ys : List ℕ) (earlier left right : List (List ℕ)) (a b : List ℕ)
     → suc (length left) + count ≤ all → IsForm f → f.ends ≡ ends_before (length forms) → AreWeights a → AreWeights b
     → length forms ≡ length left + count → length forms ≡ length right + count → IsNear count s → IsNear count t
@@ -140,6 +141,7 @@ later_step all plain f forms count s t xs ys earlier left right a b room form en
 later_step all plain f forms count s t xs ys earlier left right a b room form ends aw bw nl nr ns nt more h Greater Greater oa ob =
     inr (omega (arith, nl, nr), both_written plain f forms count s t xs ys earlier left right a b form ends aw bw nl nr ns nt more (lexicographic a b) refl h)
 
+-- all later levels
 pub later_first : (plain : Plain) (forms : List Form) (count : ℕ) (s t : ℕ → ℕ) (xs ys : List ℕ) (earlier left right : List (List ℕ)) → AreForms forms
     → AreFirst forms left → AreFirst forms right → length forms ≡ length left + count → length forms ≡ length right + count → IsNear count s → IsNear count t
     → KeepFirst plain forms count s t xs ys earlier left right

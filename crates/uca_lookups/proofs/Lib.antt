@@ -6,3 +6,4 @@ pub mod FirstOrder
 pub mod CompactLevels
 pub mod TextParts
 pub mod StoredReads
+pub mod OneLevel

@@ -57,17 +57,17 @@ above_not high key below less =
 pub above_high : (low high key : List ℕ) → IsBelow high key → InRange low high key → ⊥
 above_high low high key below h = above_not high key below h.1
 
--- bytes that go on are not less than nothing
-not_less : (xs : List ℕ) → lexicographic xs [] ≡ Less → ⊥
-not_less [] h = cc
-not_less (x ∷ xs) h = cc
+-- no bytes are less than nothing
+pub from_nothing : (xs : List ℕ) → lexicographic xs [] ≡ Less → ⊥
+from_nothing [] h = cc
+from_nothing (x ∷ xs) h = cc
 
 -- ---- Bytes that follow
 
 -- a first byte that is the last one of an end, or a greater one
 first_by : (x y : ℕ) (ys : List ℕ) (o : Ordering) → x ≤ y → nat_cmp y x ≡ o → ordering_then o (lexicographic ys []) ≡ Less → ⊥
 first_by x y ys Less from is h = let less : y < x = grind (arith, nat_tests) in omega arith
-first_by x y ys Equal from is h = not_less ys h
+first_by x y ys Equal from is h = from_nothing ys h
 first_by x y ys Greater from is h = cc
 
 pub from_byte : (x y : ℕ) (ys : List ℕ) → x ≤ y → lexicographic (y ∷ ys) (x ∷ []) ≡ Less → ⊥

@@ -1,5 +1,5 @@
 -- Ranges of stored keys.
-use Rattle.std.proofs.Common.{◌≡◌, ◌↔◌, ◌⊎◌, inl, inr, ℕ, suc, ◌+◌, ◌/◌, ◌%◌, ◌<◌, ◌≤◌, List, [], ◌∷◌, ◌++◌, length, refl, ap, sym, subst, ◌∙◌, arith, append_assoc, append-nil}
+use Rattle.std.proofs.Common.{◌≡◌, ◌↔◌, ◌⊎◌, inl, inr, ℕ, ◌+◌, ◌/◌, ◌%◌, ◌<◌, ◌≤◌, List, [], ◌∷◌, ◌++◌, length, refl, ap, sym, subst, ◌∙◌, arith, append_assoc, append-nil}
 use Rattle.std.specs.List.{AllByRecursion}
 use Rattle.std.specs.declared.cmp.Ordering.TheVariants.{Less}
 use Rattle.uca_weights.specs.declared.Depth.{Depth}
@@ -9,11 +9,11 @@ use Rattle.uca_weights.specs.declared.Weighting.TheVariants.{NonIgnorable, Shift
 use Rattle.uca_order.specs.Levels.{lexicographic, level_count, level_bytes, levels_bytes}
 use Rattle.uca_order.specs.Depths.{points_bytes}
 use Rattle.uca_compact.specs.Forms.{AreWeights, AreLevels}
-use Rattle.uca_compact.specs.CompactKeys.{KeyParts, stored_key, AreParts}
+use Rattle.uca_compact.specs.CompactKeys.{stored_key}
 use Rattle.uca_compact.proofs.Below.{IsBelow, below_less}
 use Rattle.uca_lookups.specs.Ranges.{InRange, LettersBegin, LevelsBegin, levels_low, levels_high, letters_low, letters_high}
 use Rattle.uca_lookups.specs.Laws.{StoredKeysByLevels, StoredKeysByLetters}
-use Rattle.uca_lookups.proofs.Ranges.{both_hold, neither_holds, iff_then, range_as, range_after, below_low, above_not, above_high, from_byte, three_ways}
+use Rattle.uca_lookups.proofs.Ranges.{both_hold, neither_holds, iff_then, range_as, range_after, below_low, above_not, above_high, from_nothing, from_byte, three_ways}
 
 -- ---- The bytes of weights
 
@@ -54,6 +54,7 @@ abbrev pub after_first : (later : List (List ℕ)) → List ℕ → List ℕ
 after_first [] ext = ext
 after_first (b ∷ more) ext = 0 ∷ 0 ∷ (levels_bytes (b ∷ more) ++ ext)
 
+-- it ends a level
 pub after_tail : (later : List (List ℕ)) (ext : List ℕ) → IsTail ext → IsTail (after_first later ext)
 after_tail [] ext h = h
 after_tail (b ∷ more) ext h = inr (levels_bytes (b ∷ more) ++ ext, refl)
@@ -68,6 +69,7 @@ abbrev pub points_part : Depth → List ℕ → List ℕ
 points_part Weights points = []
 points_part Identical points = 0 ∷ 0 ∷ points_bytes points
 
+-- it ends a level
 pub points_tail : (depth : Depth) (points : List ℕ) → IsTail (points_part depth points)
 points_tail Weights points = inl refl
 points_tail Identical points = inr (points_bytes points, refl)
@@ -103,6 +105,7 @@ begins_none w front h = let e : [] ≡ w ∷ (front ++ h.0) = h.1 in cc
 abbrev pub BeginsOnly : (front whole : List ℕ) → Type 0
 BeginsOnly front whole = Begins front whole × (Begins (front ++ 0xFFFF ∷ []) whole → ⊥)
 
+-- after the same weight
 only_after : (w : ℕ) (front whole : List ℕ) → BeginsOnly front whole ↔ BeginsOnly (w ∷ front) (w ∷ whole)
 only_after w front whole =
     let one = begins_after w front whole in
@@ -110,11 +113,6 @@ only_after w front whole =
       (λ h. (one.0 h.0, (λ more. h.1 (two.1 more)))),
       (λ h. (one.1 h.0, (λ more. h.1 (two.0 more)))),
     )
-
--- any bytes are from nothing on
-pub from_nothing : (key : List ℕ) → lexicographic key [] ≡ Less → ⊥
-from_nothing [] h = cc
-from_nothing (x ∷ key) h = cc
 
 -- what ends a level is below FF FF
 tail_top : (tail : List ℕ) → IsTail tail → lexicographic tail (255 ∷ 255 ∷ []) ≡ Less
@@ -150,6 +148,7 @@ none_by v vs tail small (inr (inl same)) =
     (λ h. h.1 (vs, ap (λ (n : ℕ). n ∷ vs) same))
 none_by v vs tail small (inr (inr more)) = absurd (omega arith)
 
+-- no letters, by whether there is a weight
 no_letters : (first tail : List ℕ) → AreWeights first → IsTail tail → InRange [] (255 ∷ 255 ∷ []) (level_bytes first ++ tail) ↔ BeginsOnly [] first
 no_letters [] tail weights end =
     both_hold ((λ h. from_nothing tail h), tail_top tail end) (([], refl), (λ more. begins_none 65535 [] more))
@@ -174,6 +173,7 @@ letters_by w v ws vs tail more (inr (inl same)) =
     (iff_then (range_after (w / 256 ∷ w % 256 ∷ []) (level_bytes ws) (level_bytes ws ++ (255 ∷ 255 ∷ [])) (level_bytes vs ++ tail))
     (iff_then more (only_after w ws vs)))
 
+-- level 1 by its weights
 pub letters_found : (letters first tail : List ℕ) → AreWeights letters → AreWeights first → IsTail tail
     → InRange (level_bytes letters) (level_bytes letters ++ (255 ∷ 255 ∷ [])) (level_bytes first ++ tail) ↔ BeginsOnly letters first
 letters_found [] first tail ls fs end = no_letters first tail fs end
@@ -189,6 +189,7 @@ first_letters letters a later = (
   (λ h. (h.0, (let e : a ∷ later ≡ (letters ++ h.0) ∷ h.1 = h.2 in cc))),
 )
 
+-- a key with a first level
 letters_law : (depth : Depth) (letters a : List ℕ) (later : List (List ℕ)) (points : List ℕ) → AreWeights letters → AreWeights a
     → InRange (letters_low letters) (letters_high letters) (stored_key depth (record { levels = a ∷ later; points = points }))
     ↔ (LettersBegin letters (a ∷ later) × (LettersBegin (letters ++ 0xFFFF ∷ []) (a ∷ later) → ⊥))
@@ -212,6 +213,7 @@ no_level weighting h = count_of weighting h.0
     count_of NonIgnorable same = omega (arith, same)
     count_of Shifted same = omega (arith, same)
 
+-- a key
 letters_of : (depth : Depth) (weighting : Weighting) (letters : List ℕ) (levels : List (List ℕ)) (points : List ℕ) → AreWeights letters → AreLevels (level_count weighting) levels
     → InRange (letters_low letters) (letters_high letters) (stored_key depth (record { levels = levels; points = points }))
     ↔ (LettersBegin letters levels × (LettersBegin (letters ++ 0xFFFF ∷ []) levels → ⊥))
@@ -228,6 +230,7 @@ stored_by_letters depth weighting letters k ls parts = letters_of depth weightin
 abbrev IsHigh : List ℕ → Type 0
 IsHigh bytes = (bytes ≡ 0 ∷ 1 ∷ []) ⊎ ((more : List ℕ) × (bytes ≡ 0 ∷ 0 ∷ more))
 
+-- what follows the first level of a high end
 after_high : (later : List (List ℕ)) → IsHigh (after_first later (0 ∷ 1 ∷ []))
 after_high [] = inl refl
 after_high (b ∷ more) = inr (levels_bytes (b ∷ more) ++ (0 ∷ 1 ∷ []), refl)
@@ -268,6 +271,7 @@ same_after w ws vs R = (
 heads_same : (v w : ℕ) (vs ws : List ℕ) → v ∷ vs ≡ w ∷ ws → v ≡ w
 heads_same v w vs ws h = cc
 
+-- two first weights of a level
 level_by : (w v : ℕ) (ws vs low high tail : List ℕ) → (InRange (level_bytes ws ++ low) (level_bytes ws ++ high) (level_bytes vs ++ tail) ↔ ((vs ≡ ws) × InRange low high tail))
     → (v < w) ⊎ ((v ≡ w) ⊎ (w < v))
     → InRange (level_bytes (w ∷ ws) ++ low) (level_bytes (w ∷ ws) ++ high) (level_bytes (v ∷ vs) ++ tail) ↔ ((v ∷ vs ≡ w ∷ ws) × InRange low high tail)
@@ -308,6 +312,7 @@ levels_after_first a b fs ls = (
 then_same : (A B C : Type 0) → (B ↔ C) → (A × B) ↔ (A × C)
 then_same A B C h = ((λ p. (p.0, h.0 p.1)), (λ p. (p.0, h.1 p.1)))
 
+-- a level, and those after it
 level_step : (a b : List ℕ) (fs ls : List (List ℕ)) (ext : List ℕ) → AreWeights a → AreWeights b → IsTail ext
     → (InRange (after_first fs []) (after_first fs (0 ∷ 1 ∷ [])) (after_first ls ext) ↔ LevelsBegin fs ls)
     → InRange (levels_bytes (a ∷ fs) ++ []) (levels_bytes (a ∷ fs) ++ (0 ∷ 1 ∷ [])) (levels_bytes (b ∷ ls) ++ ext) ↔ LevelsBegin (a ∷ fs) (b ∷ ls)
@@ -334,6 +339,7 @@ later_found (c ∷ fs) (d ∷ ls) ext a b few end =
     iff_then (range_after (0 ∷ 0 ∷ []) (levels_bytes (c ∷ fs) ++ []) (levels_bytes (c ∷ fs) ++ (0 ∷ 1 ∷ [])) (levels_bytes (d ∷ ls) ++ ext))
     (level_step c d fs ls ext a.0 b.0 end (later_found fs ls ext a.1 b.1 (omega arith) end))
 
+-- a key
 levels_of : (depth : Depth) (firsts levels : List (List ℕ)) (points : List ℕ) → AllByRecursion AreWeights firsts → AllByRecursion AreWeights levels
     → 0 < length firsts → length firsts ≤ length levels
     → InRange (levels_low firsts) (levels_high firsts) (stored_key depth (record { levels = levels; points = points })) ↔ LevelsBegin firsts levels

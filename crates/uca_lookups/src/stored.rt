@@ -63,8 +63,7 @@ pub fn write_same_letters_range<A: Allocator>(
     push_weights(low, letters)?;
     high.clear();
     push_weights(high, letters)?;
-    high.push(0)?;
-    high.push(1)?;
+    high.extend_from_slice(&[0, 1])?;
     Ok(())
 }
 
@@ -86,7 +85,6 @@ pub fn write_letters_range<A: Allocator>(
     push_weights(low, letters)?;
     high.clear();
     push_weights(high, letters)?;
-    high.push(0xFF)?;
-    high.push(0xFF)?;
+    high.extend_from_slice(&[0xFF, 0xFF])?;
     Ok(())
 }
