@@ -7,3 +7,4 @@ pub mod CompactLevels
 pub mod TextParts
 pub mod StoredReads
 pub mod OneLevel
+pub mod LevelsEnd

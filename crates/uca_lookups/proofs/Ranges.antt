@@ -18,7 +18,7 @@ both_hold a b = ((λ h. b), (λ h. a))
 
 -- neither is
 pub neither_holds : {A B : Type 0} → (A → ⊥) → (B → ⊥) → A ↔ B
-neither_holds no none = ((λ a. absurd (no a)), (λ b. absurd (none b)))
+neither_holds first second = ((λ a. absurd (first a)), (λ b. absurd (second b)))
 
 -- one after another
 pub iff_then : {A B C : Type 0} → (A ↔ B) → (B ↔ C) → A ↔ C

@@ -1,12 +1,13 @@
 -- Ranges of keys: a database looks up keys from a low end up to, and without, a high end, in byte order.
-use Rattle.std.specs.Prelude.{◌≡◌, ◌≢◌, ℕ, zero, suc, ◌+◌, ◌-◌, List, [], ◌∷◌, ◌++◌, length, flat_map}
+use Rattle.std.specs.Prelude.{◌≡◌, ◌≢◌, ℕ, zero, suc, ◌+◌, ◌-◌, ◌<◌, List, [], ◌∷◌, ◌++◌, length, flat_map, Bool, true}
 use Rattle.std.specs.declared.cmp.Ordering.TheVariants.{Less}
+use Rattle.uca_weights.specs.declared.Depth.{Depth}
 use Rattle.uca_weights.specs.declared.Depth.TheVariants.{Weights}
 use Rattle.uca_weights.specs.declared.Weighting.{Weighting}
 use Rattle.uca_order.specs.Levels.{lexicographic, level_count, level_bytes, levels_bytes}
 use Rattle.uca_compact.specs.Forms.{Book, first_cell, letters_form}
 use Rattle.uca_compact.specs.PlainLevels.{plain_level}
-use Rattle.uca_compact.specs.CompactKeys.{cell, compact_key}
+use Rattle.uca_compact.specs.CompactKeys.{cell, KeyParts, stored_key, compact_key, AreParts}
 
 -- the key is not below the low end, and is below the high end
 abbrev pub InRange : (low high key : List ℕ) → Type 0
@@ -37,6 +38,12 @@ letters_low letters = level_bytes letters
 
 abbrev pub letters_high : List ℕ → List ℕ
 letters_high letters = level_bytes letters ++ (0xFF ∷ 0xFF ∷ [])
+
+-- What a program finds in a stored key: both ends of the range of its first levels, if it has so many.
+abbrev pub FindsLevels : (count : ℕ) → (key : List ℕ) → (found : Bool) → (low high : List ℕ) → Type 0
+FindsLevels count key found low high = (depth : Depth) (weighting : Weighting) (k : KeyParts) (firsts : List (List ℕ)) → AreParts depth weighting k →
+    key ≡ stored_key depth k → LevelsBegin firsts k.levels → length firsts ≡ count → 0 < count →
+    (found ≡ true) × (low ≡ levels_low firsts) × (high ≡ levels_high firsts)
 
 -- ---- Ranges of compact keys
 

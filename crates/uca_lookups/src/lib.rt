@@ -6,6 +6,8 @@
 #![tactic(auto)]
 
 pub mod laws;
+mod levels;
 mod stored;
 
+pub use levels::write_same_levels_range;
 pub use stored::{read_letters, write_letters_range, write_same_letters_range};
