@@ -1,5 +1,5 @@
 -- Where the first levels of a stored key end.
-use Rattle.std.proofs.Common.{◌≡◌, ◌⊎◌, inl, inr, ℕ, suc, ◌+◌, ◌*◌, ◌-◌, ◌/◌, ◌%◌, ◌<◌, ◌≤◌, List, [], ◌∷◌, ◌++◌, Bool, true, false, cond, Option, Some, None, option_map, nat_eq, nat_lt, length, get_or, take, drop, drop-cons, refl, ap, sym, subst, ◌∙◌, arith, append_assoc, length-append}
+use Rattle.std.proofs.Common.{◌≡◌, ◌≢◌, ◌⊎◌, inl, inr, ℕ, suc, ◌+◌, ◌*◌, ◌-◌, ◌/◌, ◌%◌, ◌<◌, ◌≤◌, List, [], ◌∷◌, ◌++◌, Bool, true, false, cond, Option, Some, None, option_map, nat_eq, nat_lt, length, get_or, take, drop, drop-cons, refl, ap, sym, subst, ◌∙◌, arith, append_assoc, length-append}
 use Rattle.std.specs.List.{AllByRecursion}
 use Rattle.std.proofs.lemmas.List.{drop_all, take_at}
 use Rattle.std.proofs.lemmas.Bool.Decides.{nat_tests}
@@ -30,44 +30,31 @@ two_more at (Some n) = let same : at + (n + 2) ≡ (at + 2) + n = omega arith in
 
 -- the program goes on
 pub length_step : (key : List ℕ) (at left next w : ℕ) (all : Option ℕ) → at + 1 < length key → w ≡ 256 * get_or key at 0 + get_or key (at + 1) 0
-    → ((w ≡ 0) × (2 ≤ left) × (next ≡ left - 1)) ⊎ ((0 < w) × (next ≡ left))
-    → option_map (λ n. at + n) (levels_length left (drop at key)) ≡ all
+    → next ≡ cond (nat_eq w 0) (left - 1) left → ((w ≡ 0) × (2 ≤ left)) ⊎ (w ≢ 0) → option_map (λ n. at + n) (levels_length left (drop at key)) ≡ all
     → (at + 2 ≤ length key) × (option_map (λ n. (at + 2) + n) (levels_length next (drop (at + 2) key)) ≡ all)
-length_step key at left next w all within is (inl zero_weight) h =
+length_step key at left next w all within is step (inl zero_weight) h =
     let bytes = drop (at + 2) key in
     let test : nat_eq w 0 ≡ true = let z : w ≡ 0 = zero_weight.0 in grind (arith, nat_tests) in
     let few : nat_lt left 2 ≡ false = let two : 2 ≤ left = zero_weight.1 in grind (arith, nat_tests) in
+    let less : next ≡ left - 1 = step ∙ ap (λ (u : Bool). cond u (left - 1) left) test in
     let here : levels_length left (drop at key) ≡ option_map (λ n. n + 2) (levels_length next bytes) =
     ap (levels_length left) (two_at key at within)
     ∙ length_by left (get_or key at 0) (get_or key (at + 1) 0) w bytes true is test
     ∙ ap (λ (u : Bool). cond u (Some 0) (option_map (λ (n : ℕ). n + 2) (levels_length (left - 1) bytes))) few
-    ∙ ap (λ (m : ℕ). option_map (λ (n : ℕ). n + 2) (levels_length m bytes)) (sym zero_weight.2) in
+    ∙ ap (λ (m : ℕ). option_map (λ (n : ℕ). n + 2) (levels_length m bytes)) (sym less) in
     (omega arith, sym (two_more at (levels_length next bytes)) ∙ ap (option_map (λ (n : ℕ). at + n)) (sym here) ∙ h)
-length_step key at left next w all within is (inr weight) h =
+length_step key at left next w all within is step (inr weight) h =
     let bytes = drop (at + 2) key in
-    let test : nat_eq w 0 ≡ false = let z : 0 < w = weight.0 in grind (arith, nat_tests) in
+    let test : nat_eq w 0 ≡ false = grind (arith, nat_tests) in
+    let same : next ≡ left = step ∙ ap (λ (u : Bool). cond u (left - 1) left) test in
     let here : levels_length left (drop at key) ≡ option_map (λ n. n + 2) (levels_length next bytes) =
     ap (levels_length left) (two_at key at within)
     ∙ length_by left (get_or key at 0) (get_or key (at + 1) 0) w bytes false is test
-    ∙ ap (λ (m : ℕ). option_map (λ (n : ℕ). n + 2) (levels_length m bytes)) (sym weight.1) in
+    ∙ ap (λ (m : ℕ). option_map (λ (n : ℕ). n + 2) (levels_length m bytes)) (sym same) in
     (omega arith, sym (two_more at (levels_length next bytes)) ∙ ap (option_map (λ (n : ℕ). at + n)) (sym here) ∙ h)
 
--- it has come to the end of these levels
-pub end_found : (key : List ℕ) (at left w : ℕ) (all : Option ℕ) → at + 1 < length key → w ≡ 256 * get_or key at 0 + get_or key (at + 1) 0 → w ≡ 0 → left < 2
-    → option_map (λ n. at + n) (levels_length left (drop at key)) ≡ all → Some at ≡ all
-end_found key at left w all within is none few h =
-    let bytes = drop (at + 2) key in
-    let test : nat_eq w 0 ≡ true = grind (arith, nat_tests) in
-    let last : nat_lt left 2 ≡ true = grind (arith, nat_tests) in
-    let here : levels_length left (drop at key) ≡ Some 0 =
-    ap (levels_length left) (two_at key at within)
-    ∙ length_by left (get_or key at 0) (get_or key (at + 1) 0) w bytes true is test
-    ∙ ap (λ (u : Bool). cond u (Some 0) (option_map (λ (n : ℕ). n + 2) (levels_length (left - 1) bytes))) last in
-    let same : at ≡ at + 0 = omega arith in
-    ap (λ (n : ℕ). Some n) same ∙ ap (option_map (λ (n : ℕ). at + n)) (sym here) ∙ h
-
 -- it has come to the end of the bytes
-pub end_by : (key : List ℕ) (at left : ℕ) (all : Option ℕ) (t : Bool) → nat_eq left 1 ≡ t → at ≡ length key
+end_by : (key : List ℕ) (at left : ℕ) (all : Option ℕ) (t : Bool) → nat_eq left 1 ≡ t → at ≡ length key
     → option_map (λ n. at + n) (levels_length left (drop at key)) ≡ all → cond t (Some at) None ≡ all
 end_by key at left all t test end h =
     let none : drop at key ≡ [] = drop_all at key (omega arith) in
@@ -79,13 +66,28 @@ end_by key at left all t test end h =
     last_by false = refl
 
 -- a single byte is left
-pub single_by : (key : List ℕ) (at left : ℕ) (all : Option ℕ) → at < length key → length key ≤ at + 1
+single_by : (key : List ℕ) (at left : ℕ) (all : Option ℕ) → at < length key → length key ≤ at + 1
     → option_map (λ n. at + n) (levels_length left (drop at key)) ≡ all → None ≡ all
 single_by key at left all within end h =
     let next : suc at ≡ at + 1 = omega arith in
     let one : drop at key ≡ get_or key at 0 ∷ [] =
     drop-cons key at 0 within ∙ ap (λ (xs : List ℕ). get_or key at 0 ∷ xs) (drop_all (suc at) key (omega arith)) in
     ap (λ (xs : List ℕ). option_map (λ n. at + n) (levels_length left xs)) (sym one) ∙ h
+
+-- levels are missing, or a single byte is left
+pub none_left : (key : List ℕ) (at left : ℕ) (all : Option ℕ) → at ≤ length key → length key ≤ at + 1 → (left ≢ 1) ⊎ (at ≢ length key)
+    → option_map (λ n. at + n) (levels_length left (drop at key)) ≡ all → None ≡ all
+none_left key at left all within end (inr apart) h = single_by key at left all (omega (arith, apart)) end h
+none_left key at left all within end (inl others) h = left_by (nat_eq at (length key)) refl
+  where
+    left_by : (b : Bool) → nat_eq at (length key) ≡ b → None ≡ all
+    left_by true is =
+        let same : at ≡ length key = grind (arith, nat_tests) in
+        let test : nat_eq left 1 ≡ false = grind (arith, nat_tests) in
+        end_by key at left all false test same h
+    left_by false is =
+        let apart : at ≢ length key = grind (arith, nat_tests) in
+        single_by key at left all (omega (arith, apart)) end h
 
 -- ---- A stored key
 

@@ -52,8 +52,9 @@ pub fn write_same_levels_range<A: Allocator>(
 ) -> Result<bool, AllocError>
     ensures { IfOk result (λ found. FindsLevels count key.now found low.new.items high.new.items) }
 {
-    let Some(end) = levels_end(key, count) else {
-        return Ok(false);
+    let end = match levels_end(key, count) {
+        Some(end) => end,
+        None => return Ok(false),
     };
     low.clear();
     low.extend_from_slice(&key[..end])?;
