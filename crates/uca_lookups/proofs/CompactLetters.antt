@@ -74,9 +74,11 @@ all_found : (number e : ℕ) (greater first xs : List ℕ) → e < number → nu
 all_found number e greater [] xs less few =
     both_hold ((λ h. from_nothing (e ∷ xs) h), below_less (e ∷ xs) (255 ∷ []) (inl (omega arith))) ([], refl)
 all_found number e greater (v ∷ vs) xs less few =
-    both_hold ((λ h. from_nothing (cells number greater (v ∷ vs) ++ e ∷ xs) h),
-    subst (λ (bytes : List ℕ). lexicographic bytes (255 ∷ []) ≡ Less) (sym (append_assoc (cell number 1 greater 65536 v) (cells number greater vs) (e ∷ xs)))
-    (cell_top number v greater (cells number greater vs ++ e ∷ xs) few)) (v ∷ vs, refl)
+    both_hold (
+      (λ h. from_nothing (cells number greater (v ∷ vs) ++ e ∷ xs) h),
+      subst (λ (bytes : List ℕ). lexicographic bytes (255 ∷ []) ≡ Less) (sym (append_assoc (cell number 1 greater 65536 v) (cells number greater vs) (e ∷ xs)))
+          (cell_top number v greater (cells number greater vs ++ e ∷ xs) few),
+    ) (v ∷ vs, refl)
 
 -- two first weights
 cells_by : (number e w v : ℕ) (greater ws vs xs : List ℕ) → AreRising 1 greater 65536 → 0 < w → w < 65536 → 0 < v → v < 65536
@@ -125,7 +127,7 @@ cells_found number e greater (w ∷ ws) (v ∷ vs) xs rising less few ls fs =
 abbrev pub BeginsByCells : Weighting → Book → List ℕ → List ℕ → Type 0
 BeginsByCells weighting b a key = (e : ℕ) × (xs : List ℕ) × (e < ends_before (level_count weighting - 1)) × (key ≡ letters_code weighting b a ++ e ∷ xs)
 
--- levels, the first of which has no common weight
+-- levels, where the first one has no common weight
 pub levels_by : (f : Form) (forms : List Form) (a : List ℕ) (later : List (List ℕ)) (more : List ℕ) → f.common ≡ 0 → f.ends ≡ ends_before (length forms)
     → length later ≡ length forms → AreWeights a
     → (e : ℕ) × (xs : List ℕ) × (e < ends_before (length forms))

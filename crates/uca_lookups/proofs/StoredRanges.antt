@@ -1,5 +1,5 @@
 -- Ranges of stored keys.
-use Rattle.std.proofs.Common.{◌≡◌, ◌↔◌, ◌⊎◌, inl, inr, ℕ, ◌+◌, ◌/◌, ◌%◌, ◌<◌, ◌≤◌, List, [], ◌∷◌, ◌++◌, length, refl, ap, sym, subst, ◌∙◌, arith, append_assoc, append-nil}
+use Rattle.std.proofs.Common.{◌≡◌, ◌↔◌, ◌⊎◌, inl, inr, ℕ, ◌/◌, ◌%◌, ◌<◌, ◌≤◌, List, [], ◌∷◌, ◌++◌, length, refl, ap, sym, subst, ◌∙◌, arith, append_assoc, append-nil}
 use Rattle.std.specs.List.{AllByRecursion}
 use Rattle.std.specs.declared.cmp.Ordering.TheVariants.{Less}
 use Rattle.uca_weights.specs.declared.Depth.{Depth}
@@ -139,9 +139,10 @@ top_weight v more same h =
 none_by : (v : ℕ) (vs tail : List ℕ) → v < 65536 → (v < 65535) ⊎ ((v ≡ 65535) ⊎ (65535 < v))
     → InRange [] (255 ∷ 255 ∷ []) (v / 256 ∷ v % 256 ∷ (level_bytes vs ++ tail)) ↔ BeginsOnly [] (v ∷ vs)
 none_by v vs tail small (inl less) =
-    both_hold
-    ((λ h. from_nothing (v / 256 ∷ v % 256 ∷ (level_bytes vs ++ tail)) h),
-    below_less (v / 256 ∷ v % 256 ∷ (level_bytes vs ++ tail)) (255 ∷ 255 ∷ []) (below_top v (level_bytes vs ++ tail) less))
+    both_hold (
+      (λ h. from_nothing (v / 256 ∷ v % 256 ∷ (level_bytes vs ++ tail)) h),
+      below_less (v / 256 ∷ v % 256 ∷ (level_bytes vs ++ tail)) (255 ∷ 255 ∷ []) (below_top v (level_bytes vs ++ tail) less),
+    )
     ((v ∷ vs, refl), (λ more. let same : v ≡ 65535 = begins_same v 65535 [] vs more in omega arith))
 none_by v vs tail small (inr (inl same)) =
     neither_holds (λ h. top_weight v (level_bytes vs ++ tail) same h.1)

@@ -10,7 +10,11 @@ use std::alloc::{AllocError, Allocator};
 fn levels_left(left: usize, weight: u16) -> usize
     ensures { result ≡ (if nat_eq weight 0 then left - 1 else left) }
 {
-    if weight == 0 { left.saturating_sub(1) } else { left }
+    if weight == 0 {
+        left.saturating_sub(1)
+    } else {
+        left
+    }
 }
 
 // Where the first levels of a stored key end.

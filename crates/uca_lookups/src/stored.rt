@@ -15,10 +15,7 @@ use std::alloc::{AllocError, Allocator};
 /// # Errors
 ///
 /// An allocation failed. The weights are then unspecified.
-pub fn read_letters<A: Allocator>(
-    key: &[u8],
-    letters: &mut Vec<u16, A>,
-) -> Result<bool, AllocError>
+pub fn read_letters<A: Allocator>(key: &[u8], letters: &mut Vec<u16, A>) -> Result<bool, AllocError>
     ensures letters { IfOk result (λ found. option_map (λ level. level.weights) (stored_level key.now) ≡ (if found then Some letters.new.items else None)) }
     ensures weights { IfOk result (λ found. AreWeights letters.new.items) }
 {
