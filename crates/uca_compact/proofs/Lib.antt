@@ -5,6 +5,7 @@ pub mod LevelsOrder
 pub mod ReadBack
 pub mod LevelsBack
 pub mod PointOrder
+pub mod Forms
 pub mod TextOrder
 pub mod OnlyCells
 pub mod OnlyLevels

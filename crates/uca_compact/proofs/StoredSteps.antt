@@ -7,7 +7,8 @@ use Rattle.uca_weights.specs.declared.Depth.{Depth}
 use Rattle.uca_weights.specs.declared.Depth.TheVariants.{Weights, Identical}
 use Rattle.uca_weights.specs.declared.Weighting.{Weighting}
 use Rattle.uca_weights.specs.declared.Weighting.TheVariants.{NonIgnorable, Shifted}
-use Rattle.uca_compact.specs.Forms.{AreWeights, Book, forms_of}
+use Rattle.uca_books.specs.Books.{BookContent}
+use Rattle.uca_compact.specs.Forms.{AreWeights, forms_of}
 use Rattle.uca_compact.specs.PlainLevels.{plain_level}
 use Rattle.uca_compact.specs.CompactKeys.{compact, compact_key}
 use Rattle.uca_compact.specs.StoredParts.{StoredLevel, weight_then, stored_level, stored_points, points_after, level_before, parts_from, stored_parts}
@@ -157,7 +158,7 @@ before_parts ws levels None = refl
 before_parts ws levels (Some ps) = refl
 
 -- the compact key is the levels and what is written for the code points
-pub written_parts : (depth : Depth) (weighting : Weighting) (b : Book) (levels : List (List ℕ)) (e : StoredEnd)
+pub written_parts : (depth : Depth) (weighting : Weighting) (b : BookContent) (levels : List (List ℕ)) (e : StoredEnd)
     → option_map (compact_key depth weighting b) (option_map (λ points. record { levels = levels; points = points }) (points_of depth e))
     ≡ with_points (compact plain_level (forms_of weighting b) levels) (points_of depth e)
 written_parts Weights weighting b levels (Next rest) = refl
@@ -173,7 +174,7 @@ written_parts Identical weighting b levels Key = refl
 written_parts Identical weighting b levels Single = refl
 
 -- three levels
-pub three_parts : (depth : Depth) (b : Book) (key second third letters accents cases : List ℕ) (e : StoredEnd)
+pub three_parts : (depth : Depth) (b : BookContent) (key second third letters accents cases : List ℕ) (e : StoredEnd)
     → stored_level key ≡ Some (record { weights = letters; rest = Some second }) → stored_level second ≡ Some (record { weights = accents; rest = Some third })
     → stored_level third ≡ level_of e cases
     → option_map (compact_key depth NonIgnorable b) (stored_parts depth NonIgnorable key)
@@ -187,7 +188,7 @@ three_parts depth b key second third letters accents cases e one two last =
     ap (option_map (compact_key depth NonIgnorable b)) parts ∙ written_parts depth NonIgnorable b (letters ∷ accents ∷ cases ∷ []) e
 
 -- four levels
-pub four_parts : (depth : Depth) (b : Book) (key second third fourth letters accents cases variables : List ℕ) (e : StoredEnd)
+pub four_parts : (depth : Depth) (b : BookContent) (key second third fourth letters accents cases variables : List ℕ) (e : StoredEnd)
     → stored_level key ≡ Some (record { weights = letters; rest = Some second }) → stored_level second ≡ Some (record { weights = accents; rest = Some third })
     → stored_level third ≡ Some (record { weights = cases; rest = Some fourth }) → stored_level fourth ≡ level_of e variables
     → option_map (compact_key depth Shifted b) (stored_parts depth Shifted key)

@@ -1,5 +1,5 @@
 -- Compact keys of texts keep the order of their keys.
-use Rattle.std.proofs.Common.{◌≡◌, inl, inr, ℕ, zero, suc, ◌<◌, ◌≤◌, List, [], ◌∷◌, ◌++◌, Bool, true, false, cond, not, length, nat_eq, refl, ap, sym, ◌∙◌, arith, append-nil, ◌&&◌, encode_utf8_all}
+use Rattle.std.proofs.Common.{◌≡◌, ℕ, zero, suc, ◌<◌, List, [], ◌∷◌, ◌++◌, Bool, true, false, cond, not, length, nat_eq, refl, ap, sym, ◌∙◌, arith, append-nil, ◌&&◌, encode_utf8_all}
 use Rattle.std.specs.List.{AllByRecursion}
 use Rattle.std.specs.Ordering.{ordering_then}
 use Rattle.std.proofs.lemmas.Bool.Decides.{nat_tests}
@@ -12,41 +12,14 @@ use Rattle.uca_order.specs.Levels.{Weights as WeightList, is_ignorable, is_compl
 use Rattle.uca_order.specs.Depths.{ReadText, key_at, compared_at}
 use Rattle.uca_order.proofs.KeyOrder.{then_assoc, then_equal, lexicographic_itself, same_from_lexicographic}
 use Rattle.uca_order.proofs.DepthOrder.{depth_order}
-use Rattle.uca_compact.specs.Forms.{IsForm, AreForms, AreWeights, AreLevels, Book, IsBook, letters_form, accents_form, cases_form, variables_form, forms_of}
+use Rattle.uca_books.specs.Books.{BookContent, IsBook}
+use Rattle.uca_compact.specs.Forms.{AreWeights, AreLevels, forms_of}
 use Rattle.uca_compact.specs.PlainLevels.{plain_level}
 use Rattle.uca_compact.specs.CompactKeys.{compact, text_parts, stored_key, compact_key}
 use Rattle.uca_compact.specs.Laws.{HasTwoBytes, CompactKeysKeepOrder}
+use Rattle.uca_compact.proofs.Forms.{forms_fit, forms_count}
 use Rattle.uca_compact.proofs.LevelsOrder.{levels_order, levels_order_is, each_level, compare_by}
 use Rattle.uca_compact.proofs.PointOrder.{points_order}
-
--- ---- Forms of a book
-
--- the form of each level
-letters_fit : (b : Book) (later : ℕ) → IsBook b → later ≤ 3 → IsForm (letters_form b later)
-letters_fit b later h few =
-    record { common = omega arith; longest = omega arith; no_common = λ none. refl; lesser = inl (omega arith, refl); greater = inr h.letters; few_lesser = omega arith; few_greater = omega (arith, h.few_letters) }
-
-accents_fit : (b : Book) (later : ℕ) → IsBook b → later ≤ 2 → IsForm (accents_form b later)
-accents_fit b later h few =
-    record { common = omega arith; longest = omega arith; no_common = λ none. absurd (omega (arith, none)); lesser = inr (omega arith); greater = inr h.accents; few_lesser = omega arith; few_greater = omega (arith, h.few_accents) }
-
-cases_fit : (b : Book) (later : ℕ) → IsBook b → later ≤ 1 → IsForm (cases_form b later)
-cases_fit b later h few =
-    record { common = omega arith; longest = omega arith; no_common = λ none. absurd (omega (arith, none)); lesser = inr (omega arith); greater = inr h.cases; few_lesser = omega arith; few_greater = omega (arith, h.few_cases) }
-
-variables_fit : (b : Book) → IsBook b → IsForm (variables_form b 0)
-variables_fit b h = record { common = omega arith; longest = omega arith; no_common = λ none. absurd (omega (arith, none)); lesser = inr h.variables; greater = inl (omega arith, refl); few_lesser = h.few_variables; few_greater = omega arith }
-
--- the forms of a weighting
-pub forms_fit : (weighting : Weighting) (b : Book) → IsBook b → AreForms (forms_of weighting b)
-forms_fit NonIgnorable b h = (letters_fit b 2 h (omega arith), refl, (accents_fit b 1 h (omega arith), refl, (cases_fit b 0 h (omega arith), refl, tt)))
-forms_fit Shifted b h =
-    (letters_fit b 3 h (omega arith), refl, (accents_fit b 2 h (omega arith), refl, (cases_fit b 1 h (omega arith), refl, (variables_fit b h, refl, tt))))
-
--- as many as levels
-pub forms_count : (weighting : Weighting) (b : Book) → length (forms_of weighting b) ≡ level_count weighting
-forms_count NonIgnorable b = refl
-forms_count Shifted b = refl
 
 -- ---- Weights of texts
 
@@ -110,7 +83,7 @@ more_order (a ∷ left) (b ∷ right) p q h =
     ∙ sym (then_assoc (lexicographic a b) (levels_order left right) (lexicographic p q))
 
 -- levels and what follows them
-levels_then : (weighting : Weighting) (b : Book) (left right : List Element) (xs ys : List ℕ) → IsBook b → AllByRecursion HasTwoBytes left → AllByRecursion HasTwoBytes right
+levels_then : (weighting : Weighting) (b : BookContent) (left right : List Element) (xs ys : List ℕ) → IsBook b → AllByRecursion HasTwoBytes left → AllByRecursion HasTwoBytes right
     → lexicographic (compact plain_level (forms_of weighting b) (level_lists weighting left) ++ xs) (compact plain_level (forms_of weighting b) (level_lists weighting right) ++ ys)
     ≡ ordering_then (levels_order (level_lists weighting left) (level_lists weighting right)) (lexicographic xs ys)
 levels_then weighting b left right xs ys h ls rs =
@@ -122,7 +95,7 @@ levels_then weighting b left right xs ys h ls rs =
     xs ys (levels_order (level_lists weighting left) (level_lists weighting right)) refl
 
 -- compact keys compare as the texts
-compact_texts : (depth : Depth) (weighting : Weighting) (b : Book) (left right : ReadText) → IsBook b → AllByRecursion HasTwoBytes left.elements → AllByRecursion HasTwoBytes right.elements
+compact_texts : (depth : Depth) (weighting : Weighting) (b : BookContent) (left right : ReadText) → IsBook b → AllByRecursion HasTwoBytes left.elements → AllByRecursion HasTwoBytes right.elements
     → lexicographic (compact_key depth weighting b (text_parts depth weighting left)) (compact_key depth weighting b (text_parts depth weighting right))
     ≡ (compared_at depth weighting left right).order
 compact_texts Weights weighting b left right h ls rs =
@@ -140,7 +113,7 @@ compact_texts Identical weighting b left right h ls rs =
     ∙ levels_order_is 1 (one ++ left.points ∷ []) (two ++ right.points ∷ [])
 
 -- so byte order is that of the keys
-keys_order : (depth : Depth) (weighting : Weighting) (b : Book) (left right : ReadText) → IsBook b → AllByRecursion HasTwoBytes left.elements → AllByRecursion HasTwoBytes right.elements
+keys_order : (depth : Depth) (weighting : Weighting) (b : BookContent) (left right : ReadText) → IsBook b → AllByRecursion HasTwoBytes left.elements → AllByRecursion HasTwoBytes right.elements
     → lexicographic (compact_key depth weighting b (text_parts depth weighting left)) (compact_key depth weighting b (text_parts depth weighting right))
     ≡ lexicographic (key_at depth weighting left) (key_at depth weighting right)
 keys_order depth weighting b left right h ls rs = compact_texts depth weighting b left right h ls rs ∙ sym (depth_order depth weighting left right)

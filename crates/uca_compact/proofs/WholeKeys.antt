@@ -6,13 +6,14 @@ use Rattle.uca_weights.specs.declared.Depth.{Depth}
 use Rattle.uca_weights.specs.declared.Depth.TheVariants.{Weights, Identical}
 use Rattle.uca_weights.specs.declared.Weighting.{Weighting}
 use Rattle.uca_order.specs.Levels.{level_count}
-use Rattle.uca_compact.specs.Forms.{AreWeights, AreLevels, Book, IsBook, forms_of}
+use Rattle.uca_books.specs.Books.{BookContent, IsBook}
+use Rattle.uca_compact.specs.Forms.{AreWeights, AreLevels, forms_of}
 use Rattle.uca_compact.specs.PlainLevels.{copies, letter_count, plain_level}
 use Rattle.uca_compact.specs.CompactKeys.{compact, KeyParts, AreParts, compact_key}
 use Rattle.uca_compact.specs.Reading.{ReadLevels, read_levels, parts_then, with_rest, read_key}
 use Rattle.uca_compact.specs.Laws.{CompactKeysAreReadBack, OnlyCompactKeysAreRead, NoCompactKeyBeginsAnother}
 use Rattle.uca_compact.proofs.LevelsBack.{levels_read, levels_back}
-use Rattle.uca_compact.proofs.TextOrder.{forms_fit, forms_count}
+use Rattle.uca_compact.proofs.Forms.{forms_fit, forms_count}
 use Rattle.uca_compact.proofs.OnlyCells.{AreBytes, nothing, same_some}
 use Rattle.uca_compact.proofs.OnlyKeys.{PlainWeights, levels_only}
 
@@ -32,11 +33,11 @@ plain_weights (a ∷ b ∷ c ∷ more) = copies_weights 0xFFFF (length c + (leng
 -- ---- What was written is read
 
 -- as many levels as forms
-levels_fit : (weighting : Weighting) (b : Book) (levels : List (List ℕ)) → AreLevels (level_count weighting) levels → AreLevels (length (forms_of weighting b)) levels
+levels_fit : (weighting : Weighting) (b : BookContent) (levels : List (List ℕ)) → AreLevels (level_count weighting) levels → AreLevels (length (forms_of weighting b)) levels
 levels_fit weighting b levels h = (h.0 ∙ sym (forms_count weighting b), h.1)
 
 -- the levels before anything
-pub levels_again : (weighting : Weighting) (b : Book) (levels : List (List ℕ)) (rest : List ℕ) → IsBook b → AreLevels (level_count weighting) levels
+pub levels_again : (weighting : Weighting) (b : BookContent) (levels : List (List ℕ)) (rest : List ℕ) → IsBook b → AreLevels (level_count weighting) levels
     → read_levels plain_level (forms_of weighting b) (compact plain_level (forms_of weighting b) levels ++ rest) ≡ levels_read levels rest
 levels_again weighting b levels rest h ls = levels_back plain_level (forms_of weighting b) levels rest (forms_fit weighting b h) (levels_fit weighting b levels ls)
 
@@ -63,11 +64,11 @@ keys_back Identical weighting b k h parts =
 -- ---- What is read was written
 
 -- a key of these bytes
-abbrev IsKeyOf : Depth → Weighting → Book → List ℕ → KeyParts → Type 0
+abbrev IsKeyOf : Depth → Weighting → BookContent → List ℕ → KeyParts → Type 0
 IsKeyOf depth weighting b bytes k = AreParts depth weighting k × (bytes ≡ compact_key depth weighting b k)
 
 -- by what follows the levels
-weights_by : (weighting : Weighting) (b : Book) (bytes : List ℕ) (levels : List (List ℕ)) (rest : List ℕ) (k : KeyParts)
+weights_by : (weighting : Weighting) (b : BookContent) (bytes : List ℕ) (levels : List (List ℕ)) (rest : List ℕ) (k : KeyParts)
     → AreLevels (level_count weighting) levels → bytes ≡ compact plain_level (forms_of weighting b) levels ++ rest
     → parts_then Weights levels rest ≡ Some k → IsKeyOf Weights weighting b bytes k
 weights_by weighting b bytes levels (a ∷ rest) k ls is h = nothing h
@@ -75,7 +76,7 @@ weights_by weighting b bytes levels [] k ls is h =
     subst (IsKeyOf Weights weighting b bytes) (same_some (record { levels = levels; points = [] }) k h)
     (record { levels = ls; points = refl; level = refl }, is ∙ append-nil (compact plain_level (forms_of weighting b) levels))
 
-identical_by : (weighting : Weighting) (b : Book) (bytes : List ℕ) (levels : List (List ℕ)) (rest : List ℕ) (k : KeyParts) (t : Bool)
+identical_by : (weighting : Weighting) (b : BookContent) (bytes : List ℕ) (levels : List (List ℕ)) (rest : List ℕ) (k : KeyParts) (t : Bool)
     → AreLevels (level_count weighting) levels → bytes ≡ compact plain_level (forms_of weighting b) levels ++ rest → is_utf8 rest ≡ t
     → cond t (Some (record { levels = levels; points = chars rest })) None ≡ Some k → IsKeyOf Identical weighting b bytes k
 identical_by weighting b bytes levels rest k false ls is test h = nothing h
@@ -86,14 +87,14 @@ identical_by weighting b bytes levels rest k true ls is test h =
       is ∙ ap (λ (xs : List ℕ). compact plain_level (forms_of weighting b) levels ++ xs) (sym (encodes-chars rest utf8)),
     )
 
-rest_by : (depth : Depth) (weighting : Weighting) (b : Book) (bytes : List ℕ) (levels : List (List ℕ)) (rest : List ℕ) (k : KeyParts)
+rest_by : (depth : Depth) (weighting : Weighting) (b : BookContent) (bytes : List ℕ) (levels : List (List ℕ)) (rest : List ℕ) (k : KeyParts)
     → AreLevels (level_count weighting) levels → bytes ≡ compact plain_level (forms_of weighting b) levels ++ rest
     → parts_then depth levels rest ≡ Some k → IsKeyOf depth weighting b bytes k
 rest_by Weights weighting b bytes levels rest k ls is h = weights_by weighting b bytes levels rest k ls is h
 rest_by Identical weighting b bytes levels rest k ls is h = identical_by weighting b bytes levels rest k (is_utf8 rest) ls is refl h
 
 -- by the levels that are read
-read_by : (depth : Depth) (weighting : Weighting) (b : Book) → IsBook b → (bytes : List ℕ) (k : KeyParts) (o : Option ReadLevels) → AreBytes bytes
+read_by : (depth : Depth) (weighting : Weighting) (b : BookContent) → IsBook b → (bytes : List ℕ) (k : KeyParts) (o : Option ReadLevels) → AreBytes bytes
     → read_levels plain_level (forms_of weighting b) bytes ≡ o → with_rest depth o ≡ Some k → IsKeyOf depth weighting b bytes k
 read_by depth weighting b book bytes k None are is h = nothing h
 read_by depth weighting b book bytes k (Some l) are is h =

@@ -10,7 +10,8 @@ use Rattle.uca_weights.specs.declared.Depth.TheVariants.{Weights, Identical}
 use Rattle.uca_weights.specs.declared.Weighting.{Weighting}
 use Rattle.uca_order.specs.Levels.{lexicographic, level_lists, level_count, levels_bytes}
 use Rattle.uca_order.specs.Depths.{ReadText, points_bytes}
-use Rattle.uca_compact.specs.Forms.{Form, step, full, first_cell, AreLevels, Book, forms_of}
+use Rattle.uca_books.specs.Books.{BookContent}
+use Rattle.uca_compact.specs.Forms.{Form, step, full, first_cell, AreLevels, forms_of}
 use Rattle.uca_compact.specs.PlainLevels.{plain_level}
 
 -- ---- Weights
@@ -114,7 +115,7 @@ stored_key Weights k = levels_bytes k.levels
 stored_key Identical k = levels_bytes k.levels ++ (0 ∷ 0 ∷ points_bytes k.points)
 
 -- the compact key with these levels: its code points are UTF-8
-abbrev pub compact_key : Depth → Weighting → Book → KeyParts → List ℕ
+abbrev pub compact_key : Depth → Weighting → BookContent → KeyParts → List ℕ
 compact_key Weights weighting b k = compact plain_level (forms_of weighting b) k.levels
 compact_key Identical weighting b k = compact plain_level (forms_of weighting b) k.levels ++ encode_utf8_all k.points
 

@@ -1,8 +1,9 @@
 -- How the levels of a compact key are written: forms of levels, and the books that these come from.
-use Rattle.std.specs.Prelude.{◌≡◌, ◌⊎◌, ⊤, ℕ, suc, ◌+◌, ◌*◌, ◌<◌, ◌≤◌, List, [], ◌∷◌, length}
+use Rattle.std.specs.Prelude.{◌≡◌, ◌⊎◌, ⊤, ℕ, zero, suc, ◌+◌, ◌*◌, ◌<◌, ◌≤◌, List, [], ◌∷◌, ◌++◌, length}
 use Rattle.std.specs.List.{AllByRecursion}
 use Rattle.uca_weights.specs.declared.Weighting.{Weighting}
 use Rattle.uca_weights.specs.declared.Weighting.TheVariants.{NonIgnorable, Shifted}
+use Rattle.uca_books.specs.Books.{BookContent}
 
 -- Cells of weights: each starts after the one before it, and the last one ends before `end`. The first starts at
 -- `start`, and the list has the starts of the later ones.
@@ -65,44 +66,37 @@ AreWeights = AllByRecursion (λ w. (0 < w) × (w < 65536))
 abbrev pub AreLevels : ℕ → List (List ℕ) → Type 0
 AreLevels count levels = (length levels ≡ count) × AllByRecursion AreWeights levels
 
--- ---- Books
+-- ---- The forms of a book
 
--- the starts of cells, after the first cell of each list
-pub record Book : Type 0 where
-  -- of weights of level 1; the first cell starts at 1
-  pub letters : List ℕ
-  -- of weights of level 2 above 0020; the first cell starts at 0021
-  pub accents : List ℕ
-  -- of weights of level 3 above 0002; the first cell starts at 0003
-  pub cases : List ℕ
-  -- of weights of level 4 below FFFF; the first cell starts at 1
-  pub variables : List ℕ
+-- so many numbers in a row, from this one on
+abbrev pub row : (first count : ℕ) → List ℕ
+row first zero = []
+row first (suc count) = first ∷ row (suc first) count
 
--- The cells of a book rise, and there is a code for each. No code of a cell of level 1 is the byte FF.
-pub record IsBook (b : Book) : Type 0 where
-  pub letters : AreRising 1 b.letters 65536
-  pub accents : AreRising 0x21 b.accents 65536
-  pub cases : AreRising 3 b.cases 65536
-  pub variables : AreRising 1 b.variables 0xFFFF
-  pub few_letters : length b.letters < 246
-  pub few_accents : length b.accents < 116
-  pub few_cases : length b.cases < 96
-  pub few_variables : length b.variables < 256
+-- The starts of the cells of accents: weights of level 2 above 0020, after the first cell, which starts at 0021. The
+-- weights 0021 to 008E have a cell each, 008F to 018E have one, and all greater ones have the last.
+abbrev pub accent_starts : List ℕ
+accent_starts = row 0x22 110 ++ 0x18F ∷ []
+
+-- The starts of the cells of cases: weights of level 3 above 0002, after the first cell, which starts at 0003. The
+-- weights 0003 to 0020 have a cell each, 0021 to 0120 have one, and all greater ones have the last.
+abbrev pub case_starts : List ℕ
+case_starts = row 4 30 ++ 0x121 ∷ []
 
 -- the form of each level before so many others
-abbrev pub letters_form : Book → ℕ → Form
+abbrev pub letters_form : BookContent → ℕ → Form
 letters_form b later = record { common = 0; longest = 1; ends = ends_before later; lesser = []; greater = b.letters }
 
-abbrev pub accents_form : Book → ℕ → Form
-accents_form b later = record { common = 0x20; longest = 20; ends = ends_before later; lesser = []; greater = b.accents }
+abbrev pub accents_form : ℕ → Form
+accents_form later = record { common = 0x20; longest = 20; ends = ends_before later; lesser = []; greater = accent_starts }
 
-abbrev pub cases_form : Book → ℕ → Form
-cases_form b later = record { common = 2; longest = 32; ends = ends_before later; lesser = []; greater = b.cases }
+abbrev pub cases_form : ℕ → Form
+cases_form later = record { common = 2; longest = 32; ends = ends_before later; lesser = []; greater = case_starts }
 
-abbrev pub variables_form : Book → ℕ → Form
+abbrev pub variables_form : BookContent → ℕ → Form
 variables_form b later = record { common = 0xFFFF; longest = 85; ends = ends_before later; lesser = b.variables; greater = [] }
 
 -- the forms of the levels of a key
-abbrev pub forms_of : Weighting → Book → List Form
-forms_of NonIgnorable b = letters_form b 2 ∷ accents_form b 1 ∷ cases_form b 0 ∷ []
-forms_of Shifted b = letters_form b 3 ∷ accents_form b 2 ∷ cases_form b 1 ∷ variables_form b 0 ∷ []
+abbrev pub forms_of : Weighting → BookContent → List Form
+forms_of NonIgnorable b = letters_form b 2 ∷ accents_form 1 ∷ cases_form 0 ∷ []
+forms_of Shifted b = letters_form b 3 ∷ accents_form 2 ∷ cases_form 1 ∷ variables_form b 0 ∷ []

@@ -8,7 +8,8 @@ use Rattle.uca_weights.specs.declared.Element.{Element}
 use Rattle.uca_weights.specs.declared.Weighting.{Weighting}
 use Rattle.uca_order.specs.Levels.{lexicographic, compare_from}
 use Rattle.uca_order.specs.Depths.{ReadText, key_at}
-use Rattle.uca_compact.specs.Forms.{Form, AreForms, AreWeights, AreLevels, Book, IsBook}
+use Rattle.uca_books.specs.Books.{BookContent, IsBook}
+use Rattle.uca_compact.specs.Forms.{Form, AreForms, AreWeights, AreLevels}
 use Rattle.uca_compact.specs.CompactKeys.{Plain, compact, KeyParts, text_parts, stored_key, compact_key, AreParts}
 use Rattle.uca_compact.specs.Reading.{ReadLevels, read_levels, read_key}
 use Rattle.uca_compact.specs.StoredParts.{stored_parts}
@@ -34,17 +35,17 @@ OnlyCompactLevelsAreRead = (plain : Plain) → ((earlier : List (List ℕ)) → 
 
 -- The parts of a key are read again from its compact key.
 abbrev pub CompactKeysAreReadBack : Type 0
-CompactKeysAreReadBack = (depth : Depth) (weighting : Weighting) (b : Book) (k : KeyParts) → IsBook b → AreParts depth weighting k →
+CompactKeysAreReadBack = (depth : Depth) (weighting : Weighting) (b : BookContent) (k : KeyParts) → IsBook b → AreParts depth weighting k →
     read_key depth weighting b (compact_key depth weighting b k) ≡ Some k
 
 -- Nothing is read from other bytes.
 abbrev pub OnlyCompactKeysAreRead : Type 0
-OnlyCompactKeysAreRead = (depth : Depth) (weighting : Weighting) (b : Book) → IsBook b → (bytes : List ℕ) → AllByRecursion (λ b. b < 256) bytes →
+OnlyCompactKeysAreRead = (depth : Depth) (weighting : Weighting) (b : BookContent) → IsBook b → (bytes : List ℕ) → AllByRecursion (λ b. b < 256) bytes →
     (k : KeyParts) → read_key depth weighting b bytes ≡ Some k → AreParts depth weighting k × (bytes ≡ compact_key depth weighting b k)
 
 -- Without an identical level no compact key begins another one: where it does, both are one, and nothing follows.
 abbrev pub NoCompactKeyBeginsAnother : Type 0
-NoCompactKeyBeginsAnother = (weighting : Weighting) (b : Book) (left right : KeyParts) (more : List ℕ) → IsBook b →
+NoCompactKeyBeginsAnother = (weighting : Weighting) (b : BookContent) (left right : KeyParts) (more : List ℕ) → IsBook b →
     AreParts Weights weighting left → AreParts Weights weighting right →
     compact_key Weights weighting b left ++ more ≡ compact_key Weights weighting b right → (left.levels ≡ right.levels) × (more ≡ [])
 
@@ -69,11 +70,11 @@ pub record HasTwoBytes (e : Element) : Type 0 where
 -- Byte order of the compact keys of texts is byte order of their keys, and so the order of the texts. Compact keys are
 -- equal exactly if the keys are.
 pub record CompactKeysKeepOrder : Type 0 where
-  pub order : (depth : Depth) (weighting : Weighting) (b : Book) (left right : ReadText) → IsBook b →
+  pub order : (depth : Depth) (weighting : Weighting) (b : BookContent) (left right : ReadText) → IsBook b →
       AllByRecursion HasTwoBytes left.elements → AllByRecursion HasTwoBytes right.elements →
       lexicographic (compact_key depth weighting b (text_parts depth weighting left)) (compact_key depth weighting b (text_parts depth weighting right))
       ≡ lexicographic (key_at depth weighting left) (key_at depth weighting right)
-  pub equal : (depth : Depth) (weighting : Weighting) (b : Book) (left right : ReadText) → IsBook b →
+  pub equal : (depth : Depth) (weighting : Weighting) (b : BookContent) (left right : ReadText) → IsBook b →
       AllByRecursion HasTwoBytes left.elements → AllByRecursion HasTwoBytes right.elements →
       (compact_key depth weighting b (text_parts depth weighting left) ≡ compact_key depth weighting b (text_parts depth weighting right))
       ↔ (key_at depth weighting left ≡ key_at depth weighting right)

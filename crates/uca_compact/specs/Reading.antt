@@ -8,7 +8,8 @@ use Rattle.uca_weights.specs.declared.Depth.{Depth}
 use Rattle.uca_weights.specs.declared.Depth.TheVariants.{Weights, Identical}
 use Rattle.uca_weights.specs.declared.Weighting.{Weighting}
 use Rattle.uca_order.specs.Levels.{lexicographic}
-use Rattle.uca_compact.specs.Forms.{Form, step, full, first_cell, Book, forms_of}
+use Rattle.uca_books.specs.Books.{BookContent}
+use Rattle.uca_compact.specs.Forms.{Form, step, full, first_cell, forms_of}
 use Rattle.uca_compact.specs.PlainLevels.{copies, plain_level}
 use Rattle.uca_compact.specs.CompactKeys.{Plain, KeyParts}
 
@@ -154,5 +155,5 @@ with_rest depth None = None
 with_rest depth (Some k) = parts_then depth k.levels k.rest
 
 -- the parts of a compact key
-abbrev pub read_key : Depth → Weighting → Book → List ℕ → Option KeyParts
+abbrev pub read_key : Depth → Weighting → BookContent → List ℕ → Option KeyParts
 read_key depth weighting b bytes = with_rest depth (read_levels plain_level (forms_of weighting b) bytes)

@@ -21,7 +21,7 @@ pub record WorkedReadings : Type 0 where
   -- a letter, and plain levels
   pub letter : read (8 ∷ 2 ∷ []) ≡ three_levels (0x1C47 ∷ []) (0x20 ∷ []) (2 ∷ [])
   -- a capital with an accent
-  pub accent : read (8 ∷ 4 ∷ 99 ∷ 101 ∷ 2 ∷ 97 ∷ 2 ∷ []) ≡ three_levels (0x1C47 ∷ []) (0x20 ∷ 0x24 ∷ []) (8 ∷ 2 ∷ [])
+  pub accent : read (8 ∷ 4 ∷ 99 ∷ 103 ∷ 2 ∷ 101 ∷ 2 ∷ []) ≡ three_levels (0x1C47 ∷ []) (0x20 ∷ 0x24 ∷ []) (8 ∷ 2 ∷ [])
   -- the last weight of the cell 1C48 to 1C5F, and an offset past it
   pub last_of_cell : read (9 ∷ 23 ∷ 2 ∷ []) ≡ three_levels (0x1C5F ∷ []) (0x20 ∷ []) (2 ∷ [])
   pub past_cell : read (9 ∷ 24 ∷ 2 ∷ []) ≡ None
@@ -35,7 +35,7 @@ pub record WorkedReadings : Type 0 where
   -- level 2 is written, and is plain
   pub plain_written : read (8 ∷ 4 ∷ 5 ∷ []) ≡ None
   -- level 2 is greater than the plain one, and the end before it says less
-  pub wrong_side : read (8 ∷ 0 ∷ 99 ∷ 101 ∷ 1 ∷ []) ≡ None
+  pub wrong_side : read (8 ∷ 0 ∷ 99 ∷ 103 ∷ 1 ∷ []) ≡ None
   -- no end, no bytes, and bytes after the key
   pub no_end : read (8 ∷ []) ≡ None
   pub no_bytes : read [] ≡ None

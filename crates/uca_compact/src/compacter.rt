@@ -5,11 +5,11 @@ ghost use Rattle.uca_weights.specs.declared.Weighting.TheVariants.{NonIgnorable,
 ghost use Rattle.uca_compact.specs.CompactKeys.{compact_key};
 ghost use Rattle.uca_compact.specs.StoredParts.{stored_parts};
 
-use crate::books::Book;
 use crate::stored::{next_level, push_points_after, read_weights};
 use crate::written_levels::{push_four, push_three};
 use std::alloc::{AllocError, Allocator, Global};
 use std::marker::Model;
+use uca_books::Book;
 use uca_weights::{Depth, Settings, Weighting};
 
 // The weights of each level of a key.

@@ -6,7 +6,7 @@
 //! nothing else is read.
 #![tactic(auto)]
 
-mod books;
+mod book_forms;
 mod compacter;
 pub mod laws;
 pub mod levels;
@@ -14,6 +14,5 @@ mod plain;
 mod stored;
 mod written_levels;
 
-pub use books::Book;
 pub use compacter::KeyCompacter;
 pub use levels::{LevelForm, push_level};

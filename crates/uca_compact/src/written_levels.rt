@@ -9,11 +9,12 @@ ghost use Rattle.uca_compact.specs.CompactKeys as compact_keys;
 ghost use Rattle.uca_compact.specs.CompactKeys.{compact, level_code};
 ghost use Rattle.uca_compact.specs.Programs.{form_of};
 
-use crate::books::Book;
+use crate::book_forms::{accents_form, cases_form, letters_form, variables_form};
 use crate::levels::{LevelForm, push_level};
 use crate::plain::{compare_run, letter_count};
 use std::alloc::{AllocError, Allocator};
 use std::cmp::Ordering;
+use uca_books::Book;
 
 // The end of a level, by how the next level compares to the plain one. `more` is the end by the `later` levels after
 // that one.
@@ -64,15 +65,15 @@ pub(crate) fn push_three<A: Allocator, B: Allocator>(
     let second = compare_run(accents, 0x20, letter_count(letters));
     let third = compare_run(cases, 2, accents.len());
     let end = end_by(second, 2, 1, end_by(third, 2, 0, 2));
-    push_level(out, &book.letters_form(2), end, letters)?;
+    push_level(out, &letters_form(book, 2), end, letters)?;
     push_later(
         out,
-        &book.accents_form(1),
+        &accents_form(1),
         second,
         end_by(third, 1, 0, 1),
         accents,
     )?;
-    push_later(out, &book.cases_form(0), third, 0, cases)?;
+    push_later(out, &cases_form(0), third, 0, cases)?;
     Ok(())
 }
 
@@ -97,15 +98,9 @@ pub(crate) fn push_four<A: Allocator, B: Allocator>(
     let fourth = compare_run(variables, 0xFFFF, cases.len() + (letters.len() - count));
     let first_end = end_by(second, 3, 2, end_by(third, 3, 1, end_by(fourth, 3, 0, 3)));
     let second_end = end_by(third, 2, 1, end_by(fourth, 2, 0, 2));
-    push_level(out, &book.letters_form(3), first_end, letters)?;
-    push_later(out, &book.accents_form(2), second, second_end, accents)?;
-    push_later(
-        out,
-        &book.cases_form(1),
-        third,
-        end_by(fourth, 1, 0, 1),
-        cases,
-    )?;
-    push_later(out, &book.variables_form(), fourth, 0, variables)?;
+    push_level(out, &letters_form(book, 3), first_end, letters)?;
+    push_later(out, &accents_form(2), second, second_end, accents)?;
+    push_later(out, &cases_form(1), third, end_by(fourth, 1, 0, 1), cases)?;
+    push_later(out, &variables_form(book), fourth, 0, variables)?;
     Ok(())
 }

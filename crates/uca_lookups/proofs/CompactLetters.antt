@@ -9,14 +9,15 @@ use Rattle.uca_weights.specs.declared.Weighting.{Weighting}
 use Rattle.uca_weights.specs.declared.Weighting.TheVariants.{NonIgnorable, Shifted}
 use Rattle.uca_order.specs.Levels.{lexicographic, level_count}
 use Rattle.uca_order.proofs.KeyOrder.{cmp_greater}
-use Rattle.uca_compact.specs.Forms.{Form, IsForm, step, first_cell, ends_before, AreRising, AreWeights, AreLevels, Book, IsBook, letters_form, forms_of}
+use Rattle.uca_books.specs.Books.{BookContent, IsBook}
+use Rattle.uca_compact.specs.Forms.{Form, IsForm, step, first_cell, ends_before, AreRising, AreWeights, AreLevels, letters_form, forms_of}
 use Rattle.uca_compact.specs.PlainLevels.{plain_level}
 use Rattle.uca_compact.specs.CompactKeys.{offset_bytes, cell, written, run_after, level_code, end_of, later_levels, compact, compact_key}
 use Rattle.uca_compact.proofs.Below.{IsBelow, below_append, below_less}
 use Rattle.uca_compact.proofs.CellOrder.{below_from, cell_from, cell_order}
 use Rattle.uca_compact.proofs.LevelsOrder.{end_fits}
 use Rattle.uca_compact.proofs.RunOrder.{FirstWithin}
-use Rattle.uca_compact.proofs.TextOrder.{forms_fit}
+use Rattle.uca_compact.proofs.Forms.{forms_fit}
 use Rattle.uca_lookups.specs.Ranges.{InRange, LettersBegin, letters_code, compact_letters_low, compact_letters_high}
 use Rattle.uca_lookups.specs.Laws.{CompactKeysByLetters}
 use Rattle.uca_lookups.proofs.Ranges.{both_hold, neither_holds, iff_then, range_as, range_after, below_low, above_high, from_nothing, three_ways}
@@ -124,7 +125,7 @@ cells_found number e greater (w ∷ ws) (v ∷ vs) xs rising less few ls fs =
 -- ---- Keys
 
 -- a compact key begins with the cells of level 1, and its end
-abbrev pub BeginsByCells : Weighting → Book → List ℕ → List ℕ → Type 0
+abbrev pub BeginsByCells : Weighting → BookContent → List ℕ → List ℕ → Type 0
 BeginsByCells weighting b a key = (e : ℕ) × (xs : List ℕ) × (e < ends_before (level_count weighting - 1)) × (key ≡ letters_code weighting b a ++ e ∷ xs)
 
 -- levels, where the first one has no common weight
@@ -151,7 +152,7 @@ utf8_part Weights points = []
 utf8_part Identical points = encode_utf8_all points
 
 -- so a compact key is its levels, and what follows them
-pub compact_is : (depth : Depth) (weighting : Weighting) (b : Book) (levels : List (List ℕ)) (points : List ℕ)
+pub compact_is : (depth : Depth) (weighting : Weighting) (b : BookContent) (levels : List (List ℕ)) (points : List ℕ)
     → compact_key depth weighting b (record { levels = levels; points = points }) ≡ compact plain_level (forms_of weighting b) levels ++ utf8_part depth points
 compact_is Weights weighting b levels points = sym (append-nil (compact plain_level (forms_of weighting b) levels))
 compact_is Identical weighting b levels points = refl
@@ -162,7 +163,7 @@ later_forms [] = []
 later_forms (f ∷ forms) = forms
 
 -- so a key does
-pub key_cells : (depth : Depth) (weighting : Weighting) (b : Book) (a : List ℕ) (later : List (List ℕ)) (points : List ℕ) → AreLevels (level_count weighting) (a ∷ later)
+pub key_cells : (depth : Depth) (weighting : Weighting) (b : BookContent) (a : List ℕ) (later : List (List ℕ)) (points : List ℕ) → AreLevels (level_count weighting) (a ∷ later)
     → BeginsByCells weighting b a (compact_key depth weighting b (record { levels = a ∷ later; points = points }))
 key_cells depth NonIgnorable b a later points are =
     let found = levels_by (letters_form b 2) (later_forms (forms_of NonIgnorable b)) a later (utf8_part depth points) refl refl (omega (arith, are.0)) are.1.0 in
@@ -172,19 +173,19 @@ key_cells depth Shifted b a later points are =
     (found.0, found.1, found.2, compact_is depth Shifted b (a ∷ later) points ∙ found.3)
 
 -- the first cell of a weighting
-first_number : (weighting : Weighting) (b : Book) → IsBook b
+first_number : (weighting : Weighting) (b : BookContent) → IsBook b
     → (ends_before (level_count weighting - 1) ≤ first_cell (letters_form b (level_count weighting - 1)))
     × (first_cell (letters_form b (level_count weighting - 1)) + length b.letters < 255)
-first_number NonIgnorable b book = (omega arith, omega (arith, book.few_letters))
-first_number Shifted b book = (omega arith, omega (arith, book.few_letters))
+first_number NonIgnorable b book = (omega arith, omega (arith, book.letters.few))
+first_number Shifted b book = (omega arith, omega (arith, book.letters.few))
 
 -- level 1 of a book has a form
-pub letters_form_fits : (weighting : Weighting) (b : Book) → IsBook b → IsForm (letters_form b (level_count weighting - 1))
+pub letters_form_fits : (weighting : Weighting) (b : BookContent) → IsBook b → IsForm (letters_form b (level_count weighting - 1))
 letters_form_fits NonIgnorable b book = (forms_fit NonIgnorable b book).0
 letters_form_fits Shifted b book = (forms_fit Shifted b book).0
 
 -- so its cells rise
-letters_rise : (weighting : Weighting) (b : Book) → IsBook b → AreRising 1 b.letters 65536
+letters_rise : (weighting : Weighting) (b : BookContent) → IsBook b → AreRising 1 b.letters 65536
 letters_rise weighting b book =
     let form = letters_form_fits weighting b book in
     elim form.greater [
@@ -193,7 +194,7 @@ letters_rise weighting b book =
     ]
 
 -- a key with a first level
-letters_law : (depth : Depth) (weighting : Weighting) (b : Book) (letters a : List ℕ) (later : List (List ℕ)) (points : List ℕ) → IsBook b → AreWeights letters
+letters_law : (depth : Depth) (weighting : Weighting) (b : BookContent) (letters a : List ℕ) (later : List (List ℕ)) (points : List ℕ) → IsBook b → AreWeights letters
     → AreLevels (level_count weighting) (a ∷ later)
     → InRange (compact_letters_low weighting b letters) (compact_letters_high weighting b letters) (compact_key depth weighting b (record { levels = a ∷ later; points = points }))
     ↔ LettersBegin letters (a ∷ later)
@@ -208,7 +209,7 @@ letters_law depth weighting b letters a later points book ls are =
     (iff_then (cells_found number found.0 b.letters letters a found.1 (letters_rise weighting b book) less room.1 ls are.1.0) (first_letters letters a later))
 
 -- a key
-letters_of : (depth : Depth) (weighting : Weighting) (b : Book) (letters : List ℕ) (levels : List (List ℕ)) (points : List ℕ) → IsBook b → AreWeights letters
+letters_of : (depth : Depth) (weighting : Weighting) (b : BookContent) (letters : List ℕ) (levels : List (List ℕ)) (points : List ℕ) → IsBook b → AreWeights letters
     → AreLevels (level_count weighting) levels
     → InRange (compact_letters_low weighting b letters) (compact_letters_high weighting b letters) (compact_key depth weighting b (record { levels = levels; points = points }))
     ↔ LettersBegin letters levels

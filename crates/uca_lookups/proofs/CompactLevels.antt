@@ -7,12 +7,13 @@ use Rattle.std.specs.declared.cmp.Ordering.TheVariants.{Less, Equal, Greater}
 use Rattle.uca_weights.specs.declared.Depth.{Depth}
 use Rattle.uca_weights.specs.declared.Weighting.{Weighting}
 use Rattle.uca_order.specs.Levels.{lexicographic, level_count}
-use Rattle.uca_compact.specs.Forms.{Form, AreForms, AreWeights, AreLevels, Book, IsBook, forms_of}
+use Rattle.uca_books.specs.Books.{BookContent, IsBook}
+use Rattle.uca_compact.specs.Forms.{Form, AreForms, AreWeights, AreLevels, forms_of}
 use Rattle.uca_compact.specs.PlainLevels.{plain_level}
 use Rattle.uca_compact.specs.CompactKeys.{end_of, later_levels, compact, compact_key}
 use Rattle.uca_compact.proofs.Below.{IsBelow}
 use Rattle.uca_compact.proofs.LevelsOrder.{levels_order, order_turned, end_bounds}
-use Rattle.uca_compact.proofs.TextOrder.{forms_fit, forms_count}
+use Rattle.uca_compact.proofs.Forms.{forms_fit, forms_count}
 use Rattle.uca_lookups.specs.Ranges.{InRange, LevelsBegin, plain_levels, levels_after, with_last, compact_levels_low, compact_levels_high}
 use Rattle.uca_lookups.specs.Laws.{CompactKeysByLevels}
 use Rattle.uca_lookups.proofs.Ranges.{both_hold, neither_holds, iff_then, range_as, range_between, below_low, past_last, below_longer, below_longer_right}
@@ -178,7 +179,7 @@ first_form [] some = absurd (omega arith)
 first_form (f ∷ more) some = (f, more, refl)
 
 -- a key that is cut so
-key_found : (depth : Depth) (weighting : Weighting) (b : Book) (f : Form) (forms : List Form) (a d : List ℕ) (fs gs rest : List (List ℕ)) (points : List ℕ)
+key_found : (depth : Depth) (weighting : Weighting) (b : BookContent) (f : Form) (forms : List Form) (a d : List ℕ) (fs gs rest : List (List ℕ)) (points : List ℕ)
     → AreForms (f ∷ forms) → forms_of weighting b ≡ f ∷ forms → length forms ≡ length fs + levels_after weighting (a ∷ fs)
     → length rest ≡ levels_after weighting (a ∷ fs) → length gs ≡ length fs → AllByRecursion AreWeights (a ∷ fs) → AllByRecursion AreWeights (d ∷ gs)
     → InRange (compact_levels_low weighting b (a ∷ fs)) (compact_levels_high weighting b (a ∷ fs))
@@ -208,7 +209,7 @@ key_found depth weighting b f forms a d fs gs rest points fits is tie few long f
     (begins_if (a ∷ fs) (d ∷ gs) rest (ap suc long)))
 
 -- a key
-levels_of : (depth : Depth) (weighting : Weighting) (b : Book) (firsts levels : List (List ℕ)) (points : List ℕ) → IsBook b → 0 < length firsts
+levels_of : (depth : Depth) (weighting : Weighting) (b : BookContent) (firsts levels : List (List ℕ)) (points : List ℕ) → IsBook b → 0 < length firsts
     → length firsts ≤ level_count weighting → AllByRecursion AreWeights firsts → AreLevels (level_count weighting) levels
     → InRange (compact_levels_low weighting b firsts) (compact_levels_high weighting b firsts) (compact_key depth weighting b (record { levels = levels; points = points }))
     ↔ LevelsBegin firsts levels

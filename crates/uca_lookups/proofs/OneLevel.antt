@@ -4,7 +4,8 @@ use Rattle.std.proofs.lemmas.List.{take_at}
 use Rattle.uca_weights.specs.declared.Weighting.{Weighting}
 use Rattle.uca_weights.specs.declared.Weighting.TheVariants.{NonIgnorable, Shifted}
 use Rattle.uca_order.specs.Levels.{level_count}
-use Rattle.uca_compact.specs.Forms.{Form, first_cell, ends_before, AreWeights, Book, letters_form, forms_of}
+use Rattle.uca_books.specs.Books.{BookContent}
+use Rattle.uca_compact.specs.Forms.{Form, first_cell, ends_before, AreWeights, letters_form, forms_of}
 use Rattle.uca_compact.specs.PlainLevels.{plain_level}
 use Rattle.uca_compact.specs.CompactKeys.{cell, level_code, later_levels, compact}
 use Rattle.uca_lookups.specs.Ranges.{plain_levels, with_last, letters_code, compact_levels_low, compact_levels_high}
@@ -26,7 +27,7 @@ compact_one f forms letters count none weights =
     ∙ ap (λ (n : ℕ). code ++ n ∷ []) (plain_count (letters ∷ []) count)
 
 -- both ends are the cells of level 1 and a byte: the low end
-pub one_low : (weighting : Weighting) (b : Book) (letters : List ℕ) → AreWeights letters
+pub one_low : (weighting : Weighting) (b : BookContent) (letters : List ℕ) → AreWeights letters
     → compact_levels_low weighting b (letters ∷ []) ≡ letters_code weighting b letters ++ 0 ∷ []
 one_low NonIgnorable b letters weights =
     ap (with_last (λ end. end - 2)) (compact_one (letters_form b 2) (later_forms (forms_of NonIgnorable b)) letters 2 refl weights)
@@ -36,7 +37,7 @@ one_low Shifted b letters weights =
     ∙ last_of (λ end. end - 3) (letters_code Shifted b letters) 3
 
 -- the high end
-pub one_high : (weighting : Weighting) (b : Book) (letters : List ℕ) → AreWeights letters
+pub one_high : (weighting : Weighting) (b : BookContent) (letters : List ℕ) → AreWeights letters
     → compact_levels_high weighting b (letters ∷ []) ≡ letters_code weighting b letters ++ ends_before (level_count weighting - 1) ∷ []
 one_high NonIgnorable b letters weights =
     ap (with_last (λ end. end + 3)) (compact_one (letters_form b 2) (later_forms (forms_of NonIgnorable b)) letters 2 refl weights)
@@ -48,14 +49,14 @@ one_high Shifted b letters weights =
 -- ---- In a program
 
 -- the form that a program makes
-pub form_is : (weighting : Weighting) (b : Book) (ends : ℕ) (starts : List ℕ) → ends ≡ ends_before (level_count weighting - 1) → starts ≡ b.letters
+pub form_is : (weighting : Weighting) (b : BookContent) (ends : ℕ) (starts : List ℕ) → ends ≡ ends_before (level_count weighting - 1) → starts ≡ b.letters
     → record { common = 0; longest = 1; ends = ends; lesser = []; greater = starts } ≡ letters_form b (level_count weighting - 1)
 form_is weighting b ends starts count same =
     ap (λ (n : ℕ). record { common = 0; longest = 1; ends = n; lesser = []; greater = starts }) count
     ∙ ap (λ (xs : List ℕ). record { common = 0; longest = 1; ends = ends_before (level_count weighting - 1); lesser = []; greater = xs }) same
 
 -- a level with the end 0, without it
-pub without_end : (weighting : Weighting) (b : Book) (f : Form) (letters out rest : List ℕ) → f ≡ letters_form b (level_count weighting - 1) → AreWeights letters
+pub without_end : (weighting : Weighting) (b : BookContent) (f : Form) (letters out rest : List ℕ) → f ≡ letters_form b (level_count weighting - 1) → AreWeights letters
     → out ≡ [] ++ level_code f 0 0 letters → rest ≡ take (length out - 1) out → rest ≡ letters_code weighting b letters
 without_end weighting b f letters out rest form weights written taken =
     let code = letters_code weighting b letters in

@@ -6,7 +6,8 @@ use Rattle.uca_weights.specs.declared.Depth.{Depth}
 use Rattle.uca_weights.specs.declared.Weighting.{Weighting}
 use Rattle.uca_order.specs.Levels.{level_count}
 use Rattle.uca_order.specs.Depths.{ReadText, key_at}
-use Rattle.uca_compact.specs.Forms.{AreWeights, AreLevels, Book, IsBook}
+use Rattle.uca_books.specs.Books.{BookContent, IsBook}
+use Rattle.uca_compact.specs.Forms.{AreWeights, AreLevels}
 use Rattle.uca_compact.specs.CompactKeys.{KeyParts, text_parts, stored_key, compact_key, AreParts}
 use Rattle.uca_compact.specs.Laws.{HasTwoBytes}
 use Rattle.uca_lookups.specs.Ranges.{InRange, LettersBegin, LevelsBegin, levels_low, levels_high, letters_low, letters_high}
@@ -26,13 +27,13 @@ StoredKeysByLetters = (depth : Depth) (weighting : Weighting) (letters : List �
 
 -- Compact keys with these first levels.
 abbrev pub CompactKeysByLevels : Type 0
-CompactKeysByLevels = (depth : Depth) (weighting : Weighting) (b : Book) (count : ℕ) (firsts : List (List ℕ)) (k : KeyParts) → IsBook b → 0 < count →
+CompactKeysByLevels = (depth : Depth) (weighting : Weighting) (b : BookContent) (count : ℕ) (firsts : List (List ℕ)) (k : KeyParts) → IsBook b → 0 < count →
     count ≤ level_count weighting → AreLevels count firsts → AreParts depth weighting k →
     InRange (compact_levels_low weighting b firsts) (compact_levels_high weighting b firsts) (compact_key depth weighting b k) ↔ LevelsBegin firsts k.levels
 
 -- Compact keys whose level 1 begins with these weights.
 abbrev pub CompactKeysByLetters : Type 0
-CompactKeysByLetters = (depth : Depth) (weighting : Weighting) (b : Book) (letters : List ℕ) (k : KeyParts) → IsBook b → AreWeights letters →
+CompactKeysByLetters = (depth : Depth) (weighting : Weighting) (b : BookContent) (letters : List ℕ) (k : KeyParts) → IsBook b → AreWeights letters →
     AreParts depth weighting k →
     InRange (compact_letters_low weighting b letters) (compact_letters_high weighting b letters) (compact_key depth weighting b k) ↔ LettersBegin letters k.levels
 

@@ -5,7 +5,8 @@ use Rattle.uca_weights.specs.declared.Depth.{Depth}
 use Rattle.uca_weights.specs.declared.Depth.TheVariants.{Weights}
 use Rattle.uca_weights.specs.declared.Weighting.{Weighting}
 use Rattle.uca_order.specs.Levels.{lexicographic, level_count, level_bytes, levels_bytes}
-use Rattle.uca_compact.specs.Forms.{Book, first_cell, letters_form}
+use Rattle.uca_books.specs.Books.{BookContent}
+use Rattle.uca_compact.specs.Forms.{first_cell, letters_form}
 use Rattle.uca_compact.specs.PlainLevels.{plain_level}
 use Rattle.uca_compact.specs.CompactKeys.{cell, KeyParts, stored_key, compact_key, AreParts}
 
@@ -57,7 +58,7 @@ abbrev pub levels_after : Weighting → List (List ℕ) → ℕ
 levels_after weighting firsts = level_count weighting - length firsts
 
 -- the compact key of these levels and plain ones
-abbrev pub plain_key : Weighting → Book → List (List ℕ) → List ℕ
+abbrev pub plain_key : Weighting → BookContent → List (List ℕ) → List ℕ
 plain_key weighting b firsts =
     compact_key Weights weighting b (record { levels = firsts ++ plain_levels firsts (levels_after weighting firsts); points = [] })
 
@@ -69,19 +70,19 @@ with_last change (b ∷ c ∷ bytes) = b ∷ with_last change (c ∷ bytes)
 
 -- The last byte of that key is the end of a level. Where other levels come after the first ones, it differs by as many
 -- at most.
-abbrev pub compact_levels_low : Weighting → Book → List (List ℕ) → List ℕ
+abbrev pub compact_levels_low : Weighting → BookContent → List (List ℕ) → List ℕ
 compact_levels_low weighting b firsts = with_last (λ end. end - levels_after weighting firsts) (plain_key weighting b firsts)
 
-abbrev pub compact_levels_high : Weighting → Book → List (List ℕ) → List ℕ
+abbrev pub compact_levels_high : Weighting → BookContent → List (List ℕ) → List ℕ
 compact_levels_high weighting b firsts = with_last (λ end. end + suc (levels_after weighting firsts)) (plain_key weighting b firsts)
 
 -- the cells of weights of level 1
-abbrev pub letters_code : Weighting → Book → List ℕ → List ℕ
+abbrev pub letters_code : Weighting → BookContent → List ℕ → List ℕ
 letters_code weighting b letters = flat_map (cell (first_cell (letters_form b (level_count weighting - 1))) 1 b.letters 65536) letters
 
 -- A key whose level 1 begins so has these cells, and then no byte FF.
-abbrev pub compact_letters_low : Weighting → Book → List ℕ → List ℕ
+abbrev pub compact_letters_low : Weighting → BookContent → List ℕ → List ℕ
 compact_letters_low weighting b letters = letters_code weighting b letters
 
-abbrev pub compact_letters_high : Weighting → Book → List ℕ → List ℕ
+abbrev pub compact_letters_high : Weighting → BookContent → List ℕ → List ℕ
 compact_letters_high weighting b letters = letters_code weighting b letters ++ (0xFF ∷ [])

@@ -5,9 +5,11 @@
 //! The laws say that a range has exactly these keys.
 #![tactic(auto)]
 
+mod compact;
 pub mod laws;
 mod levels;
 mod stored;
 
+pub use compact::{write_compact_letters_range, write_same_compact_letters_range};
 pub use levels::write_same_levels_range;
 pub use stored::{read_letters, write_letters_range, write_same_letters_range};

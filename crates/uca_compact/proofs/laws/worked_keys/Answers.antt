@@ -17,6 +17,8 @@ returns c =
       greater = refl;
       lesser = refl;
       lesser_shifted = refl;
+      wide_accents = refl;
+      wide_cases = refl;
       han = refl;
       identical = refl;
     }

@@ -8,7 +8,7 @@ use Rattle.uca_compact.proofs.written_levels.push_four.Goals as goal
 
 pub returns : goal.returns
 returns g c =
-    four_written plain_level (letters_form c.args.book.now 3) (accents_form c.args.book.now 2) (cases_form c.args.book.now 1) (variables_form c.args.book.now 0)
+    four_written plain_level (letters_form c.args.book.now 3) (accents_form 2) (cases_form 1) (variables_form c.args.book.now 0)
     (form_of c.letters_form.result) (form_of c.accents_form.result) (form_of c.cases_form.result) (form_of c.variables_form.result)
     c.args.letters.now c.args.accents.now c.args.cases.now c.args.variables.now c.compare_run-second.result c.compare_run-third.result c.compare_run-fourth.result
     c.end_by-first_end.result c.end_by-second_end.result c.end_by-4.result c.end_by.result c.end_by-2.result c.end_by-3.result

@@ -8,7 +8,7 @@ use Rattle.uca_compact.proofs.written_levels.push_three.Goals as goal
 
 pub returns : goal.returns
 returns g c =
-    three_written plain_level (letters_form c.args.book.now 2) (accents_form c.args.book.now 1) (cases_form c.args.book.now 0)
+    three_written plain_level (letters_form c.args.book.now 2) (accents_form 1) (cases_form 0)
     (form_of c.letters_form.result) (form_of c.accents_form.result) (form_of c.cases_form.result)
     c.args.letters.now c.args.accents.now c.args.cases.now c.compare_run-second.result c.compare_run-third.result
     c.end_by-end.result c.end_by-2.result c.end_by.result c.args.out.now.items c.push_level.new.out.items c.push_later.new.out.items c.push_later-2.new.out.items
