@@ -56,11 +56,11 @@ form_is weighting b ends starts count same =
     ∙ ap (λ (xs : List ℕ). record { common = 0; longest = 1; ends = ends_before (level_count weighting - 1); lesser = []; greater = xs }) same
 
 -- a level with the end 0, without it
-pub without_end : (weighting : Weighting) (b : BookContent) (f : Form) (letters out rest : List ℕ) → f ≡ letters_form b (level_count weighting - 1) → AreWeights letters
-    → out ≡ [] ++ level_code f 0 0 letters → rest ≡ take (length out - 1) out → rest ≡ letters_code weighting b letters
-without_end weighting b f letters out rest form weights written taken =
+pub without_end : (weighting : Weighting) (b : BookContent) (f : Form) (letters out rest : List ℕ) (n : ℕ) → f ≡ letters_form b (level_count weighting - 1)
+    → AreWeights letters → out ≡ level_code f 0 0 letters → n ≡ length out - 1 → rest ≡ take n out → rest ≡ letters_code weighting b letters
+without_end weighting b f letters out rest n form weights written count taken =
     let code = letters_code weighting b letters in
     let whole : out ≡ code ++ 0 ∷ [] =
     written ∙ ap (λ (g : Form). level_code g 0 0 letters) form ∙ letters_level (letters_form b (level_count weighting - 1)) 0 letters refl weights in
-    let long : length code ≡ length (code ++ 0 ∷ []) - 1 = omega (arith, length-append code (0 ∷ [])) in
-    taken ∙ ap (λ (xs : List ℕ). take (length xs - 1) xs) whole ∙ take_at code (0 ∷ []) (length (code ++ 0 ∷ []) - 1) long
+    let long : length code ≡ n = omega (arith, count, ap length whole, length-append code (0 ∷ [])) in
+    taken ∙ ap (take n) whole ∙ take_at code (0 ∷ []) n long
