@@ -2,7 +2,7 @@
 use Rattle.std.specs.Prelude.{◌≡◌, ℕ, List, [], ◌∷◌}
 use Rattle.uca_weights.specs.declared.Weighting.TheVariants.{NonIgnorable, Shifted}
 use Rattle.uca_compact.specs.WorkedKeys.{small_book}
-use Rattle.uca_lookups.specs.Ranges.{levels_low, levels_high, letters_low, letters_high, compact_levels_low, compact_levels_high, compact_letters_low, compact_letters_high}
+use Rattle.uca_lookups.specs.Ranges.{InRange, levels_low, levels_high, letters_low, letters_high, compact_levels_low, compact_levels_high, compact_letters_low, compact_letters_high}
 
 -- both ends
 pub record Ends : Type 0 where
@@ -34,6 +34,9 @@ pub record WorkedRanges : Type 0 where
   pub accents : by_levels ((0x1C47 ∷ []) ∷ (0x20 ∷ []) ∷ []) ≡ to (0x1C ∷ 0x47 ∷ 0 ∷ 0 ∷ 0 ∷ 0x20 ∷ []) (0x1C ∷ 0x47 ∷ 0 ∷ 0 ∷ 0 ∷ 0x20 ∷ 0 ∷ 1 ∷ [])
   -- no letters
   pub none : by_levels ([] ∷ []) ≡ to [] (0 ∷ 1 ∷ [])
+  -- The weight 1C00 ends in 00. A key with these letters alone is in the range, and one that goes on with 0001 is not.
+  pub inside : InRange (levels_low ((0x1C00 ∷ []) ∷ [])) (levels_high ((0x1C00 ∷ []) ∷ [])) (0x1C ∷ 0 ∷ 0 ∷ 0 ∷ 0 ∷ 0x20 ∷ 0 ∷ 0 ∷ 0 ∷ 2 ∷ [])
+  pub outside : InRange (levels_low ((0x1C00 ∷ []) ∷ [])) (levels_high ((0x1C00 ∷ []) ∷ [])) (0x1C ∷ 0 ∷ 0 ∷ 1 ∷ 0 ∷ 0 ∷ 0 ∷ 0x20 ∷ 0 ∷ 0 ∷ 0 ∷ 2 ∷ []) → ⊥
   -- level 1 begins with a letter
   pub begins : by_letters (0x1C47 ∷ []) ≡ to (0x1C ∷ 0x47 ∷ []) (0x1C ∷ 0x47 ∷ 0xFF ∷ 0xFF ∷ [])
   -- compact keys: the same letters

@@ -1,4 +1,5 @@
-use Rattle.std.proofs.Common.{refl}
+use Rattle.std.proofs.Common.{◌≡◌, refl}
+use Rattle.std.specs.declared.cmp.Ordering.TheVariants.{Less, Greater}
 use Rattle.uca_lookups.proofs.laws.worked_ranges.Goals as goal
 
 pub returns : goal.returns
@@ -7,6 +8,8 @@ returns c =
       letters = refl;
       accents = refl;
       none = refl;
+      inside = ((λ h. let same : Greater ≡ Less = h in cc), refl);
+      outside = λ h. (let same : Greater ≡ Less = h.1 in cc);
       begins = refl;
       letters_compact = refl;
       letters_shifted = refl;
