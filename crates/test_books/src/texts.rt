@@ -68,7 +68,7 @@ fn spelled(alloc: Global, starts: &[u16]) -> Result<String, Fail> {
 }
 
 /// The starts of a book.
-fn starts_of(alloc: Global, book: &Book) -> Result<String, Fail> {
+pub fn starts_of(alloc: Global, book: &Book) -> Result<String, Fail> {
     let letters = spelled(alloc, book.letters())?;
     let variables = spelled(alloc, book.variables())?;
     let text = joined(alloc, &[letters.as_str(), "; ", variables.as_str()])?;

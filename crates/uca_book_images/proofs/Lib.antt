@@ -1,0 +1,4 @@
+pub mod BookImages
+pub mod KeptKeys
+pub mod KeptPlaces
+pub mod MovedKeys

@@ -1,0 +1,9 @@
+-- The starts so far are added.
+use Rattle.std.proofs.Common.{◌≡◌, ◌++◌, take}
+use Rattle.uca_book_images.proofs.image.add_letters.Given as goal
+
+abbrev pub invariant-loop-start : goal.invariant-loop-start
+invariant-loop-start g l = record {
+  letters : l.book.letters ≡ l.initial.book.letters ++ take l.start-index l.starts;
+  variables : l.book.variables ≡ l.initial.book.variables;
+}

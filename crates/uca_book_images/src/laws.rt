@@ -1,0 +1,38 @@
+//! What is true of the images of all books, and of all keys. The functions do nothing: their contracts are the laws.
+
+ghost use Rattle.uca_book_images.specs.Laws.{ImagesAreBooks, KeptKeysStay, MovedKeysStay};
+ghost use Rattle.uca_book_images.specs.KeptPlaces.{StartsBecomeTheirImages, RisingMapsKeepPlaces};
+ghost use Rattle.uca_book_images.specs.Worked.{WorkedImages};
+
+/// The image of a book is a book, whatever the map is.
+pub fn images_are_books()
+    ensures { ImagesAreBooks }
+{}
+
+/// If each start has an image, and these rise, they are the starts of the image.
+pub fn starts_become_their_images()
+    ensures { StartsBecomeTheirImages }
+{}
+
+/// If each start becomes its image under a rising map, a weight and its image are in cells of one number. So the weight
+/// keeps its place, if it is as far from the start of its cell, and as many bytes say so.
+pub fn rising_maps_keep_places()
+    ensures { RisingMapsKeepPlaces }
+{}
+
+/// A key has the compact key that it had, under a new book, if each of its weights keeps its place. The weights may be
+/// others: it is enough that their cells have the numbers that they had, and that the offsets there are the old ones.
+pub fn kept_keys_stay()
+    ensures { KeptKeysStay }
+{}
+
+/// A stored key that is put through rising maps has the compact key that it had, under a new book, if each of its
+/// weights keeps its place.
+pub fn moved_keys_stay()
+    ensures { MovedKeysStay }
+{}
+
+/// The definitions give some images that were worked out by hand, and a key that stays.
+pub fn worked_images()
+    ensures { WorkedImages }
+{}
