@@ -12,8 +12,14 @@ With no arguments the table and the data file are Unicode's, and the lines are t
 - mixed: 40,000 translated strings of Debian's iso-codes
 - marks: 2,000 lines of letters with long runs of combining marks, as figures.py makes them
 
-Each row has the mean and the longest of: the keys of `uca keys`, the compact keys of `uca compact` by a book that was chosen from the same lines, those by
-examples/books/general.book, and the keys of ICU4C (icu_keys.c). Each compact key is expanded again, and has to be the key.
+Each row has the mean and the longest of four kinds of keys:
+
+- keys of `uca keys`
+- compact keys of `uca compact`, by a book of the same lines
+- compact keys by examples/books/general.book
+- keys of ICU4C (icu_keys.c)
+
+Each compact key is expanded again, and has to be the key.
 
 It installs nothing. It needs Debian's packages gcc, libicu-dev, pkgconf, unicode-data and unicode-cldr-core, iso-codes, wamerican-large and the lists of words of
 tests/by_hand/bindings.py.

@@ -32,13 +32,15 @@ _uca_options_of() {
         changes) echo "-h --help" ;;
         audit-changes) echo "-h --help" ;;
         rekey) echo "--weighting --identical --from --to -h --help" ;;
+        compact) echo "--weighting --identical -h --help" ;;
+        expand) echo "--weighting --identical -h --help" ;;
         fingerprint) echo "--weighting --identical -h --help" ;;
     esac
 }
 
 _uca_file_count() {
     case $1 in
-        rekey) echo 1 ;;
+        rekey | compact | expand) echo 1 ;;
         check | keys | sort | compare | affected | fingerprint) echo 2 ;;
         tailor) echo 4 ;;
         audit | changes) echo 5 ;;
@@ -67,7 +69,7 @@ _uca_read() {
 
 _uca() {
     local current=${COMP_WORDS[COMP_CWORD]} before=" ${COMP_WORDS[*]:0:COMP_CWORD} " command count ended
-    local commands="check keys sort compare tailor audit affected changes audit-changes rekey fingerprint help"
+    local commands="check keys sort compare tailor audit affected changes audit-changes rekey compact expand fingerprint help"
     COMPREPLY=()
     _uca_read
     case $before in

@@ -6,7 +6,7 @@ import re
 from program import DATA, TABLE, ProgramTest
 
 HELP = os.path.join(os.path.dirname(os.path.realpath(__file__)), "help")
-COMMANDS = ["check", "keys", "sort", "compare", "tailor", "audit", "affected", "changes", "audit-changes", "rekey", "fingerprint"]
+COMMANDS = ["check", "keys", "sort", "compare", "tailor", "audit", "affected", "changes", "audit-changes", "rekey", "compact", "expand", "fingerprint"]
 MORE = "For more information, try '--help'.\n"
 
 
@@ -64,6 +64,10 @@ class Help(ProgramTest):
             ("sort --lines t d", unexpected("--lines", sort)),
             ("changes --changes o d n e c", unexpected("--changes", changes)),
             ("rekey --lines c", unexpected("--lines", "rekey [OPTIONS] <CERTIFICATE>")),
+            ("compact", missing("BOOK", "compact <BOOK>")),
+            ("expand", missing("BOOK", "expand <BOOK>")),
+            ("compact b b", unexpected("b", "compact [OPTIONS] <BOOK>")),
+            ("expand --from x b", unexpected("--from", "expand [OPTIONS] <BOOK>")),
             ("fingerprint t", missing("DATA", "fingerprint <TABLE> <DATA>")),
             ("fingerprint --lines t d", unexpected("--lines", "fingerprint [OPTIONS] <TABLE> <DATA>")),
             ("sort --weighting x --weighting x t d", twice("--weighting <W>", sort)),
@@ -90,6 +94,8 @@ class Model:
         "changes": (5, []),
         "audit-changes": (6, []),
         "rekey": (1, ["--weighting", "--identical", "--from", "--to"]),
+        "compact": (1, ["--weighting", "--identical"]),
+        "expand": (1, ["--weighting", "--identical"]),
         "fingerprint": (2, ["--weighting", "--identical"]),
     }
 
@@ -145,9 +151,11 @@ changes b d t d c
 audit-changes b d t d h c
 rekey --weighting shifted c --identical
 rekey --from {0} c --to={0}
+compact --weighting non-ignorable k
+expand k --identical
 fingerprint --identical t --weighting=shifted d""".format("0123456789abcdef" * 4).splitlines()
 
-PUT_IN = """check keys sort compare tailor audit affected changes audit-changes rekey fingerprint help order t - -- ---
+PUT_IN = """check keys sort compare tailor audit affected changes audit-changes rekey compact expand fingerprint help order t - -- ---
 --weighting --weighting= --weighting=shifted --weightings shifted non-ignorable Shifted --identical --identical= --lines --linest
 --changes --changes= --change --header --from --to={} -i -h --help -V --version é =""".format("0123456789abcdef" * 4).split()
 
@@ -156,7 +164,7 @@ class Lines(ProgramTest):
     def setUp(self):
         super().setUp()
         # so that a line that is taken opens no file by chance
-        self.write(t=TABLE, d=DATA, b=TABLE, r="", c="", h="@changes 1\n")
+        self.write(t=TABLE, d=DATA, b=TABLE, r="", c="", h="@changes 1\n", k="@book 1\n")
 
     def judge(self, line):
         """A line is taken, or rejected, as the model says. One that is taken asks for the same in another spelling."""

@@ -24,7 +24,7 @@ These endings are allowed:
 - After a file that does not open: status 3 and its role, or `certificate: Write` where it is to be made.
 - After a file that cannot be kept: status 3 and `certificate: Write`.
 
-Where `keys`, `affected` or `rekey` ends at an input line, standard output has what it prints for the lines before. Where another run ends
+Where `keys`, `affected`, `rekey`, `compact` or `expand` ends at an input line, standard output has what it prints for the lines before. Where another run ends
 early, it has nothing. A certificate is there just where the whole of it was written, and no temporary file is left. No run ends by a
 signal, or reads or writes again where it failed. Lines that CASES names must come: `memory` for sorting, after the last line of the
 input, and for the text that `clap` makes. What ends otherwise is printed, and the status is then 1. This is no part of the gate: it
@@ -53,6 +53,8 @@ ROLES = {
     "changes": ("old", "old-data", "new", "new-data"),
     "audit-changes": ("old", "old-data", "new", "new-data", "changes", "certificate"),
     "rekey": ("certificate", "input"),
+    "compact": ("book", "input"),
+    "expand": ("book", "input"),
     "fingerprint": ("table", "data"),
 }
 
@@ -94,6 +96,10 @@ CASES = (
     ("rekey images.txt", "wrong.txt", ""),
     (f"rekey --from {OLD_SUM} --to {NEW_SUM} images.txt", "headed.txt", ""),
     (f"rekey --from {NEW_SUM} --to {OLD_SUM} images.txt", "headed.txt", ""),
+    ("compact book.txt", "stored.txt", ""),
+    ("compact --weighting non-ignorable book.txt", "stored.txt", ""),
+    ("expand book.txt", "compact.txt", ""),
+    ("expand --identical book.txt", "compact.txt", ""),
     ("fingerprint --identical table.txt data.txt", None, ""),
     ("sort table.txt missing.txt", None, ""),
     ("tailor --help", None, "memory\n"),
@@ -130,6 +136,8 @@ def contents():
         with open(os.path.join("examples/editions", file_name), "rb") as file:
             files[name] = file.read()
     files["stored.txt"] = b"1C47 0000 0020 0000 0002 0000 FFFF\n1C60000000200000000800000209\tb\n" * 2 + b"0000 0000 0000"
+    files["book.txt"] = b"@book 1\n1 1C47\n1 1C48\n1 1C60\n1 1C61\n1 2000\n4 0209\n4 020A\n"
+    files["compact.txt"] = b"0A 03\n0C05A500010100\tb\n" * 2 + b"03"
     files["headed.txt"] = b"#uca keys 1 shifted weights %s\n" % OLD_SUM.encode() + files["stored.txt"]
     files["ill-formed.txt"] = files["table.txt"].replace(b"[.0000.0024.0002]", b"[.0000.0020.0002]")
     files["spellings.txt"] = "# spellings\n&[before 1]b < \u1ea1 / ch <<* x-z'q' &\u00e1h <<< \\u00C1h = \uac01".encode()
@@ -166,7 +174,7 @@ class Case:
             return b"".join(it + b"\n" for it in before if it + b"\n" in printed)
         # the header of keys is before their first line, and that of stored keys is their first line
         count = line if "--header" in self.words else line - 1
-        return b"".join(printed[:count]) if self.words[0] in ("keys", "rekey") else b""
+        return b"".join(printed[:count]) if self.words[0] in ("keys", "rekey", "compact", "expand") else b""
 
     def of_memory(self, ending):
         if ending == self.plain:

@@ -24,6 +24,7 @@ COUNTS = re.compile(r"(\d+) passed, (\d+) failed(?:, (\d+) not run)?\n?")
 # The tests, the short ones first, with the arguments that each gets.
 TESTS = {
     "certificates": [],
+    "books": [],
     "bindings": [],
     "unicode_tables": [],
     "editions": [],

@@ -88,7 +88,7 @@ fn check_file(
 }
 
 /// A file, its line, the error, what is said, and the status. The last line is the longest of a file.
-const FILES: [(Role, u32, FaultKind, &str, u8); 9] = [
+const FILES: [(Role, u32, FaultKind, &str, u8); 10] = [
     (Role::Table, 1, FaultKind::Line, "table line 1: Line\n", 1),
     (Role::Data, 22, FaultKind::Order, "data line 22: Order\n", 1),
     (
@@ -114,6 +114,7 @@ const FILES: [(Role, u32, FaultKind, &str, u8); 9] = [
         1,
     ),
     (Role::Data, 7, FaultKind::Read, "data line 7: Read\n", 3),
+    (Role::Book, 3, FaultKind::Order, "book line 3: Order\n", 1),
     (
         Role::Table,
         8,
@@ -342,7 +343,7 @@ fn check_open(alloc: Global, role: Role, text: &str) -> Result<(), Fail> {
     check(alloc, &RunFault::Open(role), text, 3)
 }
 
-const UNOPENED: [(Role, &str); 11] = [
+const UNOPENED: [(Role, &str); 12] = [
     (Role::Table, "table: Open\n"),
     (Role::Data, "data: Open\n"),
     (Role::Rules, "rules: Open\n"),
@@ -354,6 +355,7 @@ const UNOPENED: [(Role, &str); 11] = [
     (Role::New, "new: Open\n"),
     (Role::NewData, "new-data: Open\n"),
     (Role::Changes, "changes: Open\n"),
+    (Role::Book, "book: Open\n"),
 ];
 
 #[test]
@@ -426,17 +428,24 @@ fn check_stored_key(
 }
 
 /// A line with a stored key, its error, what is said, and the status. The last line is the longest of all.
-const STORED_KEYS: [(u64, StoredKeyKind, &str, u8); 7] = [
+const STORED_KEYS: [(u64, StoredKeyKind, &str, u8); 9] = [
     (1, StoredKeyKind::NoKey, "input line 1: NoKey\n", 1),
     (7, StoredKeyKind::NoImage, "input line 7: NoImage\n", 1),
+    (2, StoredKeyKind::OtherKey, "input line 2: OtherKey\n", 1),
+    (
+        3,
+        StoredKeyKind::NoCompactKey,
+        "input line 3: NoCompactKey\n",
+        1,
+    ),
     (1, StoredKeyKind::Header, "input line 1: Header\n", 1),
     (8, StoredKeyKind::TooLong, "input line 8: TooLong\n", 1),
     (9, StoredKeyKind::Read, "input line 9: Read\n", 3),
     (10, StoredKeyKind::Memory, "input line 10: Memory\n", 4),
     (
         18_446_744_073_709_551_615,
-        StoredKeyKind::NoImage,
-        "input line 18446744073709551615: NoImage\n",
+        StoredKeyKind::NoCompactKey,
+        "input line 18446744073709551615: NoCompactKey\n",
         1,
     ),
 ];

@@ -82,6 +82,10 @@ audit-changes o d n e h c | AuditChanges(AuditChangesWords { editions: EditionNa
 rekey c | Rekey(RekeyWords { weighting: None, depth: Weights, fingerprints: None, certificate: "c" })
 rekey --identical c --weighting shifted | Rekey(RekeyWords { weighting: Some(Shifted), depth: Identical, fingerprints: None, certificate: "c" })
 rekey --weighting=non-ignorable -- --identical | Rekey(RekeyWords { weighting: Some(NonIgnorable), depth: Weights, fingerprints: None, certificate: "--identical" })
+compact b | Compact(BookWords { weighting: None, depth: Weights, book: "b" })
+compact --weighting=non-ignorable compact --identical | Compact(BookWords { weighting: Some(NonIgnorable), depth: Identical, book: "compact" })
+expand b | Expand(BookWords { weighting: None, depth: Weights, book: "b" })
+expand --weighting shifted -- --identical | Expand(BookWords { weighting: Some(Shifted), depth: Weights, book: "--identical" })
 fingerprint t d | Fingerprint(FingerprintWords { weighting: None, depth: Weights, table: "t", properties: "d" })
 fingerprint --identical t --weighting shifted d | Fingerprint(FingerprintWords { weighting: Some(Shifted), depth: Identical, table: "t", properties: "d" })"#;
 
@@ -101,6 +105,8 @@ rekey --to 0123456789abcdef0123456789abcdef0123456789abcdef0123456789abcdef c | 
 rekey --from 0123456789abcdef0123456789abcdef0123456789abcdef0123456789abcdef --to 0123456789abcdef0123456789abcdef0123456789abcdef0123456789abcde c | Fingerprint
 rekey --from 0123456789abcdef0123456789abcdef0123456789abcdef0123456789abcdeF --to 0123456789abcdef0123456789abcdef0123456789abcdef0123456789abcdef c | Fingerprint
 rekey --from 0123456789abcdef0123456789abcdef0123456789abcdef0123456789abcdef --to 0123456789abcdef0123456789abcdef0123456789abcdef0123456789abcdef0 c | Fingerprint
+compact --weighting x b | Weighting
+expand --weighting Shifted b | Weighting
 fingerprint --weighting x t d | Weighting
 keys --weighting= t d | Weighting
 sort --weighting x no-such-table no-such-data | Weighting

@@ -1,6 +1,6 @@
 //! What fails, and what is then returned and written.
 
-use crate::change_runs::{End, KEYS, MOVED, Run, call, rekey};
+use crate::change_runs::{COMPACT, EXPANDED, End, KEYS, MOVED, Run, call, rekey};
 use std::alloc::Global;
 use std::io::ErrorKind;
 use std::test::Fail;
@@ -41,6 +41,16 @@ const LINES: &[Case<'static>] = &[
         run: Run::Rekey,
         places: "certificate memory input",
         whole: MOVED,
+    },
+    Case {
+        run: Run::Compact,
+        places: "book memory input",
+        whole: COMPACT,
+    },
+    Case {
+        run: Run::Expand,
+        places: "book memory input",
+        whole: EXPANDED,
     },
 ];
 

@@ -1,4 +1,5 @@
-//! Runs over the small files of a change: they find it, audit it, print affected lines or rekey lines.
+//! Runs over the small files of a change: they find it, audit it, print affected lines or rekey lines. Two more compact
+//! stored keys and expand them.
 
 use std::alloc::{Allocator, Global};
 use std::io::{Read, Write};
@@ -7,7 +8,7 @@ use uca_certificates::write_certificate;
 use uca_change_files::write_changes;
 use uca_change_runs::{run_affected_by_changes_in, run_audit_changes, run_changes};
 use uca_editions::FoundChanges;
-use uca_rekey::run_rekey;
+use uca_rekey::{run_compact, run_expand, run_rekey};
 use uca_run_parts::RunFault;
 use uca_weights::Depth::Weights;
 use uca_weights::Weighting::NonIgnorable;
@@ -34,6 +35,15 @@ pub const KEYS: &str =
 pub const MOVED: &str =
     "1C61 0000 0020 0000 0002\n1C471C61000000200020000000020002\tab\n0000 0000\n";
 
+/// A book in which both letters have cells of their own.
+const BOOK: &str = "@book 1\n1 1C47\n1 1C48\n1 1C60\n1 1C61\n";
+
+/// The lines with their compact keys.
+pub const COMPACT: &str = "0A02\n080A02\tab\n02\n";
+
+/// The lines with stored keys, without spaces.
+pub const EXPANDED: &str = "1C600000002000000002\n1C471C60000000200020000000020002\tab\n00000000\n";
+
 /// A run.
 #[derive(Clone, Copy)]
 pub enum Run {
@@ -45,6 +55,10 @@ pub enum Run {
     Affected,
     /// It rekeys lines.
     Rekey,
+    /// It compacts the keys of lines.
+    Compact,
+    /// It expands the compact keys of lines.
+    Expand,
 }
 
 /// How a run ends.
@@ -105,6 +119,18 @@ pub fn rekey<A: Allocator + Copy, I: Read, W: Write>(
     run_rekey(alloc, &mut file(5), input, out, NonIgnorable, Weights)
 }
 
+fn compact(tried: &Refusing, out: &mut Sink<Vec<u8>>) -> End {
+    let mut book = Source::new(BOOK.as_bytes());
+    let mut input = Source::new(KEYS.as_bytes());
+    run_compact(tried, &mut book, &mut input, out, NonIgnorable, Weights)
+}
+
+fn expand(tried: &Refusing, out: &mut Sink<Vec<u8>>) -> End {
+    let mut book = Source::new(BOOK.as_bytes());
+    let mut input = Source::new(COMPACT.as_bytes());
+    run_expand(tried, &mut book, &mut input, out, NonIgnorable, Weights)
+}
+
 /// Makes a run over these files. Texts in Normalization Form D are in ample memory.
 pub fn call(ample: Global, tried: &Refusing, run: Run, out: &mut Sink<Vec<u8>>) -> End {
     let mut lines = Source::new(LINES.as_bytes());
@@ -115,5 +141,7 @@ pub fn call(ample: Global, tried: &Refusing, run: Run, out: &mut Sink<Vec<u8>>) 
             run_affected_by_changes_in(tried, ample, &mut file(1), &mut file(4), &mut lines, out)
         }
         Run::Rekey => rekey(tried, &mut Source::new(KEYS.as_bytes()), out),
+        Run::Compact => compact(tried, out),
+        Run::Expand => expand(tried, out),
     }
 }

@@ -1,5 +1,5 @@
 //! Tests of whole runs over readers and writers that take few bytes a call, or fail at a chosen byte. In the runs over changes,
-//! and in the run that rekeys lines, each allocation fails in turn; for the other runs `test_failures` tests this. What runs
+//! and in those over stored keys, each allocation fails in turn; for the other runs `test_failures` tests this. What runs
 //! print over whole files is tested with the built program, by `tests/run.py`.
 #![tactic(auto)]
 

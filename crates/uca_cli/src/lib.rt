@@ -3,6 +3,7 @@
 //! `uca_fingerprint_runs`.
 #![tactic(auto)]
 
+mod book_commands;
 mod change_commands;
 pub mod command;
 mod printing;
@@ -22,14 +23,14 @@ pub use uca_key_runs::{
     run_headed_lines_in, run_keyed_lines, run_keyed_lines_in, run_keys, run_keys_in, run_sort,
     run_sort_in, sort_lines, untouched_lines_keep_their_order,
 };
-pub use uca_rekey::{lines_move_with_keys, run_headed_rekey, run_rekey};
+pub use uca_rekey::{lines_move_with_keys, run_compact, run_expand, run_headed_rekey, run_rekey};
 pub use uca_run_parts::{
     Affects, FileFault, InputKind, Role, RunFault, StoredKeyKind, print_affected, run_affected,
     run_affected_in, run_check,
 };
 pub use uca_tailor_runs::{run_audit, run_audit_in, run_tailor, run_tailor_in, write_tailored};
 pub use uca_words::{
-    AffectedWords, AuditChangesWords, AuditWords, ChangesWords, CheckWords, CompareWords,
-    EditionNames, FingerprintWords, Fingerprints, KeysWords, RekeyWords, SortWords, TailorWords,
-    WordFault, Words, read_words,
+    AffectedWords, AuditChangesWords, AuditWords, BookWords, ChangesWords, CheckWords,
+    CompareWords, EditionNames, FingerprintWords, Fingerprints, KeysWords, RekeyWords, SortWords,
+    TailorWords, WordFault, Words, read_words,
 };

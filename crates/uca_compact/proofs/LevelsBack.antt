@@ -6,10 +6,9 @@ use Rattle.std.specs.declared.cmp.Ordering.TheVariants.{Less, Equal, Greater}
 use Rattle.std.proofs.lemmas.Map.Text.{is_eq-slice_cmp}
 use Rattle.uca_order.specs.Levels.{lexicographic}
 use Rattle.uca_order.proofs.KeyOrder.{cmp_less, cmp_equal, cmp_greater, same_from_lexicographic}
-use Rattle.uca_compact.specs.Forms.{Form, IsForm, ends_before, AreForms, AreWeights}
+use Rattle.uca_compact.specs.Forms.{Form, IsForm, ends_before, AreForms, AreWeights, AreLevels}
 use Rattle.uca_compact.specs.CompactKeys.{Plain, level_code, end_by, end_of, ended_level, later_levels, compact}
-use Rattle.uca_compact.specs.Reading.{ReadLevel, read_level, ReadLevels, with_level, level_then, plain_count, is_on_side, read_later, read_levels}
-use Rattle.uca_compact.specs.Laws.{CompactLevelsAreReadBack}
+use Rattle.uca_compact.specs.inside.Reading.{ReadLevel, read_level, ReadLevels, with_level, level_then, plain_count, is_on_side, read_later, read_levels}
 use Rattle.uca_compact.proofs.LevelsOrder.{AreFor, each_level, end_fits, levels_length}
 use Rattle.uca_compact.proofs.ReadBack.{level_back}
 
@@ -128,6 +127,7 @@ all_back plain (f ∷ forms) [] rest fs ls = absurd ls
 all_back plain (f ∷ forms) (a ∷ levels) rest fs ls =
     written_back plain f forms [] a levels rest (λ l. true) fs.0 fs.1 ls.0 (levels_length forms levels ls.1) refl (later_back plain forms (a ∷ []) levels rest fs.2 ls.1)
 
--- the law
-pub levels_back : CompactLevelsAreReadBack
+-- What is written for levels is read again as these, whatever follows it.
+pub levels_back : (plain : Plain) (forms : List Form) (levels : List (List ℕ)) (rest : List ℕ) → AreForms forms → AreLevels (length forms) levels
+    → read_levels plain forms (compact plain forms levels ++ rest) ≡ levels_read levels rest
 levels_back plain forms levels rest fs ls = all_back plain forms levels rest fs (each_level forms levels ls)

@@ -16,3 +16,8 @@ pub mod LaterLevels
 pub mod StoredBack
 pub mod StoredSteps
 pub mod Places
+pub mod CellSteps
+pub mod LevelSteps
+pub mod KeySteps
+pub mod ExpandedKeys
+pub mod KeyBytes

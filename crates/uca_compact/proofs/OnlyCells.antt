@@ -4,7 +4,7 @@ use Rattle.std.specs.List.{AllByRecursion}
 use Rattle.std.proofs.lemmas.Bool.Decides.{nat_tests}
 use Rattle.uca_compact.specs.Forms.{Form, first_cell, AreRising, IsForm}
 use Rattle.uca_compact.specs.CompactKeys.{offset_bytes, cell}
-use Rattle.uca_compact.specs.Reading.{ReadNumber, one_byte, two_bytes, read_offset, weight_within, read_cell}
+use Rattle.uca_compact.specs.inside.Reading.{ReadNumber, one_byte, two_bytes, read_offset, weight_within, read_cell}
 
 -- ---- Bytes
 

@@ -10,8 +10,7 @@ use Rattle.uca_order.specs.Levels.{lexicographic}
 use Rattle.uca_order.proofs.KeyOrder.{lexicographic_itself}
 use Rattle.uca_compact.specs.Forms.{Form, IsForm, ends_before, AreForms, AreWeights, AreLevels}
 use Rattle.uca_compact.specs.CompactKeys.{Plain, level_code, end_by, end_of, ended_level, later_levels, compact}
-use Rattle.uca_compact.specs.Reading.{ReadLevel, read_level, ReadLevels, with_level, level_then, plain_count, is_on_side, read_later}
-use Rattle.uca_compact.specs.Laws.{OnlyCompactLevelsAreRead}
+use Rattle.uca_compact.specs.inside.Reading.{ReadLevel, read_level, ReadLevels, with_level, level_then, plain_count, is_on_side, read_later, read_levels}
 use Rattle.uca_compact.proofs.OnlyCells.{AreBytes, bytes_after, nothing, same_some}
 use Rattle.uca_compact.proofs.OnlyLevels.{IsWritten, level_only}
 use Rattle.uca_compact.proofs.LevelsBack.{Tells, then_later}
@@ -173,8 +172,10 @@ later_only plain weights (f ∷ forms) fs earlier all end zero side bytes k are 
 
 -- ---- All levels
 
--- the law
-pub levels_only : OnlyCompactLevelsAreRead
+-- Nothing else is read, if each plain level is one of weights.
+pub levels_only : (plain : Plain) → PlainWeights plain → (forms : List Form) → AreForms forms
+    → (bytes : List ℕ) → AreBytes bytes → (read : ReadLevels) → read_levels plain forms bytes ≡ Some read
+    → AreLevels (length forms) read.levels × (bytes ≡ compact plain forms read.levels ++ read.rest)
 levels_only plain weights [] fs bytes are k h =
     subst (λ (y : ReadLevels). AreLevels 0 y.levels × (bytes ≡ compact plain [] y.levels ++ y.rest)) (same_some (record { levels = []; rest = bytes }) k h) ((refl, tt), refl)
 levels_only plain weights (f ∷ forms) fs bytes are k h =

@@ -9,7 +9,7 @@ use Rattle.uca_order.proofs.KeyOrder.{cmp_less, cmp_equal, cmp_greater}
 use Rattle.uca_compact.specs.Forms.{Form, step, full, first_cell, IsForm, AreWeights}
 use Rattle.uca_compact.specs.PlainLevels.{copies}
 use Rattle.uca_compact.specs.CompactKeys.{cell, run_before_greater, run_after, written, level_code}
-use Rattle.uca_compact.specs.Reading.{ReadNumber, read_cell, ReadLevel, with_weights, with_weight, lesser_then, greater_then, longest_run_then, read_steps, read_level}
+use Rattle.uca_compact.specs.inside.Reading.{ReadNumber, read_cell, ReadLevel, with_weights, with_weight, lesser_then, greater_then, longest_run_then, read_steps, read_level}
 use Rattle.uca_compact.proofs.OnlyCells.{AreBytes, bytes_after, nothing, same_some, lesser_only, greater_only}
 
 -- ---- Runs

@@ -8,7 +8,7 @@ use Rattle.std.proofs.lemmas.Nat.{div-mul-add, mod-mul-add}
 use Rattle.uca_compact.specs.Forms.{Form, step, full, first_cell, AreRising, IsForm, AreWeights}
 use Rattle.uca_compact.specs.PlainLevels.{copies}
 use Rattle.uca_compact.specs.CompactKeys.{offset_bytes, cell, run_after, written, level_code}
-use Rattle.uca_compact.specs.Reading.{ReadNumber, one_byte, two_bytes, read_offset, weight_within, read_cell, ReadLevel, with_weights, with_weight, lesser_then, greater_then, read_steps, read_level}
+use Rattle.uca_compact.specs.inside.Reading.{ReadNumber, one_byte, two_bytes, read_offset, weight_within, read_cell, ReadLevel, with_weights, with_weight, lesser_then, greater_then, read_steps, read_level}
 use Rattle.uca_compact.proofs.CellOrder.{cell_from}
 use Rattle.uca_compact.proofs.RunOrder.{room, run_stays_short}
 

@@ -9,9 +9,8 @@ use Rattle.uca_weights.specs.declared.Weighting.{Weighting}
 use Rattle.uca_order.specs.Levels.{lexicographic, compare_from}
 use Rattle.uca_order.specs.Depths.{ReadText, key_at}
 use Rattle.uca_books.specs.Books.{BookContent, IsBook}
-use Rattle.uca_compact.specs.Forms.{Form, AreForms, AreWeights, AreLevels}
+use Rattle.uca_compact.specs.Forms.{Form, AreForms, AreLevels}
 use Rattle.uca_compact.specs.CompactKeys.{Plain, compact, KeyParts, text_parts, stored_key, compact_key, AreParts}
-use Rattle.uca_compact.specs.Reading.{ReadLevels, read_levels, read_key}
 use Rattle.uca_compact.specs.StoredParts.{stored_parts}
 
 -- Compact keys compare as their levels do, and then by the bytes after them, whatever the plain levels are.
@@ -20,28 +19,13 @@ CompactLevelsKeepOrder = (plain : Plain) (forms : List Form) (left right : List 
     (xs ys : List ℕ) → lexicographic (compact plain forms left ++ xs) (compact plain forms right ++ ys)
     ≡ ordering_then (compare_from 1 left right).order (lexicographic xs ys)
 
--- What is written for levels is read again as these, whatever follows it.
-abbrev pub CompactLevelsAreReadBack : Type 0
-CompactLevelsAreReadBack = (plain : Plain) (forms : List Form) (levels : List (List ℕ)) (rest : List ℕ) → AreForms forms → AreLevels (length forms) levels →
-    read_levels plain forms (compact plain forms levels ++ rest) ≡ Some (record { levels = levels; rest = rest })
-
--- Nothing else is read, if each plain level is one of weights.
-abbrev pub OnlyCompactLevelsAreRead : Type 0
-OnlyCompactLevelsAreRead = (plain : Plain) → ((earlier : List (List ℕ)) → AreWeights (plain earlier)) → (forms : List Form) → AreForms forms →
-    (bytes : List ℕ) → AllByRecursion (λ b. b < 256) bytes → (read : ReadLevels) → read_levels plain forms bytes ≡ Some read →
-    AreLevels (length forms) read.levels × (bytes ≡ compact plain forms read.levels ++ read.rest)
-
 -- ---- Keys
 
--- The parts of a key are read again from its compact key.
-abbrev pub CompactKeysAreReadBack : Type 0
-CompactKeysAreReadBack = (depth : Depth) (weighting : Weighting) (b : BookContent) (k : KeyParts) → IsBook b → AreParts depth weighting k →
-    read_key depth weighting b (compact_key depth weighting b k) ≡ Some k
-
--- Nothing is read from other bytes.
-abbrev pub OnlyCompactKeysAreRead : Type 0
-OnlyCompactKeysAreRead = (depth : Depth) (weighting : Weighting) (b : BookContent) → IsBook b → (bytes : List ℕ) → AllByRecursion (λ b. b < 256) bytes →
-    (k : KeyParts) → read_key depth weighting b bytes ≡ Some k → AreParts depth weighting k × (bytes ≡ compact_key depth weighting b k)
+-- Keys with one compact key are one.
+abbrev pub EachCompactKeyIsOfOneKey : Type 0
+EachCompactKeyIsOfOneKey = (depth : Depth) (weighting : Weighting) (b : BookContent) (left right : KeyParts) → IsBook b →
+    AreParts depth weighting left → AreParts depth weighting right →
+    compact_key depth weighting b left ≡ compact_key depth weighting b right → left ≡ right
 
 -- Without an identical level no compact key begins another one: where it does, both are one, and nothing follows.
 abbrev pub NoCompactKeyBeginsAnother : Type 0

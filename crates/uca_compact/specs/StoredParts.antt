@@ -1,11 +1,13 @@
 -- The parts of a stored key, read from its bytes.
-use Rattle.std.specs.Prelude.{ℕ, zero, suc, ◌+◌, ◌*◌, ◌-◌, List, [], ◌∷◌, Option, Some, None, option_map, nat_eq, if◌then◌else◌}
+use Rattle.std.specs.Prelude.{◌≡◌, ℕ, zero, suc, ◌+◌, ◌*◌, ◌-◌, ◌<◌, List, [], ◌∷◌, Option, Some, None, option_map, nat_eq, if◌then◌else◌}
+use Rattle.std.specs.List.{AllByRecursion}
 use lib.Utf8.{scalar}
 use Rattle.uca_weights.specs.declared.Depth.{Depth}
 use Rattle.uca_weights.specs.declared.Depth.TheVariants.{Weights, Identical}
 use Rattle.uca_weights.specs.declared.Weighting.{Weighting}
 use Rattle.uca_order.specs.Levels.{level_count}
-use Rattle.uca_compact.specs.CompactKeys.{KeyParts}
+use Rattle.uca_books.specs.Books.{BookContent}
+use Rattle.uca_compact.specs.CompactKeys.{KeyParts, compact_key}
 
 -- a level: its weights, and the bytes after its 00 00, or `None` if it ends with the key
 pub record StoredLevel : Type 0 where
@@ -59,3 +61,13 @@ parts_from depth (suc later) (Some l) = level_before l.weights (after_level l.re
 -- the parts of a key
 abbrev pub stored_parts : Depth → Weighting → List ℕ → Option KeyParts
 stored_parts depth weighting key = parts_from depth (level_count weighting - 1) (stored_level key)
+
+-- ---- Compact keys of stored keys
+
+-- the bytes are a key, and these are its compact key
+abbrev pub IsCompactOf : Depth → Weighting → BookContent → (key compact : List ℕ) → Type 0
+IsCompactOf depth weighting b key compact = option_map (compact_key depth weighting b) (stored_parts depth weighting key) ≡ Some compact
+
+-- these are the compact key of no bytes
+abbrev pub IsOfNoKey : Depth → Weighting → BookContent → (compact : List ℕ) → Type 0
+IsOfNoKey depth weighting b compact = (key : List ℕ) → AllByRecursion (λ byte. byte < 256) key → ¬ (IsCompactOf depth weighting b key compact)

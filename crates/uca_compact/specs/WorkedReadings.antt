@@ -1,44 +1,43 @@
--- Some readings of bytes as compact keys, worked out by hand with the book of the worked keys.
-use Rattle.std.specs.Prelude.{◌≡◌, ℕ, List, [], ◌∷◌, Option, Some, None}
-use Rattle.uca_weights.specs.declared.Depth.TheVariants.{Weights}
+-- Some bytes that are the compact key of a key, and some that are of none, worked out by hand with the book of the
+-- worked keys.
+use Rattle.std.specs.Prelude.{ℕ, List, [], ◌∷◌}
+use Rattle.uca_weights.specs.declared.Depth.TheVariants.{Weights, Identical}
 use Rattle.uca_weights.specs.declared.Weighting.TheVariants.{NonIgnorable, Shifted}
-use Rattle.uca_compact.specs.CompactKeys.{KeyParts}
-use Rattle.uca_compact.specs.Reading.{read_key}
+use Rattle.uca_compact.specs.StoredParts.{IsCompactOf, IsOfNoKey}
 use Rattle.uca_compact.specs.WorkedKeys.{small_book}
 
--- bytes that are read under `NonIgnorable`, and under `Shifted`
-abbrev pub read : List ℕ → Option KeyParts
-read bytes = read_key Weights NonIgnorable small_book bytes
+-- bytes under `NonIgnorable`: the compact key of this key, and of none
+abbrev pub IsOf : (key compact : List ℕ) → Type 0
+IsOf key compact = IsCompactOf Weights NonIgnorable small_book key compact
 
-abbrev pub read_shifted : List ℕ → Option KeyParts
-read_shifted bytes = read_key Weights Shifted small_book bytes
-
--- these three levels
-abbrev pub three_levels : List ℕ → List ℕ → List ℕ → Option KeyParts
-three_levels a b c = Some (record { levels = a ∷ b ∷ c ∷ []; points = [] })
+abbrev pub IsOfNone : (compact : List ℕ) → Type 0
+IsOfNone compact = IsOfNoKey Weights NonIgnorable small_book compact
 
 pub record WorkedReadings : Type 0 where
   -- a letter, and plain levels
-  pub letter : read (8 ∷ 2 ∷ []) ≡ three_levels (0x1C47 ∷ []) (0x20 ∷ []) (2 ∷ [])
+  pub letter : IsOf (0x1C ∷ 0x47 ∷ 0 ∷ 0 ∷ 0 ∷ 0x20 ∷ 0 ∷ 0 ∷ 0 ∷ 2 ∷ []) (8 ∷ 2 ∷ [])
   -- a capital with an accent
-  pub accent : read (8 ∷ 4 ∷ 99 ∷ 103 ∷ 2 ∷ 101 ∷ 2 ∷ []) ≡ three_levels (0x1C47 ∷ []) (0x20 ∷ 0x24 ∷ []) (8 ∷ 2 ∷ [])
+  pub accent : IsOf (0x1C ∷ 0x47 ∷ 0 ∷ 0 ∷ 0 ∷ 0x20 ∷ 0 ∷ 0x24 ∷ 0 ∷ 0 ∷ 0 ∷ 8 ∷ 0 ∷ 2 ∷ []) (8 ∷ 4 ∷ 99 ∷ 103 ∷ 2 ∷ 101 ∷ 2 ∷ [])
   -- the last weight of the cell 1C48 to 1C5F, and an offset past it
-  pub last_of_cell : read (9 ∷ 23 ∷ 2 ∷ []) ≡ three_levels (0x1C5F ∷ []) (0x20 ∷ []) (2 ∷ [])
-  pub past_cell : read (9 ∷ 24 ∷ 2 ∷ []) ≡ None
+  pub last_of_cell : IsOf (0x1C ∷ 0x5F ∷ 0 ∷ 0 ∷ 0 ∷ 0x20 ∷ 0 ∷ 0 ∷ 0 ∷ 2 ∷ []) (9 ∷ 23 ∷ 2 ∷ [])
+  pub past_cell : IsOfNone (9 ∷ 24 ∷ 2 ∷ [])
   -- a cell that is not there
-  pub no_cell : read (13 ∷ 0 ∷ 0 ∷ 2 ∷ []) ≡ None
+  pub no_cell : IsOfNone (13 ∷ 0 ∷ 0 ∷ 2 ∷ [])
   -- a lesser weight at level 1, where none is less, and the longest run of no common weight
-  pub no_lesser : read (5 ∷ 0 ∷ 2 ∷ []) ≡ None
-  pub no_common : read (6 ∷ 2 ∷ []) ≡ None
+  pub no_lesser : IsOfNone (5 ∷ 0 ∷ 2 ∷ [])
+  pub no_common : IsOfNone (6 ∷ 2 ∷ [])
   -- a run with no greater weight after it
-  pub run_alone : read (8 ∷ 4 ∷ 99 ∷ 2 ∷ []) ≡ None
+  pub run_alone : IsOfNone (8 ∷ 4 ∷ 99 ∷ 2 ∷ [])
   -- level 2 is written, and is plain
-  pub plain_written : read (8 ∷ 4 ∷ 5 ∷ []) ≡ None
+  pub plain_written : IsOfNone (8 ∷ 4 ∷ 5 ∷ [])
   -- level 2 is greater than the plain one, and the end before it says less
-  pub wrong_side : read (8 ∷ 0 ∷ 99 ∷ 103 ∷ 1 ∷ []) ≡ None
+  pub wrong_side : IsOfNone (8 ∷ 0 ∷ 99 ∷ 103 ∷ 1 ∷ [])
   -- no end, no bytes, and bytes after the key
-  pub no_end : read (8 ∷ []) ≡ None
-  pub no_bytes : read [] ≡ None
-  pub more_bytes : read (8 ∷ 2 ∷ 0 ∷ []) ≡ None
+  pub no_end : IsOfNone (8 ∷ [])
+  pub no_bytes : IsOfNone []
+  pub more_bytes : IsOfNone (8 ∷ 2 ∷ 0 ∷ [])
   -- the end says that level 4 is less than the plain one, and no bytes follow
-  pub no_level : read_shifted (10 ∷ 2 ∷ []) ≡ None
+  pub no_level : IsOfNoKey Weights Shifted small_book (10 ∷ 2 ∷ [])
+  -- at depth `Identical`: U+00E9 after the levels, and its first byte alone
+  pub point : IsCompactOf Identical NonIgnorable small_book (0 ∷ 0 ∷ 0 ∷ 0 ∷ 0 ∷ 0 ∷ 0 ∷ 0 ∷ 0xE9 ∷ []) (2 ∷ 0xC3 ∷ 0xA9 ∷ [])
+  pub half_point : IsOfNoKey Identical NonIgnorable small_book (2 ∷ 0xC3 ∷ [])

@@ -1,2 +1,4 @@
 pub mod StoredEnds
 pub mod Places
+pub mod Reading
+pub mod LevelSteps

@@ -5,21 +5,13 @@ ghost use Rattle.uca_weights.specs.declared.Weighting.TheVariants.{NonIgnorable,
 ghost use Rattle.uca_compact.specs.CompactKeys.{compact_key};
 ghost use Rattle.uca_compact.specs.StoredParts.{stored_parts};
 
+use crate::buffers::Levels;
 use crate::stored::{next_level, push_points_after, read_weights};
 use crate::written_levels::{push_four, push_three};
 use std::alloc::{AllocError, Allocator, Global};
 use std::marker::Model;
 use uca_books::Book;
 use uca_weights::{Depth, Settings, Weighting};
-
-// The weights of each level of a key.
-#[derive(Drop)]
-struct Levels<A: Allocator> {
-    letters: Vec<u16, A>,
-    accents: Vec<u16, A>,
-    cases: Vec<u16, A>,
-    variables: Vec<u16, A>,
-}
 
 /// Makes compact keys of stored keys. It needs no text and no table.
 #[derive(Drop)]
@@ -42,16 +34,10 @@ impl<A: Allocator + Copy> KeyCompacter<A> {
     pub fn new(alloc: A, book: Book<A>, settings: Settings) -> KeyCompacter<A>
         ensures { result ≡ record { book = book; settings = settings } }
     {
-        let levels = Levels {
-            letters: Vec::new(alloc),
-            accents: Vec::new(alloc),
-            cases: Vec::new(alloc),
-            variables: Vec::new(alloc),
-        };
         KeyCompacter {
             book,
             settings,
-            levels,
+            levels: Levels::new(alloc),
         }
     }
 }

@@ -1,7 +1,6 @@
 //! What is true of the compact keys of all texts. The functions do nothing: their contracts are the laws.
 
-ghost use Rattle.uca_compact.specs.Laws.{CompactLevelsKeepOrder, CompactLevelsAreReadBack, OnlyCompactLevelsAreRead};
-ghost use Rattle.uca_compact.specs.Laws.{CompactKeysAreReadBack, OnlyCompactKeysAreRead, NoCompactKeyBeginsAnother};
+ghost use Rattle.uca_compact.specs.Laws.{CompactLevelsKeepOrder, EachCompactKeyIsOfOneKey, NoCompactKeyBeginsAnother};
 ghost use Rattle.uca_compact.specs.Laws.{StoredKeysAreRead, OnlyStoredKeysAreRead, CompactKeysKeepOrder};
 ghost use Rattle.uca_compact.specs.WorkedKeys.{WorkedKeys};
 ghost use Rattle.uca_compact.specs.WorkedReadings.{WorkedReadings};
@@ -11,24 +10,9 @@ pub fn compact_levels_keep_order()
     ensures { CompactLevelsKeepOrder }
 {}
 
-/// Levels are read back from a compact key, whatever follows it.
-pub fn compact_levels_are_read_back()
-    ensures { CompactLevelsAreReadBack }
-{}
-
-/// A reader takes no other bytes: what it reads as levels was written for these levels.
-pub fn only_compact_levels_are_read()
-    ensures { OnlyCompactLevelsAreRead }
-{}
-
-/// The levels and code points of a key are read back from its compact key.
-pub fn compact_keys_are_read_back()
-    ensures { CompactKeysAreReadBack }
-{}
-
-/// A reader takes no other bytes: what it reads as a key was written for this key.
-pub fn only_compact_keys_are_read()
-    ensures { OnlyCompactKeysAreRead }
+/// Keys with one compact key are one.
+pub fn each_compact_key_is_of_one_key()
+    ensures { EachCompactKeyIsOfOneKey }
 {}
 
 /// Without an identical level no compact key begins another one.
@@ -57,7 +41,7 @@ pub fn worked_keys()
     ensures { WorkedKeys }
 {}
 
-/// The definitions read some bytes, and read nothing from others, as was worked out by hand.
+/// Some bytes are the compact keys of some keys, and others of none, as was worked out by hand.
 pub fn worked_readings()
     ensures { WorkedReadings }
 {}

@@ -67,10 +67,11 @@ fn cell_index(start: u32, later: &[u16], end: u32, weight: u32) -> usize
     low
 }
 
-// Where a cell starts.
-fn cell_start(start: u32, later: &[u16], index: usize) -> u32
+/// Where a cell starts.
+pub(crate) fn cell_start(start: u32, later: &[u16], index: usize) -> u32
     requires { index ≤ length later.now }
-    ensures { result ≡ start_at start later.now index }
+    ensures is { result ≡ start_at start later.now index }
+    ensures small { start ≤ 65536 → result ≤ 65536 }
 {
     if index == 0 {
         return start;
@@ -78,10 +79,11 @@ fn cell_start(start: u32, later: &[u16], index: usize) -> u32
     u32::from(later[index - 1])
 }
 
-// Where a cell ends.
-fn cell_end(later: &[u16], end: u32, index: usize) -> u32
+/// Where a cell ends.
+pub(crate) fn cell_end(later: &[u16], end: u32, index: usize) -> u32
     requires { index ≤ length later.now }
-    ensures { result ≡ end_at later.now end index }
+    ensures is { result ≡ end_at later.now end index }
+    ensures small { end ≤ 65536 → result ≤ 65536 }
 {
     if index == later.len() {
         return end;

@@ -1,5 +1,5 @@
 -- The header of key lines: a first line that has to be one, and the one that is written in its place.
-use Rattle.std.proofs.Common.{◌≡◌, ◌≢◌, ℕ, ◌+◌, false, ◌≤◌, List, [], ◌∷◌, ◌++◌, length, Option, Some, None, IfSome, Result, Ok, Err, inl, inr, refl, ap, sym, subst, ◌∙◌, append-nil, arith, length-append}
+use Rattle.std.proofs.Common.{◌≡◌, ◌≢◌, ℕ, ◌+◌, ◌^◌, false, ◌<◌, ◌≤◌, List, [], ◌∷◌, ◌++◌, length, Option, Some, None, IfSome, Result, Ok, Err, inl, inr, refl, ap, sym, subst, ◌∙◌, append-nil, arith, length-append}
 use Rattle.std.specs.Io.KnownBytes.{Appends}
 use Rattle.std.specs.List.{flat_map}
 use Rattle.uca_weights.specs.declared.Settings.{Settings}
@@ -20,10 +20,10 @@ use Rattle.uca_run_parts.specs.LinesSoFar.{OnKnown}
 use Rattle.uca_run_parts.specs.Runs.{PartWentOut}
 use Rattle.uca_run_parts.proofs.Finishing.{count_is, piece_fails}
 use Rattle.uca_rekey.specs.HeadedRun.{HasHeaderCause, LacksHeader, RunsHeaded, WritesHeaded}
-use Rattle.uca_rekey.specs.inside.LinesInPlace.{LinesState, HasRead, IsAfter, left_of}
-use Rattle.uca_rekey.specs.RekeyRun.{IsLineFault}
-use Rattle.uca_rekey.specs.inside.RekeySoFar.{AreReplaced, HasReadHeader, HasRekeyed, IsUnread, RekeysRest, WritesLine, WritesReplaced, WrittenState, mover_of, moved_by}
-use Rattle.uca_rekey.proofs.Rekeying.{begins_with}
+use Rattle.uca_rekey.specs.inside.LinesInPlace.{LinesState, HasRead, IsAfter, IsNotRead, left_of}
+use Rattle.uca_rekey.specs.RekeyRun.{Begins, IsLineCause, IsLineFault, IsTooLong}
+use Rattle.uca_rekey.specs.inside.RekeySoFar.{AreReplaced, HasReadHeader, HasRekeyed, RekeysRest, WritesLine, WritesReplaced, WrittenState, mover_of, moved_by}
+use Rattle.uca_rekey.proofs.LinesRead.{begins_with}
 
 -- headers of the same settings are of one length
 pub header_length : (settings : Settings) (from to : List ℕ) → length from ≡ 32 → length to ≡ 32
@@ -51,18 +51,24 @@ other_header header line start lines input read other = go start (left_of lines 
     go (Some bytes) None after = absurd after
     go (Some bytes) (Some xs) after = subst (LacksHeader header) (sym after.lines) other
 
+long_first : (lines : List (List ℕ)) → Begins lines (λ line. 2 ^ 30 < length line) → Begins lines (λ line. IsTooLong [] line)
+long_first [] long = absurd long
+long_first (line ∷ later) long = inl long
+
 -- it is not read
-pub header_unread : (moved : List ℕ → Option (List ℕ)) (header : List ℕ) (start left : Option (List ℕ)) (number : ℕ) (kind : StoredKeyKind) → IsUnread kind
-    → IfSome start (λ bytes. IsLineFault moved bytes left [] number kind) → IfSome start (λ bytes. HasHeaderCause header bytes left (lines_of bytes) kind)
-header_unread moved header None left number kind unread fault = tt
-header_unread moved header (Some bytes) left number kinds.NoKey unread fault = absurd unread
-header_unread moved header (Some bytes) left number kinds.NoImage unread fault = absurd unread
-header_unread moved header (Some bytes) left number kinds.Header unread fault = absurd unread
-header_unread moved header (Some bytes) left number kinds.TooLong unread fault =
-    subst (λ (ls : List (List ℕ)). HasHeaderCause header bytes left ls kinds.TooLong) (sym fault.lines) fault.cause
-header_unread moved header (Some bytes) left number kinds.Read unread fault = fault.cause
-header_unread moved header (Some bytes) left number kinds.Memory unread fault =
-    subst (λ (ls : List (List ℕ)). HasHeaderCause header bytes left ls kinds.Memory) (sym fault.lines) fault.cause
+pub header_unread : (header : List ℕ) (start left : Option (List ℕ)) (kind : StoredKeyKind) → IfSome start (λ bytes. IsNotRead bytes left [] kind)
+    → IfSome start (λ bytes. HasHeaderCause header bytes left (lines_of bytes) kind)
+header_unread header None left kind unread = tt
+header_unread header (Some bytes) left kinds.NoKey unread = absurd unread.cause
+header_unread header (Some bytes) left kinds.NoImage unread = absurd unread.cause
+header_unread header (Some bytes) left kinds.OtherKey unread = absurd unread.cause
+header_unread header (Some bytes) left kinds.NoCompactKey unread = absurd unread.cause
+header_unread header (Some bytes) left kinds.Header unread = absurd unread.cause
+header_unread header (Some bytes) left kinds.TooLong unread =
+    subst (λ (ls : List (List ℕ)). HasHeaderCause header bytes left ls kinds.TooLong) (sym unread.lines) (long_first unread.rest unread.cause)
+header_unread header (Some bytes) left kinds.Read unread = unread.cause
+header_unread header (Some bytes) left kinds.Memory unread =
+    subst (λ (ls : List (List ℕ)). HasHeaderCause header bytes left ls kinds.Memory) (sym unread.lines) unread.cause
 
 -- ---- The new header
 
@@ -96,7 +102,7 @@ module _ (moved : List ℕ → Option (List ℕ)) (from to : List ℕ) (same : l
     header_not_written (Write count) short stops = (
       from ∷ [],
       to ∷ [],
-      begins_with moved start (from ∷ []) lines input read.read,
+      begins_with start (from ∷ []) lines input read.read,
       headers,
       subst (λ (text : List ℕ). PartWentOut begun sink.contents text count) (sym (append-nil (ended to))) (piece_fails begun [] stops read.text),
     )
@@ -130,7 +136,7 @@ writes_headed moved from to (Some bytes) left begun now (Err (StoredKey number k
     inr (
       w.3.keyed,
       w.3.rekeyed,
-      subst (λ (before : List (List ℕ)). IsLineFault moved bytes left before number kind) w.3.old w.2,
+      subst (λ (before : List (List ℕ)). IsLineFault (IsLineCause moved) bytes left before number kind) w.3.old w.2,
       w.3.are,
       subst (λ (new : List (List ℕ)). Appends begun now (flat_map ended new)) w.3.now w.4,
     )

@@ -1,6 +1,9 @@
 pub mod LineKeys
 pub mod Places
 pub mod LinesRead
+pub mod Ending
 pub mod Rekeying
 pub mod Headers
 pub mod MovedLines
+pub mod Changing
+pub mod WorkedLines

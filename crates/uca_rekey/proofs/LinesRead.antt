@@ -1,17 +1,19 @@
 -- The lines that were read so far, and the next one.
-use Rattle.std.proofs.Common.{◌≡◌, ℕ, suc, ◌^◌, ◌<◌, Bool, true, false, List, [], ◌∷◌, ◌++◌, length, Option, Some, None, IfSome, Err, inl, refl, ap, sym, subst, ◌∙◌, append_assoc, append-nil, arith}
-use Rattle.std.specs.Prelude.{⊤}
-use Rattle.std.specs.Io.KnownBytes.{Consumes, IsAtEnd}
+use Rattle.std.proofs.Common.{◌≡◌, ℕ, suc, ◌^◌, ◌<◌, Bool, true, false, List, [], ◌∷◌, ◌++◌, length, Option, Some, None, IfSome, Err, refl, ap, sym, subst, subst₂, ◌∙◌, append_assoc, append-nil, arith}
+use Rattle.std.specs.Prelude.{MatchBool, ⊤}
+use Rattle.std.specs.Io.KnownBytes.{Consumes, IsAtEnd, prepend_known}
 use Rattle.std.specs.List.{flat_map, position_or_len}
 use Rattle.std.proofs.lemmas.Bool.{MatchBool-at_false}
 use Rattle.std.proofs.lemmas.Grind.{flat_map-append}
+use Rattle.uca_weights.specs.Streams.{SourceState}
 use Rattle.uca_lines.specs.Lines.{is_lf, Lacks, ended, lines_of}
 use Rattle.uca_run_parts.specs.declared.faults.StoredKeyKind.{StoredKeyKind}
 use Rattle.uca_run_parts.specs.declared.faults.StoredKeyKind.TheVariants as kinds
+use Rattle.uca_run_parts.specs.Input.{is_stored_key_read}
 use Rattle.uca_run_parts.specs.LinesSoFar.{OnKnown}
 use Rattle.uca_run_parts.proofs.LineCuts.{first_line, lines_of-ended, lines_of-last}
-use Rattle.uca_rekey.specs.RekeyRun.{Begins, HasCause, IsLineCause, IsLineFault}
-use Rattle.uca_rekey.specs.inside.LinesInPlace.{FindsLine, IsAfter}
+use Rattle.uca_rekey.specs.RekeyRun.{Begins, HasCause, IsLineFault}
+use Rattle.uca_rekey.specs.inside.LinesInPlace.{FindsLine, HasRead, HasReadCause, IsAfter, IsNotRead, LinesState, left_of}
 
 -- ---- A line that is read
 
@@ -84,31 +86,150 @@ longer_some : (xs : List ℕ) (n : ℕ) → n < position_or_len is_lf xs → 0 <
 longer_some [] n long = absurd (omega arith)
 longer_some (b ∷ bytes) n long = omega arith
 
-module _ (moved : List ℕ → Option (List ℕ)) where
-  cause_found : (bytes xs : List ℕ) (at_end : Bool) (new unread : Option (List ℕ)) (before : List (List ℕ)) (line : List ℕ) (kind : StoredKeyKind)
-      → IsAfter bytes xs at_end before → at_end ≡ false → FindsLine (Some xs) new unread line (Err kind) → HasCause moved bytes unread before (lines_of xs) kind
-  cause_found bytes xs at_end new unread before line kinds.NoKey after more found = absurd found
-  cause_found bytes xs at_end new unread before line kinds.NoImage after more found = absurd found
-  cause_found bytes xs at_end new unread before line kinds.Header after more found = absurd found
-  cause_found bytes xs at_end new unread before line kinds.TooLong after more found =
-      begins xs (λ line. IsLineCause moved before line kinds.TooLong) (longer_some xs (2 ^ 30) found) (λ first long. inl (omega (arith, long, found)))
-  cause_found bytes xs at_end new None before line kinds.Read after more found = absurd found.1
-  cause_found bytes xs at_end new (Some ys) before line kinds.Read after more found = record {
-    part = found.0;
-    parts = MatchBool-at_false _ _ more after.parts ∙ ap (λ text. flat_map ended before ++ text) found.1;
-    lacks = found.2;
-  }
-  cause_found bytes xs at_end new unread before line kinds.Memory after more found = begins xs (λ line. ⊤) found (λ first long. tt)
+cause_found : (bytes xs : List ℕ) (at_end : Bool) (new unread : Option (List ℕ)) (before : List (List ℕ)) (line : List ℕ) (kind : StoredKeyKind)
+    → IsAfter bytes xs at_end before → at_end ≡ false → FindsLine (Some xs) new unread line (Err kind) → HasReadCause bytes unread before (lines_of xs) kind
+cause_found bytes xs at_end new unread before line kinds.TooLong after more found =
+    begins xs (λ line. 2 ^ 30 < length line) (longer_some xs (2 ^ 30) found) (λ first long. omega (arith, long, found))
+cause_found bytes xs at_end new None before line kinds.Read after more found = absurd found.1
+cause_found bytes xs at_end new (Some ys) before line kinds.Read after more found = record {
+  part = found.0;
+  parts = MatchBool-at_false _ _ more after.parts ∙ ap (λ text. flat_map ended before ++ text) found.1;
+  lacks = found.2;
+}
+cause_found bytes xs at_end new unread before line kinds.Memory after more found = begins xs (λ line. ⊤) found (λ first long. tt)
+cause_found bytes xs at_end new unread before line kinds.NoKey after more found = absurd found
+cause_found bytes xs at_end new unread before line kinds.NoImage after more found = absurd found
+cause_found bytes xs at_end new unread before line kinds.OtherKey after more found = absurd found
+cause_found bytes xs at_end new unread before line kinds.NoCompactKey after more found = absurd found
+cause_found bytes xs at_end new unread before line kinds.Header after more found = absurd found
 
-  -- why no line was found
-  pub not_read : (start old new unread : Option (List ℕ)) (at_end : Bool) (before : List (List ℕ)) (line : List ℕ) (kind : StoredKeyKind)
-      → OnKnown start old (λ bytes left. IsAfter bytes left at_end before) → at_end ≡ false → FindsLine old new unread line (Err kind)
-      → IfSome start (λ bytes. IsLineFault moved bytes unread before (suc (length before)) kind)
-  not_read None old new unread at_end before line kind after more found = tt
-  not_read (Some bytes) None new unread at_end before line kind after more found = absurd after
-  not_read (Some bytes) (Some xs) new unread at_end before line kind after more found = record {
-    rest = lines_of xs;
-    lines = after.lines;
-    place = refl;
-    cause = cause_found bytes xs at_end new unread before line kind after more found;
+-- why no line was found
+pub not_read : (start old new unread : Option (List ℕ)) (at_end : Bool) (before : List (List ℕ)) (line : List ℕ) (kind : StoredKeyKind)
+    → OnKnown start old (λ bytes left. IsAfter bytes left at_end before) → at_end ≡ false → FindsLine old new unread line (Err kind)
+    → IfSome start (λ bytes. IsNotRead bytes unread before kind)
+not_read None old new unread at_end before line kind after more found = tt
+not_read (Some bytes) None new unread at_end before line kind after more found = absurd after
+not_read (Some bytes) (Some xs) new unread at_end before line kind after more found = record {
+  rest = lines_of xs;
+  lines = after.lines;
+  cause = cause_found bytes xs at_end new unread before line kind after more found;
+}
+
+-- ---- The error of a line
+
+-- A line has a cause if it is long by itself, or if an allocation fails. None is the reader's.
+pub record AreCauses (Cause : List (List ℕ) → List ℕ → StoredKeyKind → Type 0) : Type 0 where
+  pub long : (before : List (List ℕ)) (line : List ℕ) → 2 ^ 30 < length line → Cause before line kinds.TooLong
+  pub memory : (before : List (List ℕ)) (line : List ℕ) → Cause before line kinds.Memory
+  pub no_read : (before : List (List ℕ)) (line : List ℕ) → Cause before line kinds.Read → ⊥
+
+module _ (Cause : List (List ℕ) → List ℕ → StoredKeyKind → Type 0) (are : AreCauses Cause) where
+  long_line : (before rest : List (List ℕ)) → Begins rest (λ line. 2 ^ 30 < length line) → Begins rest (λ line. Cause before line kinds.TooLong)
+  long_line before [] long = absurd long
+  long_line before (line ∷ later) long = are.long before line long
+
+  no_memory : (before rest : List (List ℕ)) → Begins rest (λ line. ⊤) → Begins rest (λ line. Cause before line kinds.Memory)
+  no_memory before [] some = absurd some
+  no_memory before (line ∷ later) some = are.memory before line
+
+  unread_cause : (bytes : List ℕ) (left : Option (List ℕ)) (before rest : List (List ℕ)) (kind : StoredKeyKind)
+      → HasReadCause bytes left before rest kind → HasCause Cause bytes left before rest kind
+  unread_cause bytes left before rest kinds.TooLong cause = long_line before rest cause
+  unread_cause bytes left before rest kinds.Read cause = cause
+  unread_cause bytes left before rest kinds.Memory cause = no_memory before rest cause
+  unread_cause bytes left before rest kinds.NoKey cause = absurd cause
+  unread_cause bytes left before rest kinds.NoImage cause = absurd cause
+  unread_cause bytes left before rest kinds.OtherKey cause = absurd cause
+  unread_cause bytes left before rest kinds.NoCompactKey cause = absurd cause
+  unread_cause bytes left before rest kinds.Header cause = absurd cause
+
+  -- a line that is not read
+  pub unread_fault : (start left : Option (List ℕ)) (before : List (List ℕ)) (number : ℕ) (kind : StoredKeyKind) → number ≡ suc (length before)
+      → IfSome start (λ bytes. IsNotRead bytes left before kind) → IfSome start (λ bytes. IsLineFault Cause bytes left before number kind)
+  unread_fault None left before number kind place unread = tt
+  unread_fault (Some bytes) left before number kind place unread = record {
+    rest = unread.rest;
+    lines = unread.lines;
+    place = place;
+    cause = unread_cause bytes left before unread.rest kind unread.cause;
   }
+
+  cause_there : (bytes : List ℕ) (left : Option (List ℕ)) (before later : List (List ℕ)) (line : List ℕ) (kind : StoredKeyKind) → Cause before line kind
+      → HasCause Cause bytes left before (line ∷ later) kind
+  cause_there bytes left before later line kinds.NoKey cause = cause
+  cause_there bytes left before later line kinds.NoImage cause = cause
+  cause_there bytes left before later line kinds.OtherKey cause = cause
+  cause_there bytes left before later line kinds.NoCompactKey cause = cause
+  cause_there bytes left before later line kinds.Header cause = cause
+  cause_there bytes left before later line kinds.TooLong cause = cause
+  cause_there bytes left before later line kinds.Read cause = absurd (are.no_read before line cause)
+  cause_there bytes left before later line kinds.Memory cause = cause
+
+  -- no cause of a line is the reader's
+  pub cause_of_line : (before : List (List ℕ)) (line : List ℕ) (kind : StoredKeyKind) → Cause before line kind → is_stored_key_read kind ≡ false
+  cause_of_line before line kinds.NoKey cause = refl
+  cause_of_line before line kinds.NoImage cause = refl
+  cause_of_line before line kinds.OtherKey cause = refl
+  cause_of_line before line kinds.NoCompactKey cause = refl
+  cause_of_line before line kinds.Header cause = refl
+  cause_of_line before line kinds.TooLong cause = refl
+  cause_of_line before line kinds.Read cause = absurd (are.no_read before line cause)
+  cause_of_line before line kinds.Memory cause = refl
+
+  -- the line that was read has a cause
+  pub line_fault : (start : Option (List ℕ)) (before : List (List ℕ)) (line : List ℕ) (lines : LinesState) (input : SourceState) (number : ℕ) (kind : StoredKeyKind)
+      → HasRead start (before ++ line ∷ []) lines input → Cause before line kind → number ≡ suc (length before)
+      → IfSome start (λ bytes. IsLineFault Cause bytes input.remaining before number kind)
+  line_fault start before line lines input number kind read cause place = go start (left_of lines input) read
+    where
+      go : (s o : Option (List ℕ)) → OnKnown s o (λ bytes left. IsAfter bytes left lines.at_end (before ++ line ∷ []))
+          → IfSome s (λ bytes. IsLineFault Cause bytes input.remaining before number kind)
+      go None o after = tt
+      go (Some bytes) None after = absurd after
+      go (Some bytes) (Some xs) after = record {
+        rest = line ∷ lines_of xs;
+        lines = after.lines ∙ append_assoc before (line ∷ []) (lines_of xs);
+        place = place;
+        cause = cause_there bytes input.remaining before (lines_of xs) line kind cause;
+      }
+
+-- what was read stays while the line changes
+pub read_stays : (start : Option (List ℕ)) (before : List (List ℕ)) (lines now : LinesState) (input : SourceState) → now.pending ≡ lines.pending
+    → now.at_end ≡ lines.at_end → HasRead start before lines input → HasRead start before now input
+read_stays start before lines now input pending at_end read =
+    subst₂ (λ (p : List ℕ) (e : Bool). HasRead start before (record { line = now.line; pending = p; at_end = e }) input) (sym pending) (sym at_end) read
+
+-- some lines come first
+pub begins_with : (start : Option (List ℕ)) (before : List (List ℕ)) (lines : LinesState) (input : SourceState) → HasRead start before lines input
+    → IfSome start (λ bytes. (rest : List (List ℕ)) × (lines_of bytes ≡ before ++ rest))
+begins_with start before lines input read = go start (left_of lines input) read
+  where
+    go : (s o : Option (List ℕ)) → OnKnown s o (λ bytes left. IsAfter bytes left lines.at_end before) → IfSome s (λ bytes. (rest : List (List ℕ)) × (lines_of bytes ≡ before ++ rest))
+    go None o after = tt
+    go (Some bytes) None after = absurd after
+    go (Some bytes) (Some xs) after = (lines_of xs, after.lines)
+
+-- nothing was read
+pub nothing_read : (known : Option (List ℕ)) (lines : LinesState) → lines.pending ≡ [] → lines.at_end ≡ false
+    → OnKnown known (prepend_known lines.pending known) (λ bytes left. IsAfter bytes left lines.at_end [])
+nothing_read None lines pending at_end = tt
+nothing_read (Some xs) lines pending at_end =
+    let none : xs ≡ lines.pending ++ xs = ap (λ l. l ++ xs) (sym pending) in
+    record {
+      parts = subst (λ (e : Bool). MatchBool e (lines.pending ++ xs ≡ []) (xs ≡ lines.pending ++ xs)) (sym at_end) none;
+      lines = ap lines_of none;
+    }
+
+-- ---- All lines, and those before an error
+
+-- all lines are some first lines
+pub of_all : (start : Option (List ℕ)) (before : List (List ℕ)) → IfSome start (λ bytes. lines_of bytes ≡ before)
+    → IfSome start (λ bytes. (rest : List (List ℕ)) × (lines_of bytes ≡ before ++ rest))
+of_all None before all = tt
+of_all (Some bytes) before all = ([], all ∙ sym (append-nil before))
+
+-- so are the lines before an error
+pub of_fault : (Cause : List (List ℕ) → List ℕ → StoredKeyKind → Type 0) (start left : Option (List ℕ)) (before : List (List ℕ)) (number : ℕ) (kind : StoredKeyKind)
+    → IfSome start (λ bytes. IsLineFault Cause bytes left before number kind) → IfSome start (λ bytes. (rest : List (List ℕ)) × (lines_of bytes ≡ before ++ rest))
+of_fault Cause None left before number kind fault = tt
+of_fault Cause (Some bytes) left before number kind fault = (fault.rest, fault.lines)

@@ -162,6 +162,8 @@ module _ (old : Option (List ℕ)) (pending : List ℕ) (rest : Option (List ℕ
     pub not_filled : (line : List ℕ) (kind : StoredKeyKind) → IsFillFault pending kind → FindsLine old (prepend_known later unread) unread line (Err kind)
     not_filled line kinds.NoKey fault = absurd fault
     not_filled line kinds.NoImage fault = absurd fault
+    not_filled line kinds.OtherKey fault = absurd fault
+    not_filled line kinds.NoCompactKey fault = absurd fault
     not_filled line kinds.Header fault = absurd fault
     not_filled line kinds.TooLong fault = absurd fault
     not_filled line kinds.Read fault = (pending, go old unread all_kept, lacks)

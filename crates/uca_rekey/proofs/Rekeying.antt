@@ -1,7 +1,7 @@
 -- The lines that were rekeyed so far, and the next one.
-use Rattle.std.proofs.Common.{◌≡◌, ℕ, suc, ◌+◌, Bool, true, false, List, [], ◌∷◌, ◌++◌, map, length, Option, Some, None, IfSome, Result, Ok, Err, inr, refl, ap, sym, subst, subst₂, ◌∙◌, append_assoc, append-nil, arith, length-append}
-use Rattle.std.specs.Prelude.{◌==◌, MatchBool}
-use Rattle.std.specs.Io.KnownBytes.{Appends, prepend_known}
+use Rattle.std.proofs.Common.{◌≡◌, ℕ, suc, ◌+◌, Bool, true, false, List, [], ◌∷◌, ◌++◌, map, length, Option, Some, None, IfSome, Result, Ok, Err, inl, inr, refl, ap, sym, subst, subst₂, ◌∙◌, append_assoc, append-nil, arith, length-append}
+use Rattle.std.specs.Prelude.{◌==◌}
+use Rattle.std.specs.Io.KnownBytes.{Appends}
 use Rattle.std.specs.List.{flat_map}
 use Rattle.std.specs.Option.{option_and_then}
 use Rattle.std.proofs.lemmas.Bool.{cond_both}
@@ -21,14 +21,13 @@ use Rattle.uca_run_parts.specs.declared.faults.RunFault.{RunFault}
 use Rattle.uca_run_parts.specs.declared.faults.RunFault.TheVariants.{File, Memory, StoredKey, Write}
 use Rattle.uca_run_parts.specs.declared.faults.StoredKeyKind.{StoredKeyKind}
 use Rattle.uca_run_parts.specs.declared.faults.StoredKeyKind.TheVariants as kinds
-use Rattle.uca_run_parts.specs.Input.{is_stored_key_read}
 use Rattle.uca_run_parts.specs.Runs.{PartWentOut, ended_by_output}
 use Rattle.uca_run_parts.proofs.Finishing.{count_is, piece_fails}
-use Rattle.uca_run_parts.specs.LinesSoFar.{OnKnown}
 use Rattle.uca_rekey.specs.RekeyedLines.{key_in, rekeyed_by, with_digits, with_key}
-use Rattle.uca_rekey.specs.RekeyRun.{AreRekeyed, HasCause, IsLineCause, IsLineFault, RunsRekey, WritesRekeyed}
-use Rattle.uca_rekey.specs.inside.LinesInPlace.{LinesState, HasRead, IsAfter, left_of}
-use Rattle.uca_rekey.specs.inside.RekeySoFar.{mover_of, moved_by, AreReplaced, IsBegun, HasNextLine, HasRekeyed, RekeysLine, RekeysRest, WritesLine, WritesReplaced, WrittenState}
+use Rattle.uca_rekey.specs.RekeyRun.{AreRekeyed, IsLineCause, IsLineFault, RunsRekey, WritesRekeyed}
+use Rattle.uca_rekey.specs.inside.LinesInPlace.{LinesState, IsKeyCause}
+use Rattle.uca_rekey.specs.inside.RekeySoFar.{mover_of, moved_by, AreReplaced, EndsIf, IsBegun, HasNextLine, HasRekeyed, RekeysLine, RekeysRest, WritesLine, WritesReplaced, WrittenState}
+use Rattle.uca_rekey.proofs.LinesRead.{AreCauses, begins_with, line_fault, nothing_read, of_all, of_fault}
 
 -- ---- The beginning
 
@@ -36,20 +35,11 @@ use Rattle.uca_rekey.specs.inside.RekeySoFar.{mover_of, moved_by, AreReplaced, I
 pub begun_so : (by mover : MoverState) (lines : LinesState) (written : WrittenState) (input : SourceState) (out : SinkState) → IsBegun by mover lines written
     → HasRekeyed (moved_by by) [] [] input.remaining out.contents [] [] lines input written out
 begun_so by mover lines written input out begun = record {
-  read = go input.remaining;
+  read = nothing_read input.remaining lines begun.pending begun.at_end;
   rekeyed = record { keyed = []; rekeyed = []; old = refl; now = refl; are = refl; sizes = refl };
   text = none_buffered out.contents written.buffer begun.held begun.count;
   count = begun.number;
 }
-  where
-    go : (known : Option (List ℕ)) → OnKnown known (prepend_known lines.pending known) (λ bytes left. IsAfter bytes left lines.at_end [])
-    go None = tt
-    go (Some xs) =
-        let none : xs ≡ lines.pending ++ xs = ap (λ l. l ++ xs) (sym begun.pending) in
-        record {
-          parts = subst (λ (e : Bool). MatchBool e (lines.pending ++ xs ≡ []) (xs ≡ lines.pending ++ xs)) (sym begun.at_end) none;
-          lines = ap lines_of none;
-        }
 
 -- the run goes by the maps of its certificate
 pub by_same : (by mover : MoverState) → mover ≡ by → (P : (List ℕ → Option (List ℕ)) → Type 0) → P (moved_by by) → P (moved_by mover)
@@ -69,6 +59,17 @@ pub not_before : (A B : Type 0) (fault : RunFault) → ended_before_input {A = A
 not_before A B (File role cause) h = h
 not_before A B Memory h = h
 not_before A B _ h = refl
+
+-- the key of a line is not read
+pub cause_by_key : (moved : List ℕ → Option (List ℕ)) (before : List (List ℕ)) (line : List ℕ) (kind : StoredKeyKind) → IsKeyCause line kind → IsLineCause moved before line kind
+cause_by_key moved before line kinds.NoKey cause = cause
+cause_by_key moved before line kinds.Memory cause = tt
+cause_by_key moved before line kinds.NoImage cause = absurd cause
+cause_by_key moved before line kinds.OtherKey cause = absurd cause
+cause_by_key moved before line kinds.NoCompactKey cause = absurd cause
+cause_by_key moved before line kinds.Header cause = absurd cause
+cause_by_key moved before line kinds.TooLong cause = absurd cause
+cause_by_key moved before line kinds.Read cause = absurd cause
 
 -- ---- Lengths
 
@@ -133,56 +134,9 @@ module _ (moved : List ℕ → Option (List ℕ)) where
 
   -- ---- The next line
 
-  -- what was read stays while the line changes
-  pub read_stays : (start : Option (List ℕ)) (before : List (List ℕ)) (lines now : LinesState) (input : SourceState) → now.pending ≡ lines.pending
-      → now.at_end ≡ lines.at_end → HasRead start before lines input → HasRead start before now input
-  read_stays start before lines now input pending at_end read =
-      subst₂ (λ (p : List ℕ) (e : Bool). HasRead start before (record { line = now.line; pending = p; at_end = e }) input) (sym pending) (sym at_end) read
-
-  cause_there : (bytes : List ℕ) (left : Option (List ℕ)) (before later : List (List ℕ)) (line : List ℕ) (kind : StoredKeyKind) → IsLineCause moved before line kind
-      → HasCause moved bytes left before (line ∷ later) kind
-  cause_there bytes left before later line kinds.NoKey cause = cause
-  cause_there bytes left before later line kinds.NoImage cause = cause
-  cause_there bytes left before later line kinds.Header cause = absurd cause
-  cause_there bytes left before later line kinds.TooLong cause = cause
-  cause_there bytes left before later line kinds.Read cause = absurd cause
-  cause_there bytes left before later line kinds.Memory cause = cause
-
-  -- no such cause is the reader's
-  pub cause_of_line : (before : List (List ℕ)) (line : List ℕ) (kind : StoredKeyKind) → IsLineCause moved before line kind → is_stored_key_read kind ≡ false
-  cause_of_line before line kinds.NoKey cause = refl
-  cause_of_line before line kinds.NoImage cause = refl
-  cause_of_line before line kinds.Header cause = absurd cause
-  cause_of_line before line kinds.TooLong cause = refl
-  cause_of_line before line kinds.Read cause = absurd cause
-  cause_of_line before line kinds.Memory cause = refl
-
-  -- the line that was read is not rekeyed
-  pub line_fault : (start : Option (List ℕ)) (before : List (List ℕ)) (line : List ℕ) (lines : LinesState) (input : SourceState) (number : ℕ) (kind : StoredKeyKind)
-      → HasRead start (before ++ line ∷ []) lines input → IsLineCause moved before line kind → number ≡ suc (length before)
-      → IfSome start (λ bytes. IsLineFault moved bytes input.remaining before number kind)
-  line_fault start before line lines input number kind read cause place = go start (left_of lines input) read
-    where
-      go : (s o : Option (List ℕ)) → OnKnown s o (λ bytes left. IsAfter bytes left lines.at_end (before ++ line ∷ []))
-          → IfSome s (λ bytes. IsLineFault moved bytes input.remaining before number kind)
-      go None o after = tt
-      go (Some bytes) None after = absurd after
-      go (Some bytes) (Some xs) after = record {
-        rest = line ∷ lines_of xs;
-        lines = after.lines ∙ append_assoc before (line ∷ []) (lines_of xs);
-        place = place;
-        cause = cause_there bytes input.remaining before (lines_of xs) line kind cause;
-      }
-
-  -- some lines come first
-  pub begins_with : (start : Option (List ℕ)) (before : List (List ℕ)) (lines : LinesState) (input : SourceState) → HasRead start before lines input
-      → IfSome start (λ bytes. (rest : List (List ℕ)) × (lines_of bytes ≡ before ++ rest))
-  begins_with start before lines input read = go start (left_of lines input) read
-    where
-      go : (s o : Option (List ℕ)) → OnKnown s o (λ bytes left. IsAfter bytes left lines.at_end before) → IfSome s (λ bytes. (rest : List (List ℕ)) × (lines_of bytes ≡ before ++ rest))
-      go None o after = tt
-      go (Some bytes) None after = absurd after
-      go (Some bytes) (Some xs) after = (lines_of xs, after.lines)
+  -- why a line is not rekeyed
+  pub line_causes : AreCauses (IsLineCause moved)
+  line_causes = record { long = λ before line long. inl long; memory = λ before line. tt; no_read = λ before line never. never }
 
   -- ---- The end
 
@@ -199,29 +153,11 @@ module _ (moved : List ℕ → Option (List ℕ)) where
         go None first = tt
         go (Some bytes) first = (before, new, first.0, first.1, are, flush (flat_map ended new) text)
 
-    -- all lines are some first lines
-    of_all : (before : List (List ℕ)) → IfSome start (λ bytes. lines_of bytes ≡ before) → IfSome start (λ bytes. (rest : List (List ℕ)) × (lines_of bytes ≡ before ++ rest))
-    of_all before all = go start all
-      where
-        go : (s : Option (List ℕ)) → IfSome s (λ bytes. lines_of bytes ≡ before) → IfSome s (λ bytes. (rest : List (List ℕ)) × (lines_of bytes ≡ before ++ rest))
-        go None all = tt
-        go (Some bytes) all = ([], all ∙ sym (append-nil before))
-
-    -- so are the lines before an error
-    of_fault : (input : SourceState) (before : List (List ℕ)) (number : ℕ) (kind : StoredKeyKind) → IfSome start (λ bytes. IsLineFault moved bytes input.remaining before number kind)
-        → IfSome start (λ bytes. (rest : List (List ℕ)) × (lines_of bytes ≡ before ++ rest))
-    of_fault input before number kind fault = go start fault
-      where
-        go : (s : Option (List ℕ)) → IfSome s (λ bytes. IsLineFault moved bytes input.remaining before number kind)
-            → IfSome s (λ bytes. (rest : List (List ℕ)) × (lines_of bytes ≡ before ++ rest))
-        go None fault = tt
-        go (Some bytes) fault = (fault.rest, fault.lines)
-
     -- what waited did not go out whole
     pub not_flushed : (input : SourceState) (end : Result (Unit {0}) RunFault) → RekeysRest moved from to start begun input buffer out end → ended_by_output end ≡ false
         → IfSome start (λ bytes. WritesReplaced {A = Unit {0}} moved from to bytes left begun now.contents (Err (Write written)))
-    not_flushed input (Ok x) rest no_write = first_lines rest.0 rest.1 (of_all rest.0 rest.2) rest.3 rest.4
-    not_flushed input (Err (StoredKey number kind)) rest no_write = first_lines rest.0 rest.1 (of_fault input rest.0 number kind rest.2) rest.3 rest.4
+    not_flushed input (Ok x) rest no_write = first_lines rest.0 rest.1 (of_all start rest.0 rest.2) rest.3 rest.4
+    not_flushed input (Err (StoredKey number kind)) rest no_write = first_lines rest.0 rest.1 (of_fault (IsLineCause moved) start input.remaining rest.0 number kind rest.2) rest.3 rest.4
     not_flushed input (Err (Write count)) rest no_write = let never : ⊥ = cc in absurd never
     not_flushed input (Err _) rest no_write = absurd rest
 
@@ -250,12 +186,30 @@ module _ (moved : List ℕ → Option (List ℕ)) where
         go (Some bytes) all = (rest.1, subst (λ (ls : List (List ℕ)). AreReplaced moved from to ls rest.1) (sym all) rest.3, flush (flat_map ended rest.1) rest.4)
     all_flushed now (Err (StoredKey number kind)) flush rest no_write = go start rest.2
       where
-        go : (s : Option (List ℕ)) → IfSome s (λ bytes. IsLineFault moved bytes input.remaining rest.0 number kind)
+        go : (s : Option (List ℕ)) → IfSome s (λ bytes. IsLineFault (IsLineCause moved) bytes input.remaining rest.0 number kind)
             → IfSome s (λ bytes. WritesReplaced {A = Unit {0}} moved from to bytes input.remaining begun now.contents (Err (StoredKey number kind)))
         go None fault = tt
         go (Some bytes) fault = (rest.0, rest.1, fault, rest.3, flush (flat_map ended rest.1) rest.4)
     all_flushed now (Err (Write written)) flush rest no_write = let never : ⊥ = cc in absurd never
     all_flushed now (Err _) flush rest no_write = absurd rest
+
+  -- what is returned and left at the end
+  pub ends_replaced : (from to : List (List ℕ)) (start begun : Option (List ℕ)) (input : SourceState) (out now : SinkState) (buffer : BufferState) (end result : Result (Unit {0}) RunFault)
+      → RekeysRest moved from to start begun input buffer out end → EndsIf (ended_by_output end) buffer out now end result
+      → IfSome start (λ bytes. WritesReplaced moved from to bytes input.remaining begun now.contents result)
+  ends_replaced from to start begun input out now buffer end result rest ends = go (ended_by_output end) refl ends
+    where
+      go : (b : Bool) → ended_by_output end ≡ b → EndsIf b buffer out now end result
+          → IfSome start (λ bytes. WritesReplaced moved from to bytes input.remaining begun now.contents result)
+      go true write ended =
+          subst₂ (λ (r : Result (Unit {0}) RunFault) (s : SinkState). IfSome start (λ bytes. WritesReplaced moved from to bytes input.remaining begun s.contents r))
+          (sym ended.0) (sym ended.1) (had_failed from to start begun input out buffer end rest write)
+      go false none (inl whole) =
+          subst (λ (r : Result (Unit {0}) RunFault). IfSome start (λ bytes. WritesReplaced moved from to bytes input.remaining begun now.contents r))
+          (sym whole.0) (all_flushed from to start begun input out buffer now end (whole.1 begun) rest none)
+      go false none (inr part) =
+          subst (λ (r : Result (Unit {0}) RunFault). IfSome start (λ bytes. WritesReplaced moved from to bytes input.remaining begun now.contents r))
+          (sym part.1) (not_flushed from to start begun input.remaining out now buffer part.0 (part.2 begun) input end rest none)
 
   -- where nothing comes first, all lines are rekeyed
   all_keyed : (lines new : List (List ℕ)) → AreReplaced moved [] [] lines new → AreRekeyed moved lines new
@@ -319,7 +273,7 @@ module _ (moved : List ℕ → Option (List ℕ)) where
           let text = subst (λ (w : WrittenState). IsBuffered begun out.contents (flat_map ended new) w.buffer) (sym stops.3) so_far.text in (
             before,
             new,
-            line_fault start before next.0 after now number kind next.1 too_long (stops.0 ∙ ap suc so_far.count),
+            line_fault (IsLineCause moved) line_causes start before next.0 after now number kind next.1 too_long (stops.0 ∙ ap suc so_far.count),
             so_far.rekeyed,
             subst (λ (s : SinkState). IsBuffered begun s.contents (flat_map ended new) held.buffer) (sym stops.4) text,
           )

@@ -19,7 +19,7 @@ use Rattle.uca_run_parts.specs.declared.faults.StoredKeyKind.TheVariants as kind
 use Rattle.uca_run_parts.specs.EachLine.{PrintsEach}
 use Rattle.uca_run_parts.specs.Runs.{PartWentOut}
 use Rattle.uca_run_parts.specs.ReadFiles.{certificate_file}
-use Rattle.uca_rekey.specs.RekeyRun.{AreRekeyed, Begins, FailsAfter, IsLineFault, IsTooLong}
+use Rattle.uca_rekey.specs.RekeyRun.{AreRekeyed, Begins, FailsAfter, IsLineCause, IsLineFault, IsTooLong}
 
 -- ---- The header
 
@@ -46,7 +46,7 @@ WritesHeaded moved from to bytes left begun now (Ok x) =
     (lines new : List (List ℕ)) × (lines_of bytes ≡ from ∷ lines) × AreRekeyed moved lines new × Appends begun now (flat_map ended (to ∷ new))
 WritesHeaded moved from to bytes left begun now (Err (StoredKey number kind)) =
     ((number ≡ 1) × HasHeaderCause from bytes left (lines_of bytes) kind × (now ≡ begun))
-    ⊎ ((lines new : List (List ℕ)) × IsLineFault moved bytes left (from ∷ lines) number kind × AreRekeyed moved lines new × Appends begun now (flat_map ended (to ∷ new)))
+    ⊎ ((lines new : List (List ℕ)) × IsLineFault (IsLineCause moved) bytes left (from ∷ lines) number kind × AreRekeyed moved lines new × Appends begun now (flat_map ended (to ∷ new)))
 WritesHeaded moved from to bytes left begun now (Err (Write written)) =
     (lines new rest : List (List ℕ)) × (lines_of bytes ≡ from ∷ lines ++ rest) × AreRekeyed moved lines new × PartWentOut begun now (flat_map ended (to ∷ new)) written
 WritesHeaded moved from to bytes left begun now (Err _) = ⊥

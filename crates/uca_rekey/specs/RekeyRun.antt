@@ -33,14 +33,15 @@ AreRekeyed moved lines new = map (rekeyed_by moved) lines ≡ map (λ line. Some
 abbrev pub IsTooLong : List (List ℕ) → List ℕ → Type 0
 IsTooLong before line = (2 ^ 30 < length line) ⊎ (2 ^ 63 < length (flat_map ended before) + length (ended line))
 
--- why a line after these is not rekeyed; an allocation may fail at any line, and no line has to be a header
+-- why a line after these is not rekeyed; an allocation may fail at any line
 abbrev pub IsLineCause : (List ℕ → Option (List ℕ)) → List (List ℕ) → List ℕ → StoredKeyKind → Type 0
 IsLineCause moved before line kinds.NoKey = key_in line ≡ None
 IsLineCause moved before line kinds.NoImage = IsSomeAnd (key_in line) (λ key. moved key ≡ None)
-IsLineCause moved before line kinds.Header = ⊥
 IsLineCause moved before line kinds.TooLong = IsTooLong before line
-IsLineCause moved before line kinds.Read = ⊥
 IsLineCause moved before line kinds.Memory = ⊤
+IsLineCause moved before line _ = ⊥
+
+-- ---- An error at a line, whatever its causes are
 
 -- the first of these lines has the property
 abbrev pub Begins : List (List ℕ) → (List ℕ → Type 0) → Type 0
@@ -53,17 +54,17 @@ pub record FailsAfter (bytes left : List ℕ) (before : List (List ℕ)) : Type 
   pub parts : bytes ≡ flat_map ended before ++ (part ++ left)
   pub lacks : Lacks is_lf part
 
--- why the line after these is not rekeyed, or not read
-abbrev pub HasCause : (List ℕ → Option (List ℕ)) → List ℕ → Option (List ℕ) → List (List ℕ) → List (List ℕ) → StoredKeyKind → Type 0
-HasCause moved bytes left before rest kinds.Read = IsSomeAnd left (λ unread. FailsAfter bytes unread before)
-HasCause moved bytes left before rest kind = Begins rest (λ line. IsLineCause moved before line kind)
+-- why the line after these is not read, or has a cause of its own: `Cause` says why a line after others has none
+abbrev pub HasCause : (List (List ℕ) → List ℕ → StoredKeyKind → Type 0) → List ℕ → Option (List ℕ) → List (List ℕ) → List (List ℕ) → StoredKeyKind → Type 0
+HasCause Cause bytes left before rest kinds.Read = IsSomeAnd left (λ unread. FailsAfter bytes unread before)
+HasCause Cause bytes left before rest kind = Begins rest (λ line. Cause before line kind)
 
 -- An error at line `number` of these bytes, whose source has something left: these lines come before it, and it has this cause.
-pub record IsLineFault (moved : List ℕ → Option (List ℕ)) (bytes : List ℕ) (left : Option (List ℕ)) (before : List (List ℕ)) (number : ℕ) (kind : StoredKeyKind) : Type 0 where
+pub record IsLineFault (Cause : List (List ℕ) → List ℕ → StoredKeyKind → Type 0) (bytes : List ℕ) (left : Option (List ℕ)) (before : List (List ℕ)) (number : ℕ) (kind : StoredKeyKind) : Type 0 where
   pub rest : List (List ℕ)
   pub lines : lines_of bytes ≡ before ++ rest
   pub place : number ≡ suc (length before)
-  pub cause : HasCause moved bytes left before rest kind
+  pub cause : HasCause Cause bytes left before rest kind
 
 -- ---- The run
 
@@ -73,7 +74,7 @@ abbrev pub WritesRekeyed : {A : Type 0} → (List ℕ → Option (List ℕ)) →
 WritesRekeyed moved bytes left begun now (Ok x) =
     (new : List (List ℕ)) × AreRekeyed moved (lines_of bytes) new × Appends begun now (flat_map ended new)
 WritesRekeyed moved bytes left begun now (Err (StoredKey number kind)) =
-    (before new : List (List ℕ)) × IsLineFault moved bytes left before number kind × AreRekeyed moved before new × Appends begun now (flat_map ended new)
+    (before new : List (List ℕ)) × IsLineFault (IsLineCause moved) bytes left before number kind × AreRekeyed moved before new × Appends begun now (flat_map ended new)
 WritesRekeyed moved bytes left begun now (Err (Write written)) =
     (before new rest : List (List ℕ)) × (lines_of bytes ≡ before ++ rest) × AreRekeyed moved before new × PartWentOut begun now (flat_map ended new) written
 WritesRekeyed moved bytes left begun now (Err _) = ⊥

@@ -1,2 +1,3 @@
 pub mod LinesInPlace
 pub mod RekeySoFar
+pub mod ChangeSoFar

@@ -6,6 +6,7 @@ ghost use Rattle.uca_lines.specs.Numbers.{upper_digit};
 ghost use Rattle.uca_run_parts.specs.Print.{byte_digits};
 ghost use Rattle.uca_rekey.specs.RekeyedLines.{digits_of, key_in, rekeyed_by, with_digits, with_key};
 ghost use Rattle.uca_rekey.specs.RekeyRun.{IsLineCause};
+ghost use Rattle.uca_rekey.specs.inside.LinesInPlace.{IsKeyCause};
 ghost use Rattle.uca_rekey.specs.inside.RekeySoFar.{moved_by};
 
 use std::alloc::Allocator;
@@ -35,10 +36,14 @@ pub(crate) fn rekey_line<M: Allocator, A: Allocator>(
     Ok(())
 }
 
-// Reads the key of a line over the bytes that were there.
-fn read_key<A: Allocator>(line: &[u8], key: &mut Vec<u8, A>) -> Result<(), StoredKeyKind>
+/// Reads the key of a line over the bytes that were there.
+///
+/// # Errors
+///
+/// `NoKey` if the line begins with no key. `Memory` if an allocation failed.
+pub(crate) fn read_key<A: Allocator>(line: &[u8], key: &mut Vec<u8, A>) -> Result<(), StoredKeyKind>
     ensures key { OnOk result (key_in line.now ≡ Some key.new.items) }
-    ensures cause { (moved : List ℕ → Option (List ℕ)) (before : List (List ℕ)) → IfErr result (IsLineCause moved before line.now) }
+    ensures cause { IfErr result (IsKeyCause line.now) }
 {
     key.clear();
     let mut text = line;
@@ -108,9 +113,9 @@ fn write_digit(line: &mut [u8], at: usize, value: u8) -> usize
     at + 1
 }
 
-// The digit of a value.
+/// The digit of a value.
 #[inline]
-fn digit(value: u8) -> u8
+pub(crate) fn digit(value: u8) -> u8
     requires { value < 16 }
     ensures { result ≡ upper_digit value }
 {

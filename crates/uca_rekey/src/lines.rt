@@ -8,7 +8,7 @@ ghost use Rattle.uca_lines.specs.Lines.{is_lf, Lacks};
 ghost use Rattle.uca_rekey.specs.inside.LinesInPlace.{EndsAs, FindsLine, HasRead, IsFillFault, IsFirstLine, IsLast, ReadsLine, is_read, left_of};
 ghost use Rattle.uca_rekey.specs.RekeyedLines.{rekeyed_by};
 ghost use Rattle.uca_rekey.specs.RekeyRun.{IsLineCause};
-ghost use Rattle.uca_rekey.specs.inside.RekeySoFar.{IsUnread, ReadsHeader, moved_by};
+ghost use Rattle.uca_rekey.specs.inside.RekeySoFar.{ReadsHeader, moved_by};
 
 use crate::line::rekey_line;
 use memchr::memchr;
@@ -112,10 +112,9 @@ impl<A: Allocator> KeyLines<A> {
     ///
     /// `TooLong` if the line has more than `LONGEST_LINE` bytes, `Read` if the source failed, and `Memory` if an allocation failed.
     pub fn next<R: Read>(&mut self, source: &mut Source<R>) -> Result<bool, StoredKeyKind>
-        ensures reads { (moved : List ℕ → Option (List ℕ)) (start : Option (List ℕ)) (before : List (List ℕ)) →
+        ensures reads { (start : Option (List ℕ)) (before : List (List ℕ)) →
             HasRead start before self.old source.old →
-            ReadsLine moved start before self.new source.new result }
-        ensures unread { IfErr result IsUnread }
+            ReadsLine start before self.new source.new result }
         ensures failed { source.new.failed ≡ (source.old.failed || is_read result) }
     {
         if self.at_end {

@@ -1,10 +1,9 @@
 //! The lines that a run writes: how many there are, and how many bytes they have.
 
-ghost use Rattle.std.specs.Prelude.{◌≡◌, ◌^◌, ◌≤◌, ◌||◌, [], ℕ, Bool, List, Option, IfSome, false, length};
-ghost use Rattle.uca_weights.specs.Streams.{SourceState};
+ghost use Rattle.std.specs.Prelude.{◌≡◌, ◌^◌, ◌≤◌, ◌||◌, [], ℕ, Bool, false, length};
 ghost use Rattle.uca_run_parts.specs.EachLine.{ended_before_input};
 ghost use Rattle.uca_run_parts.specs.Runs.{ended_by_output, is_input_read};
-ghost use Rattle.uca_rekey.specs.inside.RekeySoFar.{RekeysRest, WritesLine, WritesReplaced};
+ghost use Rattle.uca_rekey.specs.inside.RekeySoFar.{EndsIf, WritesLine};
 
 use std::io::Write;
 use std::marker::Model;
@@ -102,9 +101,7 @@ impl WrittenLines {
         out: &mut Sink<W>,
         end: Result<(), RunFault>,
     ) -> Result<(), RunFault>
-        ensures writes { (moved : List ℕ → Option (List ℕ)) (from to : List (List ℕ)) (start begun : Option (List ℕ)) (input : SourceState) →
-            RekeysRest moved from to start begun input self.old.buffer out.old end →
-            IfSome start (λ bytes. WritesReplaced moved from to bytes input.remaining begun out.new.contents result) }
+        ensures ends { EndsIf (ended_by_output end) self.old.buffer out.old out.new end result }
         ensures of_lines { ended_before_input end ≡ false → ended_before_input result ≡ false }
         ensures not_read { ended_by_output result ≡ false → is_input_read result ≡ is_input_read end }
         ensures failed { (before : Bool) → out.old.failed ≡ (before || ended_by_output end) →

@@ -25,6 +25,7 @@ same_role roles.OldData = refl
 same_role roles.New = refl
 same_role roles.NewData = refl
 same_role roles.Changes = refl
+same_role roles.Book = refl
 
 -- an error of this role is a failed read if its cause is one
 pub read_of_role : (role : Role) (new old reads : Bool) → new ≡ (old || reads) → new ≡ (old || (is_role role role && reads))

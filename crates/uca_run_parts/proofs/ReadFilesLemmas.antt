@@ -98,6 +98,7 @@ same_from_role roles.OldData roles.OldData h = refl
 same_from_role roles.New roles.New h = refl
 same_from_role roles.NewData roles.NewData h = refl
 same_from_role roles.Changes roles.Changes h = refl
+same_from_role roles.Book roles.Book h = refl
 same_from_role _ _ h = let never : ⊥ = cc in absurd never
 
 -- an error that may be of this file is none of roles apart from it

@@ -32,6 +32,8 @@ input_kind_text input_kind.Memory = codes "Memory"
 abbrev pub stored_key_text : StoredKeyKind → List ℕ
 stored_key_text stored_key.NoKey = codes "NoKey"
 stored_key_text stored_key.NoImage = codes "NoImage"
+stored_key_text stored_key.OtherKey = codes "OtherKey"
+stored_key_text stored_key.NoCompactKey = codes "NoCompactKey"
 stored_key_text stored_key.Header = codes "Header"
 stored_key_text stored_key.TooLong = codes "TooLong"
 stored_key_text stored_key.Read = codes "Read"

@@ -6,6 +6,8 @@ use Rattle.uca_values.specs.declared.faults.TableFault.{TableFault}
 use Rattle.uca_lines.specs.FileStops as lines
 use Rattle.uca_table.specs.TableLines as tables
 use Rattle.uca_table.specs.DataSoFar as data_files
+use Rattle.uca_books.specs.Books.{BookContent}
+use Rattle.uca_books.specs.BookTexts as books
 use Rattle.uca_relations.specs.declared.Relation.{Relation}
 use Rattle.uca_rules.specs.Meaning as rule_files
 use Rattle.uca_rules.specs.Faults as rule_faults
@@ -36,6 +38,7 @@ is_role roles.OldData roles.OldData = true
 is_role roles.New roles.New = true
 is_role roles.NewData roles.NewData = true
 is_role roles.Changes roles.Changes = true
+is_role roles.Book roles.Book = true
 is_role _ _ = false
 
 -- why the file of this role was rejected, where the run ended by that
@@ -168,6 +171,10 @@ RefusesCertificate bytes left _ = ⊥
 -- a certificate comes next
 abbrev pub then_certificate : {C : Type 0} → (CertificateContent → Reading C) → Reading C
 then_certificate next = Then roles.Certificate certificates.Means RefusesCertificate next
+
+-- a book does
+abbrev pub then_book : {C : Type 0} → (BookContent → Reading C) → Reading C
+then_book next = Then roles.Book books.Means (OfLines books.Refuses) next
 
 -- ---- A table and a data file
 

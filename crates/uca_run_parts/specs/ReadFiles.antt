@@ -5,13 +5,14 @@ use Rattle.uca_weights.specs.Streams.{SourceState}
 use Rattle.uca_values.specs.Content.{Properties, TableContent}
 use Rattle.uca_relations.specs.declared.Relation.{Relation}
 use Rattle.uca_certificates.specs.Certificates.{CertificateContent}
+use Rattle.uca_books.specs.Books.{BookContent}
 use Rattle.uca_run_parts.specs.declared.faults.FileFault.{FileFault}
 use Rattle.uca_run_parts.specs.declared.faults.FileFault.TheVariants.{RulesRead, RulesMemory}
 use Rattle.uca_run_parts.specs.declared.faults.RunFault.{RunFault}
 use Rattle.uca_run_parts.specs.declared.faults.RunFault.TheVariants.{File}
 use Rattle.uca_run_parts.specs.declared.faults.Role.{Role}
 use Rattle.uca_run_parts.specs.declared.faults.Role.TheVariants as roles
-use Rattle.uca_run_parts.specs.Files.{DataAndRules, HaveFailed, IsStop, Mean, Over, Reading, TailorContent, Done, ended_by_file, tailor_content, then_certificate, then_data, then_rules, then_table}
+use Rattle.uca_run_parts.specs.Files.{DataAndRules, HaveFailed, IsStop, Mean, Over, Reading, TailorContent, Done, ended_by_file, tailor_content, then_book, then_certificate, then_data, then_rules, then_table}
 
 -- ---- What is read
 
@@ -34,7 +35,7 @@ pub record ReadsFiles {A C : Type 0} (reading : Reading C) (of : List Role) (old
   pub of_files : ended_by_file result ≡ is_err result
   pub failed : HaveFailed of olds news result
 
--- one file: a table of this role, a data file of it, rules, or a certificate
+-- one file: a table of this role, a data file of it, rules, a certificate, or a book
 abbrev pub table_file : Role → Reading TableContent
 table_file role = then_table role Done
 
@@ -46,6 +47,9 @@ rules_file properties = then_rules properties Done
 
 abbrev pub certificate_file : Reading CertificateContent
 certificate_file = then_certificate Done
+
+abbrev pub book_file : Reading BookContent
+book_file = then_book Done
 
 -- of known bytes that mean a value, this is what is read, unless the reading stops
 abbrev pub ReadsThat : {V : Type 0} → Option (List ℕ) → (List ℕ → V → Type 0) → Result V RunFault → Type 0

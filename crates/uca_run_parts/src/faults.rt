@@ -44,6 +44,8 @@ pub enum Role {
     NewData,
     /// The file of changes.
     Changes,
+    /// The book that compact keys are written by.
+    Book,
 }
 
 impl Role {
@@ -63,6 +65,7 @@ impl Role {
             Role::New => "new",
             Role::NewData => "new-data",
             Role::Changes => "changes",
+            Role::Book => "book",
         }
     }
 }
@@ -126,6 +129,10 @@ pub enum StoredKeyKind {
     NoKey,
     /// Its key has no key under the new table: a weight has no image, or its levels do not fit the weighting and the depth.
     NoImage,
+    /// Its key is none of this weighting and depth, so it has no compact key.
+    OtherKey,
+    /// Its bytes are no compact key: under the book, the weighting and the depth no key has them.
+    NoCompactKey,
     /// It is the first line, and is not the header that has to come before the keys; or there is no line at all.
     Header,
     /// It has more bytes than a line may have.
@@ -145,6 +152,8 @@ impl StoredKeyKind {
         match self {
             StoredKeyKind::NoKey => "NoKey",
             StoredKeyKind::NoImage => "NoImage",
+            StoredKeyKind::OtherKey => "OtherKey",
+            StoredKeyKind::NoCompactKey => "NoCompactKey",
             StoredKeyKind::Header => "Header",
             StoredKeyKind::TooLong => "TooLong",
             StoredKeyKind::Read => "Read",
@@ -164,7 +173,7 @@ impl fmt::Display for StoredKeyKind {
 /// Where a file is rejected, and why. Its text follows the name of the role of the file.
 #[derive(Clone, Copy, PartialEq, Eq, Error)]
 pub enum FileFault {
-    /// In a line of a table, of a data file or of a file of changes: `line 7: Range`.
+    /// In a line of a table, of a data file, of a file of changes or of a book: `line 7: Range`.
     #[error(transparent)]
     Lines(TableFault),
     /// At a byte of rules: `byte 7: Syntax`.

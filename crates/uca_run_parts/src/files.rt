@@ -1,13 +1,14 @@
-//! The files that a run uses: a table and a data file, each of them alone, and a certificate.
+//! The files that a run uses: a table and a data file, each of them alone, a certificate, and a book.
 
 ghost use Rattle.std.specs.Prelude.{◌≡◌, ◌∷◌, []};
 ghost use Rattle.uca_values.specs.Content.{properties_of};
 ghost use Rattle.uca_run_parts.specs.Files.{table_and_data, table_and_data_roles, table_with};
-ghost use Rattle.uca_run_parts.specs.ReadFiles.{ReadsFiles, certificate_file, data_file, table_file};
+ghost use Rattle.uca_run_parts.specs.ReadFiles.{ReadsFiles, book_file, certificate_file, data_file, table_file};
 
 use crate::faults::{FileFault, Role, RunFault};
 use std::alloc::{Allocator, Global};
 use std::io::Read;
+use uca_books::{Book, read_book};
 use uca_certificates::{Certificate, read_certificate};
 use uca_table::{read_data, read_table};
 use uca_values::{Data, Table};
@@ -106,6 +107,26 @@ pub fn read_certificate_file<A: Allocator + Copy, C: Read>(
         Err(fault) => Err(RunFault::File {
             role: Role::Certificate,
             fault: FileFault::Certificate(fault),
+        }),
+    }
+}
+
+/// Reads a book, to its end or its first error.
+///
+/// # Errors
+///
+/// `File` with the role `Book`, if it is rejected.
+pub fn read_book_file<A: Allocator + Copy, B: Read>(
+    alloc: A,
+    source: &mut Source<B>,
+) -> Result<Book<A>, RunFault>
+    ensures { ReadsFiles book_file (Role.Book ∷ []) (source.old ∷ []) (source.new ∷ []) (λ book. book) result }
+{
+    match read_book(alloc, source) {
+        Ok(book) => Ok(book),
+        Err(fault) => Err(RunFault::File {
+            role: Role::Book,
+            fault: FileFault::Lines(fault),
         }),
     }
 }

@@ -21,4 +21,4 @@ pub mod tailor_files;
 pub use affected::{Affects, print_affected, run_affected, run_affected_in};
 pub use check::run_check;
 pub use faults::{FileFault, InputKind, Role, RunFault, StoredKeyKind};
-pub use files::{read_certificate_file, read_data_file, read_table_file};
+pub use files::{read_book_file, read_certificate_file, read_data_file, read_table_file};

@@ -75,6 +75,16 @@ audit_changes_app = with_rule (with_rule (with_editions (new_app (codes "audit-c
 abbrev pub rekey_app : App
 rekey_app = with_rule (with_rule (with_rule (with_settings (new_app (codes "rekey"))) (value_rule (codes "from"))) (value_rule (codes "to"))) (word_rule (codes "certificate"))
 
+-- `[--weighting W] [--identical] BOOK` come next
+abbrev pub with_book : App → App
+with_book app = with_rule (with_settings app) (word_rule (codes "book"))
+
+abbrev pub compact_app : App
+compact_app = with_book (new_app (codes "compact"))
+
+abbrev pub expand_app : App
+expand_app = with_book (new_app (codes "expand"))
+
 -- `fingerprint [--weighting W] [--identical] TABLE DATA`
 abbrev pub fingerprint_app : App
 fingerprint_app = with_options (new_app (codes "fingerprint"))
@@ -86,7 +96,7 @@ bare_app = on_top (λ s. record s { subcommand_required = true; has_version = tr
 
 -- the subcommands, in the order of the help
 abbrev pub subcommands : List App
-subcommands = check_app ∷ keys_app ∷ sort_app ∷ compare_app ∷ tailor_app ∷ audit_app ∷ affected_app ∷ changes_app ∷ audit_changes_app ∷ rekey_app ∷ fingerprint_app ∷ []
+subcommands = check_app ∷ keys_app ∷ sort_app ∷ compare_app ∷ tailor_app ∷ audit_app ∷ affected_app ∷ changes_app ∷ audit_changes_app ∷ rekey_app ∷ compact_app ∷ expand_app ∷ fingerprint_app ∷ []
 
 abbrev pub uca_app : App
 uca_app = fold (λ app sub. with_subcommand app sub.top) bare_app subcommands
@@ -98,6 +108,10 @@ line_app = with_subcommand (with_subcommand (with_subcommand (with_subcommand ba
 -- and with those of tailorings after them: only private contracts cite this
 abbrev pub rules_app : App
 rules_app = with_subcommand (with_subcommand (with_subcommand line_app tailor_app.top) audit_app.top) affected_app.top
+
+-- and with those of changes after them: only private contracts cite this
+abbrev pub changing_app : App
+changing_app = with_subcommand (with_subcommand (with_subcommand rules_app changes_app.top) audit_changes_app.top) rekey_app.top
 
 -- a parse reads the command so, and no argument of it is global: only private contracts cite this
 pub record StandsFor (app : App) (command : Command) : Type 0 where

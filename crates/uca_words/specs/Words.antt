@@ -14,6 +14,7 @@ use Rattle.uca_weights.specs.WeightingText.{weighting_text, IsNoWeighting}
 use Rattle.uca_words.specs.declared.WordFault.{WordFault}
 use Rattle.uca_words.specs.declared.WordFault.TheVariants.{Refused, Weighting, Fingerprint, Memory}
 use Rattle.uca_words.specs.Command.{uca_app}
+use Rattle.uca_words.specs.declared.BookWords.{BookWords}
 use Rattle.uca_words.specs.declared.EditionNames.{EditionNames}
 use Rattle.uca_words.specs.declared.Fingerprints.{Fingerprints}
 use Rattle.uca_words.specs.declared.Words.{Words}
@@ -47,6 +48,10 @@ HasEditions rows names =
     HasWord rows (codes "old") names.old × HasWord rows (codes "old-data") names.old_data
     × HasWord rows (codes "new") names.new × HasWord rows (codes "new-data") names.new_data
 
+-- the weighting and the depth that are given, and a book
+abbrev pub HasBook : List Row → BookWords → Type 0
+HasBook rows words = HasWeighting rows words.weighting × HasDepth rows words.depth × HasWord rows (codes "book") words.book
+
 -- the subcommand of this name, with these rows of its arguments, says these `Words`
 abbrev pub Says : Text → List Row → Words → Type 0
 Says name rows (words.Check words) = (name ≡ codes "check") × HasFiles rows words.table words.properties
@@ -75,6 +80,8 @@ Says name rows (words.AuditChanges words) =
 Says name rows (words.Rekey words) =
     (name ≡ codes "rekey") × HasWeighting rows words.weighting × HasDepth rows words.depth × HasFingerprints rows words.fingerprints
     × HasWord rows (codes "certificate") words.certificate
+Says name rows (words.Compact words) = (name ≡ codes "compact") × HasBook rows words
+Says name rows (words.Expand words) = (name ≡ codes "expand") × HasBook rows words
 Says name rows (words.Fingerprint words) =
     (name ≡ codes "fingerprint") × HasWeighting rows words.weighting × HasDepth rows words.depth × HasFiles rows words.table words.properties
 

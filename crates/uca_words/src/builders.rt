@@ -2,10 +2,12 @@
 
 ghost use Rattle.std.specs.Prelude.{◌≡◌, false, IfOk};
 ghost use Rattle.clap.specs.Words.{App, new_app, rule_of};
-ghost use Rattle.uca_words.specs.Command.{StandsFor, bare_app, line_app, rules_app, uca_app};
+ghost use Rattle.uca_words.specs.Command.{StandsFor, bare_app, changing_app, line_app, rules_app, uca_app};
 ghost use Rattle.uca_words.specs.inside.Subcommands.{argument_rule, subcommand_app, with_one, with_subcommands};
 
-use crate::subcommands::{Argument, CHANGES_COMMANDS, LINE_COMMANDS, RULES_COMMANDS, Subcommand};
+use crate::subcommands::{
+    Argument, CHANGES_COMMANDS, LINE_COMMANDS, RULES_COMMANDS, STORED_COMMANDS, Subcommand,
+};
 use clap::{Arg, ArgAction, Command};
 use std::alloc::{AllocError, Global};
 
@@ -118,9 +120,16 @@ fn rules_commands<'a>(alloc: Global) -> Result<Command<'a>, AllocError>
     take_subcommands(alloc, line_commands(alloc), RULES_COMMANDS)
 }
 
+// And with those of changes after them.
+fn changing_commands<'a>(alloc: Global) -> Result<Command<'a>, AllocError>
+    ensures { IfOk result (StandsFor changing_app) }
+{
+    take_subcommands(alloc, rules_commands(alloc), CHANGES_COMMANDS)
+}
+
 /// The command with all its subcommands.
 pub(crate) fn uca_command<'a>(alloc: Global) -> Result<Command<'a>, AllocError>
     ensures { IfOk result (StandsFor uca_app) }
 {
-    take_subcommands(alloc, rules_commands(alloc), CHANGES_COMMANDS)
+    take_subcommands(alloc, changing_commands(alloc), STORED_COMMANDS)
 }

@@ -17,9 +17,9 @@ ghost use Rattle.hex.specs.Hex.{encode_lower};
 ghost use Rattle.clap.specs.Words.{found_of, rows_of, first_of};
 ghost use Rattle.clap.specs.Takes.{is_given};
 ghost use Rattle.clap.specs.Walk.{texts};
-ghost use Rattle.uca_words.specs.Command.{check_app, keys_app, sort_app, compare_app, tailor_app, audit_app, affected_app, changes_app, audit_changes_app, rekey_app, fingerprint_app};
+ghost use Rattle.uca_words.specs.Command.{check_app, keys_app, sort_app, compare_app, tailor_app, audit_app, affected_app, changes_app, audit_changes_app, rekey_app, compact_app, expand_app, fingerprint_app};
 ghost use Rattle.uca_words.specs.inside.Met.{has_words, is_met, IsFingerprintFault, IsValueFault, IsWeightingFault};
-ghost use Rattle.uca_words.specs.Words.{HasEditions, HasFiles, HasFingerprints, HasWord, HasWeighting, HasDepth, IsNoFingerprint, Says, AreRead, IsFaultOf};
+ghost use Rattle.uca_words.specs.Words.{HasBook, HasEditions, HasFiles, HasFingerprints, HasWord, HasWeighting, HasDepth, IsNoFingerprint, Says, AreRead, IsFaultOf};
 
 mod builders;
 mod subcommands;
@@ -58,6 +58,10 @@ pub enum Words<'a> {
     /// `rekey [--weighting W] [--identical] [--from FINGERPRINT] [--to FINGERPRINT] CERTIFICATE`: put the key of each line of
     /// standard input through the maps of a certificate.
     Rekey(RekeyWords<'a>),
+    /// `compact [--weighting W] [--identical] BOOK`: put compact keys in place of the keys of standard input.
+    Compact(BookWords<'a>),
+    /// `expand [--weighting W] [--identical] BOOK`: put keys in place of the compact keys of standard input.
+    Expand(BookWords<'a>),
     /// `fingerprint [--weighting W] [--identical] TABLE DATA`: print the fingerprint of what keys are made by.
     Fingerprint(FingerprintWords<'a>),
 }
@@ -210,6 +214,17 @@ pub struct RekeyWords<'a> {
     pub fingerprints: Option<Fingerprints>,
     /// The name of the file of the certificate.
     pub certificate: &'a str,
+}
+
+/// The arguments of `compact`, and those of `expand`.
+#[derive(Clone, Copy, Debug)]
+pub struct BookWords<'a> {
+    /// The weighting that made the keys, if one is given.
+    pub weighting: Option<Weighting>,
+    /// The depth that made the keys: `Identical` if `--identical` is given.
+    pub depth: Depth,
+    /// The name of the file of the book.
+    pub book: &'a str,
 }
 
 /// The arguments of `fingerprint`.
@@ -499,6 +514,32 @@ fn rekey_words<'a>(
     })
 }
 
+// The arguments of a subcommand over a book.
+fn book_words<'a>(found: &ArgMatches<'a>, weighting: Option<Weighting>) -> BookWords<'a>
+    requires { has_words compact_app (rows_of (found_of found.now)) ≡ true }
+    ensures { HasWeighting (rows_of (found_of found.now)) weighting → HasBook (rows_of (found_of found.now)) result }
+{
+    BookWords {
+        weighting,
+        depth: given_depth(found),
+        book: word_of(found, "book"),
+    }
+}
+
+fn compact_words<'a>(found: &ArgMatches<'a>, weighting: Option<Weighting>) -> Words<'a>
+    requires { has_words compact_app (rows_of (found_of found.now)) ≡ true }
+    ensures { HasWeighting (rows_of (found_of found.now)) weighting → Says (codes "compact") (rows_of (found_of found.now)) result }
+{
+    Words::Compact(book_words(found, weighting))
+}
+
+fn expand_words<'a>(found: &ArgMatches<'a>, weighting: Option<Weighting>) -> Words<'a>
+    requires { has_words expand_app (rows_of (found_of found.now)) ≡ true }
+    ensures { HasWeighting (rows_of (found_of found.now)) weighting → Says (codes "expand") (rows_of (found_of found.now)) result }
+{
+    Words::Expand(book_words(found, weighting))
+}
+
 fn fingerprint_words<'a>(found: &ArgMatches<'a>, weighting: Option<Weighting>) -> Words<'a>
     requires { has_words fingerprint_app (rows_of (found_of found.now)) ≡ true }
     ensures { HasWeighting (rows_of (found_of found.now)) weighting → Says (codes "fingerprint") (rows_of (found_of found.now)) result }
@@ -534,6 +575,8 @@ fn subcommand_words<'a>(
         "changes" => changes_words(found),
         "audit-changes" => audit_changes_words(found),
         "rekey" => rekey_words(found, weighting, fingerprints),
+        "compact" => compact_words(found, weighting),
+        "expand" => expand_words(found, weighting),
         "fingerprint" => fingerprint_words(found, weighting),
         _ => unreachable!(),
     }

@@ -182,6 +182,12 @@ const ANY_CERTIFICATE: Argument<'static> = Argument::Word {
     help: "The certificate of the changes, or of a tailoring",
 };
 
+const BOOK: Argument<'static> = Argument::Word {
+    id: "book",
+    name: "BOOK",
+    help: "A book: the weights at which cells begin",
+};
+
 const CHECK_COMMAND: Subcommand<'static> = Subcommand {
     name: "check",
     line: "Say whether a weight table is well-formed",
@@ -296,6 +302,28 @@ const REKEY_COMMAND: Subcommand<'static> = Subcommand {
     arguments: &[MADE_WEIGHTING, MADE_IDENTICAL, FROM, TO, ANY_CERTIFICATE],
 };
 
+const COMPACT_COMMAND: Subcommand<'static> = Subcommand {
+    name: "compact",
+    line: "Make the stored keys on standard input shorter by a book",
+    text: "Reads lines as `uca keys` or `uca keys --lines` prints them. In place of the key of each it prints its\n\
+           compact key by BOOK, without blanks. The rest of the line stays. Compact keys are in the order of the\n\
+           keys, and `uca expand` makes the keys again. `--weighting` and `--identical` have to be those that made\n\
+           the keys. Any book keeps the order, and a good one makes short keys. Keep it with the keys: compact keys\n\
+           of two books do not mix.",
+    example: "Example: uca compact my.book < keyed.tsv > compact.tsv",
+    arguments: &[MADE_WEIGHTING, MADE_IDENTICAL, BOOK],
+};
+
+const EXPAND_COMMAND: Subcommand<'static> = Subcommand {
+    name: "expand",
+    line: "Make the keys of the compact keys on standard input",
+    text: "Reads lines as `uca compact` prints them. In place of the compact key of each it prints the key, without\n\
+           blanks. The rest of the line stays. `--weighting`, `--identical` and BOOK have to be those that made the\n\
+           compact keys.",
+    example: "Example: uca expand my.book < compact.tsv > keyed.tsv",
+    arguments: &[MADE_WEIGHTING, MADE_IDENTICAL, BOOK],
+};
+
 const FINGERPRINT_COMMAND: Subcommand<'static> = Subcommand {
     name: "fingerprint",
     line: "Print the fingerprint of what keys are made by",
@@ -315,17 +343,23 @@ pub(crate) const LINE_COMMANDS: &[Subcommand<'static>] = &[
     COMPARE_COMMAND,
 ];
 
-/// Those of tailorings, which come after them. Three short tables cost the proof less than one.
+/// Those of tailorings, which come after them. Four short tables cost the proof less than one.
 pub(crate) const RULES_COMMANDS: &[Subcommand<'static>] = &[
     TAILOR_COMMAND,
     AUDIT_COMMAND,
     AFFECTED_COMMAND,
 ];
 
-/// Those of changes and of stored keys, which come last.
+/// Those of changes, which come after these.
 pub(crate) const CHANGES_COMMANDS: &[Subcommand<'static>] = &[
     CHANGES_COMMAND,
     AUDIT_CHANGES_COMMAND,
     REKEY_COMMAND,
+];
+
+/// Those of stored keys, which come last.
+pub(crate) const STORED_COMMANDS: &[Subcommand<'static>] = &[
+    COMPACT_COMMAND,
+    EXPAND_COMMAND,
     FINGERPRINT_COMMAND,
 ];

@@ -1,5 +1,5 @@
 -- Lines that lie in the buffer that they were read into.
-use Rattle.std.specs.Prelude.{◌≡◌, ℕ, suc, ◌+◌, ◌^◌, ◌<◌, Bool, true, false, MatchBool, List, [], ◌∷◌, ◌++◌, length, take, drop, Option, MatchOption, Result, Ok, Err, IfSome, ⊤}
+use Rattle.std.specs.Prelude.{◌≡◌, ℕ, ◌+◌, ◌^◌, ◌<◌, Bool, true, false, MatchBool, List, [], ◌∷◌, ◌++◌, length, take, drop, Option, None, MatchOption, Result, Ok, Err, IfSome, IsSomeAnd, ⊤}
 use Rattle.std.specs.Io.KnownBytes.{Consumes, IsAtEnd, prepend_known}
 use Rattle.std.specs.List.{flat_map}
 use Rattle.uca_weights.specs.Streams.{SourceState}
@@ -11,7 +11,8 @@ use Rattle.uca_run_parts.specs.declared.faults.StoredKeyKind.{StoredKeyKind}
 use Rattle.uca_run_parts.specs.declared.faults.StoredKeyKind.TheVariants as kinds
 use Rattle.uca_run_parts.specs.Input.{is_stored_key_read}
 use Rattle.uca_run_parts.specs.LinesSoFar.{OnKnown}
-use Rattle.uca_rekey.specs.RekeyRun.{IsLineFault}
+use Rattle.uca_rekey.specs.RekeyedLines.{key_in}
+use Rattle.uca_rekey.specs.RekeyRun.{Begins, FailsAfter}
 
 -- ---- Bytes
 
@@ -79,8 +80,29 @@ pub record IsAfter (bytes left : List ℕ) (at_end : Bool) (before : List (List 
 abbrev pub HasRead : Option (List ℕ) → List (List ℕ) → LinesState → SourceState → Type 0
 HasRead start before lines input = OnKnown start (left_of lines input) (λ bytes left. IsAfter bytes left lines.at_end before)
 
+-- why the line after these is not read
+abbrev pub HasReadCause : List ℕ → Option (List ℕ) → List (List ℕ) → List (List ℕ) → StoredKeyKind → Type 0
+HasReadCause bytes left before rest kinds.TooLong = Begins rest (λ line. 2 ^ 30 < length line)
+HasReadCause bytes left before rest kinds.Read = IsSomeAnd left (λ unread. FailsAfter bytes unread before)
+HasReadCause bytes left before rest kinds.Memory = Begins rest (λ line. ⊤)
+HasReadCause bytes left before rest _ = ⊥
+
+-- the line of these bytes after some is not read, and their source has something left
+pub record IsNotRead (bytes : List ℕ) (left : Option (List ℕ)) (before : List (List ℕ)) (kind : StoredKeyKind) : Type 0 where
+  pub rest : List (List ℕ)
+  pub lines : lines_of bytes ≡ before ++ rest
+  pub cause : HasReadCause bytes left before rest kind
+
 -- what is returned where a line may come: the next line, that none is left, or why it is not read
-abbrev pub ReadsLine : (List ℕ → Option (List ℕ)) → Option (List ℕ) → List (List ℕ) → LinesState → SourceState → Result Bool StoredKeyKind → Type 0
-ReadsLine moved start before lines input (Ok more) =
+abbrev pub ReadsLine : Option (List ℕ) → List (List ℕ) → LinesState → SourceState → Result Bool StoredKeyKind → Type 0
+ReadsLine start before lines input (Ok more) =
     MatchBool more (HasRead start (before ++ lines.line ∷ []) lines input) (IfSome start (λ bytes. lines_of bytes ≡ before))
-ReadsLine moved start before lines input (Err kind) = IfSome start (λ bytes. IsLineFault moved bytes input.remaining before (suc (length before)) kind)
+ReadsLine start before lines input (Err kind) = IfSome start (λ bytes. IsNotRead bytes input.remaining before kind)
+
+-- ---- The key of a line
+
+-- why the key that a line begins with is not read
+abbrev pub IsKeyCause : List ℕ → StoredKeyKind → Type 0
+IsKeyCause line kinds.NoKey = key_in line ≡ None
+IsKeyCause line kinds.Memory = ⊤
+IsKeyCause line _ = ⊥

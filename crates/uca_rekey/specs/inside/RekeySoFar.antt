@@ -1,5 +1,5 @@
 -- A run that rekeys lines, after some of its lines.
-use Rattle.std.specs.Prelude.{◌≡◌, ℕ, suc, ◌+◌, ◌^◌, ◌<◌, Bool, MatchBool, List, [], ◌∷◌, ◌++◌, false, length, Option, Some, Result, Ok, Err, IfSome, ⊤}
+use Rattle.std.specs.Prelude.{◌≡◌, ◌⊎◌, ℕ, suc, ◌+◌, ◌^◌, ◌<◌, Bool, true, MatchBool, List, [], ◌∷◌, ◌++◌, false, length, Option, Some, Result, Ok, Err, IfSome}
 use Rattle.std.specs.Io.KnownBytes.{Appends}
 use Rattle.std.specs.List.{flat_map}
 use Rattle.uca_weights.specs.declared.Settings.{Settings}
@@ -17,7 +17,7 @@ use Rattle.uca_run_parts.specs.Runs.{PartWentOut}
 use Rattle.uca_tailorings.specs.Inputs.{maps_of}
 use Rattle.uca_tailorings.specs.Moves.{moved_key}
 use Rattle.uca_rekey.specs.RekeyedLines.{rekeyed_by}
-use Rattle.uca_rekey.specs.RekeyRun.{AreRekeyed, IsLineFault}
+use Rattle.uca_rekey.specs.RekeyRun.{AreRekeyed, IsLineCause, IsLineFault}
 use Rattle.uca_rekey.specs.HeadedRun.{HasHeaderCause}
 use Rattle.uca_rekey.specs.inside.LinesInPlace.{LinesState, HasRead}
 
@@ -52,6 +52,19 @@ WritesLine line old new out now (Err (StoredKey number kind)) =
 WritesLine line old new out now (Err (Write written)) = FailsToWriteThrough (ended line) old.buffer out now written
 WritesLine line old new out now (Err _) = ⊥
 
+-- All that was written went out, or a part of it did. What it is and when it began is known to the run.
+abbrev pub HasFlushed : BufferState → SinkState → SinkState → Type 0
+HasFlushed buffer out now = (begun : Option (List ℕ)) (text : List ℕ) → IsBuffered begun out.contents text buffer → Appends begun now.contents text
+
+abbrev pub FailsToFlush : BufferState → SinkState → SinkState → ℕ → Type 0
+FailsToFlush buffer out now written = (begun : Option (List ℕ)) (text : List ℕ) → IsBuffered begun out.contents text buffer → PartWentOut begun now.contents text written
+
+-- What a run returns that ended by `end`, where the writer had failed or not. If it had not, what waited is written.
+abbrev pub EndsIf : Bool → BufferState → SinkState → SinkState → Result (Unit {0}) RunFault → Result (Unit {0}) RunFault → Type 0
+EndsIf true buffer out now end result = (result ≡ end) × (now ≡ out)
+EndsIf false buffer out now end result =
+    ((result ≡ end) × HasFlushed buffer out now) ⊎ ((written : ℕ) × (result ≡ Err (Write written)) × FailsToFlush buffer out now written)
+
 -- First come the lines `from`, in whose place `to` is written, and then lines that are rekeyed: so a header and the lines after it. `from` and `to`
 -- have as many bytes.
 pub record AreReplaced (moved : List ℕ → Option (List ℕ)) (from to lines new : List (List ℕ)) : Type 0 where
@@ -77,7 +90,7 @@ HasNextLine moved start before lines input = (line : List ℕ) × HasRead start 
 -- what is returned where a line may come: its new line, that none is left, or why it has none
 abbrev pub RekeysLine : (List ℕ → Option (List ℕ)) → Option (List ℕ) → List (List ℕ) → LinesState → SourceState → Result Bool RunFault → Type 0
 RekeysLine moved start before lines input (Ok more) = MatchBool more (HasNextLine moved start before lines input) (IfSome start (λ bytes. lines_of bytes ≡ before))
-RekeysLine moved start before lines input (Err (StoredKey number kind)) = IfSome start (λ bytes. IsLineFault moved bytes input.remaining before number kind)
+RekeysLine moved start before lines input (Err (StoredKey number kind)) = IfSome start (λ bytes. IsLineFault (IsLineCause moved) bytes input.remaining before number kind)
 RekeysLine moved start before lines input (Err _) = ⊥
 
 -- what is returned of all lines that are left: their new lines were written, or why that of one was not
@@ -85,7 +98,7 @@ abbrev pub RekeysRest : {A : Type 0} → (List ℕ → Option (List ℕ)) → Li
 RekeysRest moved from to start begun input buffer out (Ok x) =
     (before new : List (List ℕ)) × IfSome start (λ bytes. lines_of bytes ≡ before) × AreReplaced moved from to before new × IsBuffered begun out.contents (flat_map ended new) buffer
 RekeysRest moved from to start begun input buffer out (Err (StoredKey number kind)) =
-    (before new : List (List ℕ)) × IfSome start (λ bytes. IsLineFault moved bytes input.remaining before number kind) × AreReplaced moved from to before new
+    (before new : List (List ℕ)) × IfSome start (λ bytes. IsLineFault (IsLineCause moved) bytes input.remaining before number kind) × AreReplaced moved from to before new
     × IsBuffered begun out.contents (flat_map ended new) buffer
 RekeysRest moved from to start begun input buffer out (Err (Write written)) =
     (before new : List (List ℕ)) × IfSome start (λ bytes. (rest : List (List ℕ)) × (lines_of bytes ≡ before ++ rest)) × AreReplaced moved from to before new
@@ -97,19 +110,12 @@ abbrev pub WritesReplaced : {A : Type 0} → (List ℕ → Option (List ℕ)) �
 WritesReplaced moved from to bytes left begun now (Ok x) =
     (new : List (List ℕ)) × AreReplaced moved from to (lines_of bytes) new × Appends begun now (flat_map ended new)
 WritesReplaced moved from to bytes left begun now (Err (StoredKey number kind)) =
-    (before new : List (List ℕ)) × IsLineFault moved bytes left before number kind × AreReplaced moved from to before new × Appends begun now (flat_map ended new)
+    (before new : List (List ℕ)) × IsLineFault (IsLineCause moved) bytes left before number kind × AreReplaced moved from to before new × Appends begun now (flat_map ended new)
 WritesReplaced moved from to bytes left begun now (Err (Write written)) =
     (before new rest : List (List ℕ)) × (lines_of bytes ≡ before ++ rest) × AreReplaced moved from to before new × PartWentOut begun now (flat_map ended new) written
 WritesReplaced moved from to bytes left begun now (Err _) = ⊥
 
 -- ---- A header
-
--- the error is none of a key or of a header: the line is not read
-abbrev pub IsUnread : StoredKeyKind → Type 0
-IsUnread kinds.TooLong = ⊤
-IsUnread kinds.Read = ⊤
-IsUnread kinds.Memory = ⊤
-IsUnread _ = ⊥
 
 -- what is returned where a first line has to be this header
 abbrev pub ReadsHeader : {A : Type 0} → List ℕ → Option (List ℕ) → LinesState → SourceState → Result A StoredKeyKind → Type 0

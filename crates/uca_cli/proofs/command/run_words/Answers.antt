@@ -32,5 +32,11 @@ returns-in-AuditChanges g c = rw c.in-AuditChanges.is (refl, c.audit_changes.ens
 pub returns-in-Rekey : goal.returns-in-Rekey
 returns-in-Rekey g c = rw c.in-Rekey.is c.rekey.ensures
 
+pub returns-in-Compact : goal.returns-in-Compact
+returns-in-Compact g c = rw c.in-Compact.is c.compact.ensures
+
+pub returns-in-Expand : goal.returns-in-Expand
+returns-in-Expand g c = rw c.in-Expand.is c.expand.ensures
+
 pub returns-in-Fingerprint : goal.returns-in-Fingerprint
 returns-in-Fingerprint g c = rw c.in-Fingerprint.is (refl, c.fingerprint.ensures)

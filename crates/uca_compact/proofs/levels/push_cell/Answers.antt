@@ -7,4 +7,4 @@ returns g c =
     c.in_ok-push_offset.ensures
     ∙ ap (λ (xs : List ℕ). c.args.out.now.items ++ xs)
     (place_written c.args.number c.args.start c.args.later.now c.args.end c.args.weight c.cell_index-index.result c.cell_start-first.result c.cell_end.result
-    c.requires.rising c.cell_index-index.ensures c.cell_start-first.ensures c.cell_end.ensures)
+    c.requires.rising c.cell_index-index.ensures c.cell_start-first.ensures.is c.cell_end.ensures.is)

@@ -18,12 +18,12 @@ pub loop-high-smaller : goal.loop-high-smaller
 loop-high-smaller g c = omega (arith, c.in-Some.ensures.shorter, c.in-Some-next_digit.ensures.shorter)
 
 pub returns-in_default-next_digit-clause-cause : goal.returns-in_default-next_digit-clause-cause
-returns-in_default-next_digit-clause-cause g c = λ moved before.
+returns-in_default-next_digit-clause-cause g c =
     one_digit_left (key_in c.args.line.now) c.loop-high.key.items c.loop-high.text.now c.loop-high.invariant c.in-Some.high c.in-Some.rest.now
     c.in-Some.ensures.digits c.in_default-next_digit.ensures.digits
 
 pub returns-in_default-hexadecimal_byte-clause-cause : goal.returns-in_default-hexadecimal_byte-clause-cause
-returns-in_default-hexadecimal_byte-clause-cause g c = λ moved before.
+returns-in_default-hexadecimal_byte-clause-cause g c =
     no_byte_read (key_in c.args.line.now) c.loop-high.key.items c.loop-high.text.now c.loop-high.invariant c.in-Some.high c.in-Some-next_digit.low
     c.in-Some.rest.now c.in-Some-next_digit.rest.now c.in-Some.ensures.digits c.in-Some-next_digit.ensures.digits c.in_default-hexadecimal_byte.ensures
 

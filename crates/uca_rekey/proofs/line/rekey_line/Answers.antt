@@ -4,12 +4,13 @@ use Rattle.std.proofs.lemmas.List.{with_items_is}
 use Rattle.std.proofs.lemmas.Result.{err_from_is_err_and}
 use Rattle.uca_rekey.specs.inside.RekeySoFar.{moved_by}
 use Rattle.uca_rekey.proofs.LineKeys.{key_replaced}
+use Rattle.uca_rekey.proofs.Rekeying.{cause_by_key}
 use Rattle.uca_rekey.proofs.line.rekey_line.Goals as goal
 
 pub returns-in_err-read_key-clause-cause : goal.returns-in_err-read_key-clause-cause
 returns-in_err-read_key-clause-cause g c =
     let p = err_from_is_err_and c.from_residual.result c.from_residual.ensures.1 in
-    rw (p.1, p.2) (λ before. c.in_err-read_key.ensures.cause (moved_by c.args.mover.now) before)
+    rw (p.1, p.2) (λ before. cause_by_key (moved_by c.args.mover.now) before c.args.line.now c.in_err-read_key.field-0.0 c.in_err-read_key.ensures.cause)
 
 pub returns-clause-rekeyed : goal.returns-clause-rekeyed
 returns-clause-rekeyed g c =

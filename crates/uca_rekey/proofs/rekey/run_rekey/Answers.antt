@@ -9,7 +9,7 @@ use Rattle.uca_run_parts.specs.declared.faults.RunFault.TheVariants.{Memory}
 use Rattle.uca_run_parts.proofs.WholeRuns.{ended_before, ended_by_lines}
 use Rattle.uca_rekey.specs.RekeyRun.{RunsRekey}
 use Rattle.uca_rekey.specs.inside.RekeySoFar.{HasRekeyed, IsBegun, RekeysRest, moved_by, mover_of}
-use Rattle.uca_rekey.proofs.Rekeying.{begun_so, by_same, runs_rekey, writes_rekeyed}
+use Rattle.uca_rekey.proofs.Rekeying.{begun_so, by_same, ends_replaced, runs_rekey, writes_rekeyed}
 use Rattle.uca_rekey.proofs.rekey.run_rekey.Goals as goal
 
 pub returns-in-Ok : goal.returns-in-Ok
@@ -31,7 +31,8 @@ returns-in-Ok g c =
     (c.rekey_rest-end.ensures.rekeys [] [] input.remaining out.contents [] [] begin) in
     runs_rekey settings input input_new out c.end-end.new.out c.end-end.result content lines
     (writes_rekeyed (moved_by by) input.remaining input_new.remaining out.contents c.end-end.new.out.contents c.end-end.result
-    (c.end-end.ensures.writes (moved_by by) [] [] input.remaining out.contents input_new rest)))
+    (ends_replaced (moved_by by) [] [] input.remaining out.contents input_new c.rekey_rest-end.new.out c.end-end.new.out c.rekey_rest-end.new.self.written.buffer
+    c.rekey_rest-end.result c.end-end.result rest c.end-end.ensures.ends)))
     c.in-Ok.ensures.begun c.in-Ok.ensures.failed
     (λ none. subst (λ b. input_new.failed ≡ (input.failed || b)) (sym (c.end-end.ensures.not_read none)) c.rekey_rest-end.ensures.input_failed)
     (c.end-end.ensures.failed out.failed c.rekey_rest-end.ensures.out_failed)

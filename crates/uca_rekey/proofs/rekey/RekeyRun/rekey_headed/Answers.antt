@@ -4,6 +4,7 @@ use Rattle.std.proofs.Math.Bool.{or-false}
 use Rattle.uca_run_parts.specs.Runs.{is_input_read}
 use Rattle.uca_rekey.specs.inside.RekeySoFar.{HasReadHeader, moved_by}
 use Rattle.uca_rekey.proofs.Headers.{not_headed, writes_headed}
+use Rattle.uca_rekey.proofs.Rekeying.{ends_replaced}
 use Rattle.uca_rekey.proofs.rekey.RekeyRun.rekey_headed.Goals as goal
 
 pub returns-in-Ok-clause-rekeys : goal.returns-in-Ok-clause-rekeys
@@ -18,7 +19,8 @@ returns-in-Ok-clause-rekeys g c = λ same short h.
     let read : HasReadHeader from start begun c.read_header.new.self c.read_header.new.source old.written c.args.out.now =
     record { read = c.in-Ok.ensures.reads start h.read; text = h.text; count = h.count } in
     writes_headed moved from to start input.remaining begun c.end.new.out.contents c.end.result
-    (c.end.ensures.writes moved (from ∷ []) (to ∷ []) start begun input (c.rekey_after-end.ensures.rekeys from start begun same short read))
+    (ends_replaced moved (from ∷ []) (to ∷ []) start begun input c.rekey_after-end.new.out c.end.new.out c.rekey_after-end.new.self.written.buffer c.rekey_after-end.result c.end.result
+    (c.rekey_after-end.ensures.rekeys from start begun same short read) c.end.ensures.ends)
 
 pub returns-in-Ok-clause-of_lines : goal.returns-in-Ok-clause-of_lines
 returns-in-Ok-clause-of_lines g c = c.end.ensures.of_lines c.rekey_after-end.ensures.of_lines

@@ -1,0 +1,52 @@
+//! The subcommands that put other keys in place of stored keys by a book: `compact` and `expand`.
+
+ghost use Rattle.uca_cli.specs.Command.{DoesCompact, DoesExpand, streams};
+ghost use Rattle.uca_host.specs.NamedFiles.{file_system};
+
+use crate::statuses::done;
+use std::alloc::Global;
+use std::io::{Read, Write};
+use uca_host::Opens;
+use uca_host::files::opening::open_one;
+use uca_rekey::{run_compact, run_expand};
+use uca_run_parts::faults::{Role, RunFault};
+use uca_weights::{Sink, Source, Weighting};
+use uca_words::BookWords;
+
+pub(crate) fn compact<O: Opens, I: Read, W: Write>(
+    alloc: Global,
+    opener: &mut O,
+    words: &BookWords,
+    input: &mut Source<I>,
+    out: &mut Sink<W>,
+) -> Result<u8, RunFault>
+    ensures { DoesCompact (file_system O.calls O.File.remaining O.Made.contents)
+        opener.old opener.new words.now (streams input.old out.old) (streams input.new out.new) result }
+{
+    match open_one(opener, Role::Book, words.book) {
+        Ok(mut book) => {
+            let weighting = words.weighting.unwrap_or(Weighting::Shifted);
+            done(run_compact(alloc, &mut book, input, out, weighting, words.depth))
+        }
+        Err(role) => Err(RunFault::Open(role)),
+    }
+}
+
+pub(crate) fn expand<O: Opens, I: Read, W: Write>(
+    alloc: Global,
+    opener: &mut O,
+    words: &BookWords,
+    input: &mut Source<I>,
+    out: &mut Sink<W>,
+) -> Result<u8, RunFault>
+    ensures { DoesExpand (file_system O.calls O.File.remaining O.Made.contents)
+        opener.old opener.new words.now (streams input.old out.old) (streams input.new out.new) result }
+{
+    match open_one(opener, Role::Book, words.book) {
+        Ok(mut book) => {
+            let weighting = words.weighting.unwrap_or(Weighting::Shifted);
+            done(run_expand(alloc, &mut book, input, out, weighting, words.depth))
+        }
+        Err(role) => Err(RunFault::Open(role)),
+    }
+}

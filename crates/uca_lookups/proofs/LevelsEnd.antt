@@ -1,0 +1,196 @@
+-- Where the first levels of a stored key end.
+use Rattle.std.proofs.Common.{◌≡◌, ◌≢◌, ◌⊎◌, inl, inr, ℕ, suc, ◌+◌, ◌*◌, ◌-◌, ◌/◌, ◌%◌, ◌<◌, ◌≤◌, List, [], ◌∷◌, ◌++◌, Bool, true, false, cond, Option, Some, None, option_map, nat_eq, nat_lt, length, get_or, take, drop, drop-cons, refl, ap, sym, subst, ◌∙◌, arith, append_assoc, length-append}
+use Rattle.std.specs.List.{AllByRecursion}
+use Rattle.std.proofs.lemmas.List.{drop_all, take_at}
+use Rattle.std.proofs.lemmas.Bool.Decides.{nat_tests}
+use Rattle.uca_weights.specs.declared.Depth.{Depth}
+use Rattle.uca_order.specs.Levels.{level_bytes, levels_bytes}
+use Rattle.uca_compact.specs.Forms.{AreWeights}
+use Rattle.uca_compact.specs.CompactKeys.{stored_key, KeyParts}
+use Rattle.uca_lookups.specs.Ranges.{LevelsBegin, FindsLevels}
+use Rattle.uca_lookups.specs.inside.LevelsLength.{levels_length}
+use Rattle.uca_lookups.proofs.StoredReads.{two_at}
+use Rattle.uca_lookups.proofs.StoredRanges.{IsTail, after_first, after_tail, first_then, points_part, points_tail, stored_is}
+
+-- ---- Steps of a program
+
+-- two bytes
+length_by : (count a b w : ℕ) (bytes : List ℕ) (t : Bool) → w ≡ 256 * a + b → nat_eq w 0 ≡ t
+    → levels_length count (a ∷ b ∷ bytes)
+    ≡ cond t (cond (nat_lt count 2) (Some 0) (option_map (λ n. n + 2) (levels_length (count - 1) bytes))) (option_map (λ n. n + 2) (levels_length count bytes))
+length_by count a b w bytes t is test =
+    let end = cond (nat_lt count 2) (Some 0) (option_map (λ (n : ℕ). n + 2) (levels_length (count - 1) bytes)) in
+    let more = option_map (λ (n : ℕ). n + 2) (levels_length count bytes) in
+    ap (λ (n : ℕ). cond (nat_eq n 0) end more) (sym is) ∙ ap (λ (u : Bool). cond u end more) test
+
+-- a number added to another
+two_more : (at : ℕ) (o : Option ℕ) → option_map (λ n. at + n) (option_map (λ n. n + 2) o) ≡ option_map (λ n. (at + 2) + n) o
+two_more at None = refl
+two_more at (Some n) = let same : at + (n + 2) ≡ (at + 2) + n = omega arith in ap (λ (m : ℕ). Some m) same
+
+-- the program goes on
+pub length_step : (key : List ℕ) (at left next w : ℕ) (all : Option ℕ) → at + 1 < length key → w ≡ 256 * get_or key at 0 + get_or key (at + 1) 0
+    → next ≡ cond (nat_eq w 0) (left - 1) left → ((w ≡ 0) × (2 ≤ left)) ⊎ (w ≢ 0) → option_map (λ n. at + n) (levels_length left (drop at key)) ≡ all
+    → (at + 2 ≤ length key) × (option_map (λ n. (at + 2) + n) (levels_length next (drop (at + 2) key)) ≡ all)
+length_step key at left next w all within is step (inl zero_weight) h =
+    let bytes = drop (at + 2) key in
+    let test : nat_eq w 0 ≡ true = let z : w ≡ 0 = zero_weight.0 in grind (arith, nat_tests) in
+    let few : nat_lt left 2 ≡ false = let two : 2 ≤ left = zero_weight.1 in grind (arith, nat_tests) in
+    let less : next ≡ left - 1 = step ∙ ap (λ (u : Bool). cond u (left - 1) left) test in
+    let here : levels_length left (drop at key) ≡ option_map (λ n. n + 2) (levels_length next bytes) =
+    ap (levels_length left) (two_at key at within)
+    ∙ length_by left (get_or key at 0) (get_or key (at + 1) 0) w bytes true is test
+    ∙ ap (λ (u : Bool). cond u (Some 0) (option_map (λ (n : ℕ). n + 2) (levels_length (left - 1) bytes))) few
+    ∙ ap (λ (m : ℕ). option_map (λ (n : ℕ). n + 2) (levels_length m bytes)) (sym less) in
+    (omega arith, sym (two_more at (levels_length next bytes)) ∙ ap (option_map (λ (n : ℕ). at + n)) (sym here) ∙ h)
+length_step key at left next w all within is step (inr weight) h =
+    let bytes = drop (at + 2) key in
+    let test : nat_eq w 0 ≡ false = grind (arith, nat_tests) in
+    let same : next ≡ left = step ∙ ap (λ (u : Bool). cond u (left - 1) left) test in
+    let here : levels_length left (drop at key) ≡ option_map (λ n. n + 2) (levels_length next bytes) =
+    ap (levels_length left) (two_at key at within)
+    ∙ length_by left (get_or key at 0) (get_or key (at + 1) 0) w bytes false is test
+    ∙ ap (λ (m : ℕ). option_map (λ (n : ℕ). n + 2) (levels_length m bytes)) (sym same) in
+    (omega arith, sym (two_more at (levels_length next bytes)) ∙ ap (option_map (λ (n : ℕ). at + n)) (sym here) ∙ h)
+
+-- it has come to the end of the bytes
+end_by : (key : List ℕ) (at left : ℕ) (all : Option ℕ) (t : Bool) → nat_eq left 1 ≡ t → at ≡ length key
+    → option_map (λ n. at + n) (levels_length left (drop at key)) ≡ all → cond t (Some at) None ≡ all
+end_by key at left all t test end h =
+    let none : drop at key ≡ [] = drop_all at key (omega arith) in
+    let here : levels_length left (drop at key) ≡ cond t (Some 0) None = ap (levels_length left) none ∙ ap (λ (u : Bool). cond u (Some 0) None) test in
+    last_by t ∙ ap (option_map (λ (n : ℕ). at + n)) (sym here) ∙ h
+  where
+    last_by : (u : Bool) → cond u (Some at) None ≡ option_map (λ n. at + n) (cond u (Some 0) None)
+    last_by true = let same : at ≡ at + 0 = omega arith in ap (λ (n : ℕ). Some n) same
+    last_by false = refl
+
+-- a single byte is left
+single_by : (key : List ℕ) (at left : ℕ) (all : Option ℕ) → at < length key → length key ≤ at + 1
+    → option_map (λ n. at + n) (levels_length left (drop at key)) ≡ all → None ≡ all
+single_by key at left all within end h =
+    let next : suc at ≡ at + 1 = omega arith in
+    let one : drop at key ≡ get_or key at 0 ∷ [] =
+    drop-cons key at 0 within ∙ ap (λ (xs : List ℕ). get_or key at 0 ∷ xs) (drop_all (suc at) key (omega arith)) in
+    ap (λ (xs : List ℕ). option_map (λ n. at + n) (levels_length left xs)) (sym one) ∙ h
+
+-- levels are missing, or a single byte is left
+pub none_left : (key : List ℕ) (at left : ℕ) (all : Option ℕ) → at ≤ length key → length key ≤ at + 1 → (left ≢ 1) ⊎ (at ≢ length key)
+    → option_map (λ n. at + n) (levels_length left (drop at key)) ≡ all → None ≡ all
+none_left key at left all within end (inr apart) h = single_by key at left all (omega (arith, apart)) end h
+none_left key at left all within end (inl others) h = left_by (nat_eq at (length key)) refl
+  where
+    left_by : (b : Bool) → nat_eq at (length key) ≡ b → None ≡ all
+    left_by true is =
+        let same : at ≡ length key = grind (arith, nat_tests) in
+        let test : nat_eq left 1 ≡ false = grind (arith, nat_tests) in
+        end_by key at left all false test same h
+    left_by false is =
+        let apart : at ≢ length key = grind (arith, nat_tests) in
+        single_by key at left all (omega (arith, apart)) end h
+
+-- ---- A stored key
+
+-- no bytes before a level
+nothing_before : (o : Option ℕ) → o ≡ option_map (λ n. 0 + n) o
+nothing_before None = refl
+nothing_before (Some n) = let same : n ≡ 0 + n = omega arith in ap (λ (m : ℕ). Some m) same
+
+-- two bytes before others
+two_before : (m : ℕ) (o : Option ℕ) → option_map (λ n. n + 2) (option_map (λ n. m + n) o) ≡ option_map (λ n. suc (suc m) + n) o
+two_before m None = refl
+two_before m (Some n) = let same : (m + n) + 2 ≡ suc (suc m) + n = omega arith in ap (λ (k : ℕ). Some k) same
+
+-- the weights of a level
+level_length : (count : ℕ) (ws tail : List ℕ) → AreWeights ws
+    → levels_length count (level_bytes ws ++ tail) ≡ option_map (λ n. length (level_bytes ws) + n) (levels_length count tail)
+level_length count [] tail weights = nothing_before (levels_length count tail)
+level_length count (w ∷ ws) tail weights =
+    let is : w ≡ 256 * (w / 256) + w % 256 = omega arith in
+    let test : nat_eq w 0 ≡ false = let above : 0 < w = weights.0.0 in grind (arith, nat_tests) in
+    length_by count (w / 256) (w % 256) w (level_bytes ws ++ tail) false is test
+    ∙ ap (option_map (λ (n : ℕ). n + 2)) (level_length count ws tail weights.1)
+    ∙ two_before (length (level_bytes ws)) (levels_length count tail)
+
+-- one level
+one_length : (tail : List ℕ) → IsTail tail → levels_length 1 tail ≡ Some 0
+one_length tail (inl none) = ap (levels_length 1) none
+one_length tail (inr some) = ap (levels_length 1) some.1
+
+-- more levels
+more_length : (count : ℕ) (bytes : List ℕ) → 0 < count → levels_length (suc count) (0 ∷ 0 ∷ bytes) ≡ option_map (λ n. n + 2) (levels_length count bytes)
+more_length count bytes some =
+    let few : nat_lt (suc count) 2 ≡ false = grind (arith, nat_tests) in
+    let same : suc count - 1 ≡ count = omega arith in
+    ap (λ (u : Bool). cond u (Some 0) (option_map (λ (n : ℕ). n + 2) (levels_length (suc count - 1) bytes))) few
+    ∙ ap (λ (m : ℕ). option_map (λ (n : ℕ). n + 2) (levels_length m bytes)) same
+
+-- levels after the first one
+after_length : (a : List ℕ) (fs : List (List ℕ)) (n : ℕ) → n ≡ length (levels_bytes fs) → length (level_bytes a) + (n + 2) ≡ length (level_bytes a ++ (0 ∷ 0 ∷ levels_bytes fs))
+after_length a fs n same = omega (arith, same, length-append (level_bytes a) (0 ∷ 0 ∷ levels_bytes fs))
+
+first_length : (a : List ℕ) (fs rest : List (List ℕ)) (ext : List ℕ) → AllByRecursion AreWeights (a ∷ fs) → IsTail ext
+    → levels_length (suc (length fs)) (levels_bytes ((a ∷ fs) ++ rest) ++ ext) ≡ Some (length (levels_bytes (a ∷ fs)))
+first_length a [] rest ext weights end =
+    let same : length (level_bytes a) + 0 ≡ length (level_bytes a) = omega arith in
+    ap (levels_length 1) (first_then a rest ext)
+    ∙ level_length 1 a (after_first rest ext) weights.0
+    ∙ ap (option_map (λ (n : ℕ). length (level_bytes a) + n)) (one_length (after_first rest ext) (after_tail rest ext end))
+    ∙ ap (λ (n : ℕ). Some n) same
+first_length a (c ∷ fs) rest ext weights end =
+    let count = suc (length fs) in
+    let more = levels_bytes ((c ∷ fs) ++ rest) ++ ext in
+    ap (levels_length (suc count)) (first_then a ((c ∷ fs) ++ rest) ext)
+    ∙ level_length (suc count) a (0 ∷ 0 ∷ more) weights.0
+    ∙ ap (option_map (λ (n : ℕ). length (level_bytes a) + n))
+    (more_length count more (omega arith) ∙ ap (option_map (λ (n : ℕ). n + 2)) (first_length c fs rest ext weights.1 end))
+    ∙ ap (λ (n : ℕ). Some n) (after_length a (c ∷ fs) (length (levels_bytes (c ∷ fs))) refl)
+
+-- levels begin with the first ones
+first_bytes : (a : List ℕ) (fs rest : List (List ℕ)) (ext : List ℕ) → (more : List ℕ) × (levels_bytes ((a ∷ fs) ++ rest) ++ ext ≡ levels_bytes (a ∷ fs) ++ more)
+first_bytes a [] rest ext = (after_first rest ext, first_then a rest ext)
+first_bytes a (c ∷ fs) rest ext =
+    let found = first_bytes c fs rest ext in (
+      found.0,
+      first_then a ((c ∷ fs) ++ rest) ext
+          ∙ ap (λ (xs : List ℕ). level_bytes a ++ (0 ∷ 0 ∷ xs)) found.1
+          ∙ sym (append_assoc (level_bytes a) (0 ∷ 0 ∷ levels_bytes (c ∷ fs)) found.0),
+    )
+
+-- the weights of the first levels
+front_weights : (fs rest : List (List ℕ)) → AllByRecursion AreWeights (fs ++ rest) → AllByRecursion AreWeights fs
+front_weights [] rest h = tt
+front_weights (a ∷ fs) rest h = (h.0, front_weights fs rest h.1)
+
+-- a key of these bytes
+key_length : (depth : Depth) (k : KeyParts) (firsts : List (List ℕ)) (key : List ℕ) → AllByRecursion AreWeights k.levels → key ≡ stored_key depth k
+    → LevelsBegin firsts k.levels → 0 < length firsts
+    → (levels_length (length firsts) key ≡ Some (length (levels_bytes firsts))) × (take (length (levels_bytes firsts)) key ≡ levels_bytes firsts)
+key_length depth k [] key weights is begins some = absurd (omega arith)
+key_length depth k (a ∷ fs) key weights is begins some =
+    let ext = points_part depth k.points in
+    let rest = begins.0 in
+    let whole : key ≡ levels_bytes ((a ∷ fs) ++ rest) ++ ext =
+    is ∙ stored_is depth k.levels k.points ∙ ap (λ (ls : List (List ℕ)). levels_bytes ls ++ ext) begins.1 in
+    let all : AllByRecursion AreWeights ((a ∷ fs) ++ rest) = subst (AllByRecursion AreWeights) begins.1 weights in
+    let found = first_bytes a fs rest ext in (
+      ap (levels_length (suc (length fs))) whole ∙ first_length a fs rest ext (front_weights (a ∷ fs) rest all) (points_tail depth k.points),
+      ap (take (length (levels_bytes (a ∷ fs)))) (whole ∙ found.1) ∙ take_at (levels_bytes (a ∷ fs)) found.0 (length (levels_bytes (a ∷ fs))) refl,
+    )
+
+-- both ends, if the program found where the levels end
+pub finds_some : (count : ℕ) (key : List ℕ) (end : ℕ) (low high : List ℕ) → Some end ≡ levels_length count key → low ≡ take end key
+    → high ≡ take end key ++ (0 ∷ 1 ∷ []) → FindsLevels count key true low high
+finds_some count key end low high found below above depth weighting k firsts parts is begins long some =
+    let there = key_length depth k firsts key parts.levels.1 is begins (omega (arith, long)) in
+    let both : Some end ≡ Some (length (levels_bytes firsts)) = found ∙ ap (λ (n : ℕ). levels_length n key) (sym long) ∙ there.0 in
+    let same : end ≡ length (levels_bytes firsts) = cc in
+    let front : take end key ≡ levels_bytes firsts = ap (λ (n : ℕ). take n key) same ∙ there.1 in
+    (refl, below ∙ front, above ∙ ap (λ (xs : List ℕ). xs ++ (0 ∷ 1 ∷ [])) front)
+
+-- a key has an end of these levels
+pub finds_none : (count : ℕ) (key : List ℕ) (low high : List ℕ) → None ≡ levels_length count key → FindsLevels count key false low high
+finds_none count key low high none depth weighting k firsts parts is begins long some =
+    let there = key_length depth k firsts key parts.levels.1 is begins (omega (arith, long)) in
+    let both : None ≡ Some (length (levels_bytes firsts)) = none ∙ ap (λ (n : ℕ). levels_length n key) (sym long) ∙ there.0 in
+    absurd cc

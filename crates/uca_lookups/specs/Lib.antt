@@ -1,0 +1,4 @@
+pub mod Ranges
+pub mod Laws
+pub mod WorkedRanges
+pub mod inside

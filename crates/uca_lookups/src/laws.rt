@@ -1,0 +1,34 @@
+//! What is true of all ranges. The functions do nothing: their contracts are the laws.
+
+ghost use Rattle.uca_lookups.specs.Laws.{StoredKeysByLevels, StoredKeysByLetters, CompactKeysByLevels, CompactKeysByLetters, TextsHaveParts};
+ghost use Rattle.uca_lookups.specs.WorkedRanges.{WorkedRanges};
+
+/// A range has exactly the stored keys with some first levels.
+pub fn stored_keys_by_levels()
+    ensures { StoredKeysByLevels }
+{}
+
+/// A range has exactly the stored keys whose level 1 begins with some weights, and does not go on with FFFF.
+pub fn stored_keys_by_letters()
+    ensures { StoredKeysByLetters }
+{}
+
+/// A range has exactly the compact keys with some first levels.
+pub fn compact_keys_by_levels()
+    ensures { CompactKeysByLevels }
+{}
+
+/// A range has exactly the compact keys whose level 1 begins with some weights.
+pub fn compact_keys_by_letters()
+    ensures { CompactKeysByLetters }
+{}
+
+/// The laws are true of the keys of texts.
+pub fn texts_have_parts()
+    ensures { TextsHaveParts }
+{}
+
+/// The definitions give some ranges that were worked out by hand.
+pub fn worked_ranges()
+    ensures { WorkedRanges }
+{}

@@ -1,0 +1,272 @@
+-- The lines whose keys were changed so far, and the next one.
+use Rattle.std.proofs.Common.{◌≡◌, ℕ, suc, ◌+◌, ◌<◌, ◌≤◌, ◌/◌, ◌%◌, Bool, true, false, List, [], ◌∷◌, ◌++◌, length, drop, get_or, Option, Some, None, IfSome, Result, Ok, Err, inl, inr, refl, ap, sym, subst, subst₂, ◌∙◌, append_assoc, append-nil, arith, length-append, drop-cons}
+use Rattle.std.specs.Prelude.{IfErr, IfOk, IsSomeAnd, MatchBool, OnOk, is_ok, if◌then◌else◌}
+use Rattle.std.specs.Io.KnownBytes.{Appends}
+use Rattle.std.specs.List.{AllByRecursion, flat_map}
+use Rattle.std.proofs.lemmas.Grind.{flat_map-append}
+use Rattle.std.proofs.lemmas.List.{drop_all}
+use Rattle.uca_weights.specs.Streams.{SourceState, SinkState}
+use Rattle.uca_lines.specs.Buffered.{HasWrittenThrough}
+use Rattle.uca_lines.specs.Lines.{ended, lines_of}
+use Rattle.uca_lines.specs.Numbers.{upper_digit}
+use Rattle.uca_lines.specs.OutputBuffer.{BufferState, IsBuffered}
+use Rattle.uca_lines.proofs.BufferedLemmas.{none_buffered}
+use Rattle.uca_run_parts.specs.Print.{byte_digits}
+use Rattle.uca_run_parts.specs.declared.faults.RunFault.{RunFault}
+use Rattle.uca_run_parts.specs.declared.faults.RunFault.TheVariants.{Memory, StoredKey, Write}
+use Rattle.uca_run_parts.specs.declared.faults.StoredKeyKind.{StoredKeyKind}
+use Rattle.uca_run_parts.specs.declared.faults.StoredKeyKind.TheVariants as kinds
+use Rattle.uca_run_parts.specs.Runs.{PartWentOut, ended_by_output}
+use Rattle.uca_run_parts.proofs.Finishing.{count_is, piece_fails}
+use Rattle.uca_rekey.specs.RekeyedLines.{key_in}
+use Rattle.uca_rekey.specs.RekeyRun.{IsLineFault}
+use Rattle.uca_rekey.specs.ChangedLines.{BecomesNone, LineBecomes, LinesBecome, with_new_key}
+use Rattle.uca_rekey.specs.ChangeRun.{HasOtherKey, IsChangeCause, RunsChange, WritesChanged}
+use Rattle.uca_rekey.specs.inside.ChangeSoFar.{ChangesLine, ChangesRest, HasChanged, HasNextChange, IsOfKey}
+use Rattle.uca_rekey.specs.inside.LinesInPlace.{IsKeyCause, LinesState}
+use Rattle.uca_rekey.specs.inside.RekeySoFar.{EndsIf, WritesLine, WrittenState}
+use Rattle.uca_rekey.proofs.LinesRead.{AreCauses, begins_with, line_fault, nothing_read, of_all, of_fault}
+
+-- ---- The digits of a key
+
+module _ (key put one two : List ℕ) (i high low : ℕ) (all : List ℕ) (so_far : all ≡ put ++ flat_map byte_digits (drop i key)) where
+  -- the two digits of one more byte
+  pub digits_put : i < length key → high ≡ upper_digit (get_or key i 0 / 16) → low ≡ upper_digit (get_or key i 0 % 16) → one ≡ put ++ high ∷ [] → two ≡ one ++ low ∷ []
+      → all ≡ two ++ flat_map byte_digits (drop (i + 1) key)
+  digits_put within of_high of_low first second =
+      let rest = flat_map byte_digits (drop (suc i) key) in
+      let d = upper_digit (get_or key i 0 / 16) in
+      let e = upper_digit (get_or key i 0 % 16) in
+      let pushed : two ≡ (put ++ d ∷ []) ++ e ∷ [] =
+      second ∙ ap (λ l. l ++ low ∷ []) first ∙ ap (λ x. (put ++ x ∷ []) ++ low ∷ []) of_high ∙ ap (λ x. (put ++ d ∷ []) ++ x ∷ []) of_low in
+      let whole : all ≡ two ++ rest =
+      so_far ∙ ap (λ l. put ++ flat_map byte_digits l) (drop-cons key i 0 within)
+      ∙ sym (append_assoc put (d ∷ []) (e ∷ rest)) ∙ sym (append_assoc (put ++ d ∷ []) (e ∷ []) rest) ∙ ap (λ l. l ++ rest) (sym pushed) in
+      let next : suc i ≡ i + 1 = omega arith in
+      subst (λ n. all ≡ two ++ flat_map byte_digits (drop n key)) next whole
+
+-- no digit was written yet
+pub no_digit_put : (all put : List ℕ) → put ≡ [] → all ≡ put ++ all
+no_digit_put all put none = ap (λ l. l ++ all) (sym none)
+
+-- all digits were written, and other bytes after them
+pub all_digits_put : {A B : Type 0} (key put : List ℕ) (i : ℕ) → length key ≤ i → flat_map byte_digits key ≡ put ++ flat_map byte_digits (drop i key)
+    → (rest : List ℕ) (result : Result A B) (whole : List ℕ) → whole ≡ (if is_ok result then put ++ rest else put)
+    → OnOk result (whole ≡ flat_map byte_digits key ++ rest)
+all_digits_put key put i end so_far rest (Ok x) whole is =
+    is ∙ ap (λ l. l ++ rest) (sym (so_far ∙ ap (λ l. put ++ flat_map byte_digits l) (drop_all i key end) ∙ append-nil put))
+all_digits_put key put i end so_far rest (Err e) whole is = tt
+
+-- ---- A line
+
+module _ (KeyBecomes : List ℕ → List ℕ → Type 0) where
+  -- the new line was made
+  pub line_put : {A : Type 0} (line key new_key given put : List ℕ) (result : Result A StoredKeyKind) → key_in line ≡ Some key → KeyBecomes key new_key → given ≡ new_key
+      → OnOk result (put ≡ with_new_key line given) → OnOk result (LineBecomes KeyBecomes line put)
+  line_put line key new_key given put (Ok x) has becomes same is = record { key = key; new_key = new_key; has = has; becomes = becomes; put = is ∙ ap (with_new_key line) same }
+  line_put line key new_key given put (Err kind) has becomes same is = tt
+
+  module _ (none : StoredKeyKind) where
+    -- the key of a line is not read
+    pub change_cause_by_key : (before : List (List ℕ)) (line : List ℕ) (kind : StoredKeyKind) → IsKeyCause line kind → IsChangeCause KeyBecomes none before line kind
+    change_cause_by_key before line kinds.NoKey cause = cause
+    change_cause_by_key before line kinds.Memory cause = tt
+    change_cause_by_key before line kinds.NoImage cause = absurd cause
+    change_cause_by_key before line kinds.OtherKey cause = absurd cause
+    change_cause_by_key before line kinds.NoCompactKey cause = absurd cause
+    change_cause_by_key before line kinds.Header cause = absurd cause
+    change_cause_by_key before line kinds.TooLong cause = absurd cause
+    change_cause_by_key before line kinds.Read cause = absurd cause
+
+    -- no memory is left for the new line
+    pub change_memory : {A : Type 0} (before : List (List ℕ)) (line : List ℕ) (result : Result A StoredKeyKind) → IfErr result (λ kind. kind ≡ kinds.Memory)
+        → IfErr result (IsChangeCause KeyBecomes none before line)
+    change_memory before line (Ok x) is = tt
+    change_memory before line (Err kind) is = subst (λ k. IsChangeCause KeyBecomes none before line k) (sym is) tt
+
+    -- why a line has no new line
+    pub change_causes : AreCauses (IsChangeCause KeyBecomes none)
+    change_causes = record { long = λ before line long. inl long; memory = λ before line. tt; no_read = λ before line never. never }
+
+  -- the key becomes none
+  pub key_none : (none kind : StoredKeyKind) (before : List (List ℕ)) (line key : List ℕ) → kind ≡ none → IsOfKey kind → key_in line ≡ Some key → BecomesNone KeyBecomes key
+      → IsChangeCause KeyBecomes none before line kind
+  key_none none kind before line key same of has becomes = go kind same of
+    where
+      other : HasOtherKey KeyBecomes line
+      other = subst (λ o. IsSomeAnd o (BecomesNone KeyBecomes)) (sym has) becomes
+
+      go : (k : StoredKeyKind) → k ≡ none → IsOfKey k → IsChangeCause KeyBecomes none before line k
+      go kinds.OtherKey is of = (sym is, other)
+      go kinds.NoCompactKey is of = (sym is, other)
+      go kinds.NoKey is of = absurd of
+      go kinds.NoImage is of = absurd of
+      go kinds.Header is of = absurd of
+      go kinds.TooLong is of = absurd of
+      go kinds.Read is of = absurd of
+      go kinds.Memory is of = absurd of
+
+  -- one more line
+  lines_more : (before news : List (List ℕ)) (line new : List ℕ) → LinesBecome KeyBecomes before news → LineBecomes KeyBecomes line new
+      → LinesBecome KeyBecomes (before ++ line ∷ []) (news ++ new ∷ [])
+  lines_more [] [] line new all one = (one, tt)
+  lines_more [] (n ∷ news) line new all one = absurd all
+  lines_more (l ∷ before) [] line new all one = absurd all
+  lines_more (l ∷ before) (n ∷ news) line new all one = (all.0, lines_more before news line new all.1 one)
+
+  -- nothing was read and nothing written
+  pub changes_begun : (lines : LinesState) (input : SourceState) (written : WrittenState) (out : SinkState) → lines.pending ≡ [] → lines.at_end ≡ false
+      → written.buffer.held ≡ [] → written.buffer.written ≡ 0 → written.number ≡ 0 → HasChanged KeyBecomes input.remaining out.contents [] [] lines input written out
+  changes_begun lines input written out pending at_end held count number = record {
+    read = nothing_read input.remaining lines pending at_end;
+    become = tt;
+    text = none_buffered out.contents written.buffer held count;
+    count = number;
+  }
+
+  -- ---- The next line
+
+  module _ (none : StoredKeyKind) (start begun : Option (List ℕ)) (before news : List (List ℕ)) (lines : LinesState) (input : SourceState) (written : WrittenState) (out : SinkState)
+      (so_far : HasChanged KeyBecomes start begun before news lines input written out) where
+    -- no line is left
+    pub all_changed : (now : SourceState) (buffer : BufferState) → buffer ≡ written.buffer → IfSome start (λ bytes. lines_of bytes ≡ before)
+        → ChangesRest {A = Unit {0}} KeyBecomes none start begun now buffer out (Ok tt)
+    all_changed now buffer same all =
+        (before, news, all, so_far.become, subst (λ (b : BufferState). IsBuffered begun out.contents (flat_map ended news) b) (sym same) so_far.text)
+
+    -- the next line has no new line
+    pub none_changed : (after : LinesState) (now : SourceState) (new : List ℕ) (held : WrittenState) (fault : RunFault) → held ≡ written
+        → ChangesLine KeyBecomes none start before after now new (Err fault) → ChangesRest {A = Unit {0}} KeyBecomes none start begun now held.buffer out (Err fault)
+    none_changed after now new held (StoredKey number kind) same fault =
+        (before, news, fault, so_far.become, subst (λ (w : WrittenState). IsBuffered begun out.contents (flat_map ended news) w.buffer) (sym same) so_far.text)
+    none_changed after now new held _ same fault = absurd fault
+
+    module _ (after : LinesState) (now : SourceState) (new : List ℕ) (next : HasNextChange KeyBecomes start before after now new) where
+      text_more : flat_map ended news ++ ended new ≡ flat_map ended (news ++ new ∷ [])
+      text_more = sym (flat_map-append ended news (new ∷ []) ∙ ap (λ l. flat_map ended news ++ l) (append-nil (ended new)))
+
+      -- the new line was written
+      pub line_changed : (held : WrittenState) (sink : SinkState) → HasWrittenThrough (ended new) written.buffer held.buffer out sink → held.number ≡ written.number + 1
+          → HasChanged KeyBecomes start begun (before ++ next.line ∷ []) (news ++ new ∷ []) after now held sink
+      line_changed held sink writes number = record {
+        read = next.read;
+        become = lines_more before news next.line new so_far.become next.becomes;
+        text = subst (λ (text : List ℕ). IsBuffered begun sink.contents text held.buffer) text_more (writes.writes begun (flat_map ended news) so_far.text);
+        count = omega (arith, number, so_far.count, length-append before (next.line ∷ []));
+      }
+
+      -- it was not
+      pub change_not_written : (held : WrittenState) (sink : SinkState) (fault : RunFault) → WritesLine {A = Unit {0}} new written held out sink (Err fault)
+          → ChangesRest {A = Unit {0}} KeyBecomes none start begun now held.buffer sink (Err fault)
+      change_not_written held sink (Write count) stops = (
+        before ++ next.line ∷ [],
+        news ++ new ∷ [],
+        begins_with start (before ++ next.line ∷ []) after now next.read,
+        lines_more before news next.line new so_far.become next.becomes,
+        subst (λ (text : List ℕ). PartWentOut begun sink.contents text count) text_more (piece_fails begun (flat_map ended news) stops so_far.text),
+      )
+      change_not_written held sink (StoredKey number kind) stops =
+          let all = count_is begun out.contents (flat_map ended news) written.buffer so_far.text in
+          let too_long : IsChangeCause KeyBecomes none before next.line kind =
+          subst (λ (k : StoredKeyKind). IsChangeCause KeyBecomes none before next.line k) (sym stops.1)
+          (inr (news, new, so_far.become, next.becomes, omega (arith, stops.2, all))) in
+          let text = subst (λ (w : WrittenState). IsBuffered begun out.contents (flat_map ended news) w.buffer) (sym stops.3) so_far.text in (
+            before,
+            news,
+            line_fault (IsChangeCause KeyBecomes none) (change_causes none) start before next.line after now number kind next.read too_long (stops.0 ∙ ap suc so_far.count),
+            so_far.become,
+            subst (λ (s : SinkState). IsBuffered begun s.contents (flat_map ended news) held.buffer) (sym stops.4) text,
+          )
+      change_not_written held sink _ stops = absurd stops
+
+  -- ---- The end
+
+  module _ (none : StoredKeyKind) (start begun : Option (List ℕ)) (input : SourceState) (out : SinkState) (buffer : BufferState) where
+    -- the new lines of some first lines did not go out whole
+    first_lines : (now : SinkState) (written : ℕ) (before news : List (List ℕ)) → IfSome start (λ bytes. (rest : List (List ℕ)) × (lines_of bytes ≡ before ++ rest))
+        → LinesBecome KeyBecomes before news → PartWentOut begun now.contents (flat_map ended news) written
+        → IfSome start (λ bytes. WritesChanged {A = Unit {0}} KeyBecomes none bytes input.remaining begun now.contents (Err (Write written)))
+    first_lines now written before news first become part = go start first
+      where
+        go : (s : Option (List ℕ)) → IfSome s (λ bytes. (rest : List (List ℕ)) × (lines_of bytes ≡ before ++ rest))
+            → IfSome s (λ bytes. WritesChanged {A = Unit {0}} KeyBecomes none bytes input.remaining begun now.contents (Err (Write written)))
+        go None first = tt
+        go (Some bytes) first = (before, news, first.0, first.1, become, part)
+
+    -- the writer had failed
+    write_failed : (end : Result (Unit {0}) RunFault) → ChangesRest KeyBecomes none start begun input buffer out end → ended_by_output end ≡ true
+        → IfSome start (λ bytes. WritesChanged {A = Unit {0}} KeyBecomes none bytes input.remaining begun out.contents end)
+    write_failed (Ok x) rest write = let never : ⊥ = cc in absurd never
+    write_failed (Err (StoredKey number kind)) rest write = let never : ⊥ = cc in absurd never
+    write_failed (Err (Write written)) rest write = first_lines out written rest.0 rest.1 rest.2 rest.3 rest.4
+    write_failed (Err _) rest write = absurd rest
+
+    -- what waited did not go out whole
+    part_flushed : (now : SinkState) (written : ℕ) → ((text : List ℕ) → IsBuffered begun out.contents text buffer → PartWentOut begun now.contents text written)
+        → (end : Result (Unit {0}) RunFault) → ChangesRest KeyBecomes none start begun input buffer out end → ended_by_output end ≡ false
+        → IfSome start (λ bytes. WritesChanged {A = Unit {0}} KeyBecomes none bytes input.remaining begun now.contents (Err (Write written)))
+    part_flushed now written flush (Ok x) rest no_write =
+        first_lines now written rest.0 rest.1 (of_all start rest.0 rest.2) rest.3 (flush (flat_map ended rest.1) rest.4)
+    part_flushed now written flush (Err (StoredKey number kind)) rest no_write =
+        first_lines now written rest.0 rest.1 (of_fault (IsChangeCause KeyBecomes none) start input.remaining rest.0 number kind rest.2) rest.3
+        (flush (flat_map ended rest.1) rest.4)
+    part_flushed now written flush (Err (Write count)) rest no_write = let never : ⊥ = cc in absurd never
+    part_flushed now written flush (Err _) rest no_write = absurd rest
+
+    -- it did
+    whole_flushed : (now : SinkState) → ((text : List ℕ) → IsBuffered begun out.contents text buffer → Appends begun now.contents text)
+        → (end : Result (Unit {0}) RunFault) → ChangesRest KeyBecomes none start begun input buffer out end → ended_by_output end ≡ false
+        → IfSome start (λ bytes. WritesChanged {A = Unit {0}} KeyBecomes none bytes input.remaining begun now.contents end)
+    whole_flushed now flush (Ok x) rest no_write = go start rest.2
+      where
+        go : (s : Option (List ℕ)) → IfSome s (λ bytes. lines_of bytes ≡ rest.0)
+            → IfSome s (λ bytes. WritesChanged {A = Unit {0}} KeyBecomes none bytes input.remaining begun now.contents (Ok x))
+        go None all = tt
+        go (Some bytes) all = (rest.1, subst (λ (ls : List (List ℕ)). LinesBecome KeyBecomes ls rest.1) (sym all) rest.3, flush (flat_map ended rest.1) rest.4)
+    whole_flushed now flush (Err (StoredKey number kind)) rest no_write = go start rest.2
+      where
+        go : (s : Option (List ℕ)) → IfSome s (λ bytes. IsLineFault (IsChangeCause KeyBecomes none) bytes input.remaining rest.0 number kind)
+            → IfSome s (λ bytes. WritesChanged {A = Unit {0}} KeyBecomes none bytes input.remaining begun now.contents (Err (StoredKey number kind)))
+        go None fault = tt
+        go (Some bytes) fault = (rest.0, rest.1, fault, rest.3, flush (flat_map ended rest.1) rest.4)
+    whole_flushed now flush (Err (Write written)) rest no_write = let never : ⊥ = cc in absurd never
+    whole_flushed now flush (Err _) rest no_write = absurd rest
+
+    -- what is returned and left at the end
+    pub ends_changed : (now : SinkState) (end result : Result (Unit {0}) RunFault) → ChangesRest KeyBecomes none start begun input buffer out end
+        → EndsIf (ended_by_output end) buffer out now end result
+        → IfSome start (λ bytes. WritesChanged KeyBecomes none bytes input.remaining begun now.contents result)
+    ends_changed now end result rest ends = go (ended_by_output end) refl ends
+      where
+        go : (b : Bool) → ended_by_output end ≡ b → EndsIf b buffer out now end result
+            → IfSome start (λ bytes. WritesChanged KeyBecomes none bytes input.remaining begun now.contents result)
+        go true write ended =
+            subst₂ (λ (r : Result (Unit {0}) RunFault) (s : SinkState). IfSome start (λ bytes. WritesChanged KeyBecomes none bytes input.remaining begun s.contents r))
+            (sym ended.0) (sym ended.1) (write_failed end rest write)
+        go false no_write (inl whole) =
+            subst (λ (r : Result (Unit {0}) RunFault). IfSome start (λ bytes. WritesChanged KeyBecomes none bytes input.remaining begun now.contents r))
+            (sym whole.0) (whole_flushed now (whole.1 begun) end rest no_write)
+        go false no_write (inr part) =
+            subst (λ (r : Result (Unit {0}) RunFault). IfSome start (λ bytes. WritesChanged KeyBecomes none bytes input.remaining begun now.contents r))
+            (sym part.1) (part_flushed now part.0 (part.2 begun) end rest no_write)
+
+  -- what a run returns that ended by its lines
+  pub runs_change : {A : Type 0} (none : StoredKeyKind) (input input_new : SourceState) (out out_new : SinkState) (result : Result A RunFault)
+      → IfSome input.remaining (λ bytes. WritesChanged KeyBecomes none bytes input_new.remaining out.contents out_new.contents result)
+      → RunsChange KeyBecomes none input input_new out out_new result
+  runs_change none input input_new out out_new (Ok x) writes = writes
+  runs_change none input input_new out out_new (Err Memory) writes = tt
+  runs_change none input input_new out out_new (Err _) writes = writes
+
+-- ---- What compacts
+
+-- a key has its compact key, or becomes none
+pub becomes_or_none : {A : Type 0} (now : Option (List ℕ)) (new : List ℕ) (result : Result Bool A)
+    → IfOk result (λ found. now ≡ (if found then Some new else None))
+    → IfOk result (λ found. MatchBool found (now ≡ Some new) ((other : List ℕ) → AllByRecursion (λ b. b < 256) other → ¬ (now ≡ Some other)))
+becomes_or_none now new (Ok true) is = is
+becomes_or_none now new (Ok false) is = λ other bytes has.
+    let both : None ≡ Some other = sym is ∙ has in
+    let never : ⊥ = cc in
+    never
+becomes_or_none now new (Err e) is = tt

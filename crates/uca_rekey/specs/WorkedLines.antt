@@ -1,0 +1,26 @@
+-- Lines and their compact keys, worked out by hand: two that become other lines, and two that do not.
+use Rattle.std.specs.Prelude.{ℕ, List, [], ◌∷◌, ◌++◌, codes}
+use Rattle.uca_weights.specs.declared.Depth.TheVariants.{Weights}
+use Rattle.uca_weights.specs.declared.Settings.{Settings}
+use Rattle.uca_weights.specs.declared.Weighting.TheVariants.{NonIgnorable}
+use Rattle.uca_compact.specs.WorkedKeys.{small_book}
+use Rattle.uca_run_parts.specs.declared.faults.StoredKeyKind.TheVariants.{NoKey, OtherKey}
+use Rattle.uca_rekey.specs.ChangedLines.{LineBecomes, compacts, expands}
+use Rattle.uca_rekey.specs.ChangeRun.{IsChangeCause}
+
+abbrev pub three_levels : Settings
+three_levels = record { weighting = NonIgnorable; depth = Weights }
+
+-- the key of a line, a tab and `a b`
+abbrev pub with_text : List ℕ → List ℕ
+with_text key = key ++ 9 ∷ codes "a b"
+
+pub record WorkedLines : Type 0 where
+  -- 1C47 has a cell of its own, 08, and 02 says that all later levels are plain
+  pub letter : LineBecomes (compacts three_levels small_book) (with_text (codes "1C47 0000 0020 0000 0002")) (with_text (codes "0802"))
+  -- the key comes back without spaces
+  pub expanded : LineBecomes (expands three_levels small_book) (with_text (codes "08 02")) (with_text (codes "1C470000002000000002"))
+  -- two levels, where the settings have three
+  pub few_levels : IsChangeCause (compacts three_levels small_book) OtherKey [] (with_text (codes "1C47 0000 0020")) OtherKey
+  -- three digits are no bytes
+  pub odd : IsChangeCause (compacts three_levels small_book) OtherKey [] (with_text (codes "1C4")) NoKey
