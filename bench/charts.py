@@ -15,7 +15,9 @@ import re
 import sys
 
 TOP = os.path.dirname(os.path.dirname(os.path.realpath(__file__)))
-WIDTH, LEFT, RIGHT, TOP_OF_BARS, BAR, STEP = 760, 150, 190, 72, 14, 20
+WIDTH, LEFT, RIGHT, TOP_OF_BARS, BAR, STEP = 770, 160, 190, 72, 14, 20
+# The kinds of lines whose keys are drawn: those of marks would leave no room for the others.
+SHOWN = "latin", "ascii", "german", "mixed"
 STYLE = """\
 text { font: 13px system-ui, sans-serif; fill: #1f2328 }
 .head { font-weight: 600 }
@@ -80,11 +82,10 @@ def time_chart():
 
 
 def key_chart():
-    """The bytes of keys. The kinds of text are the rows of its table."""
-    head, *rows = table_after("docs/STORED_KEYS.md", "## How long keys are")
-    names = [re.sub(r"[:,]? mean.*", "", it) for it in head]
-    groups = {row[0]: [bar_of(names[at], cell, " bytes") for at, cell in enumerate(row) if at > 0 and cell] for row in rows}
-    return Chart("Bytes a key", "mean bytes of a text, and of its key under each weighting", groups)
+    """The bytes of keys. The kinds of text are the rows of its table under shifted."""
+    head, *rows = table_after("bench/README.md", "### Bytes a key")
+    groups = {row[0]: [bar_of(name, cell, " bytes") for name, cell in zip(head[2:], row[2:])] for row in rows if row[1] == "shifted" and row[0] in SHOWN}
+    return Chart("Bytes a key, shifted", "mean bytes of a key, of its compact key, and of the key of ICU4C; less is smaller", groups)
 
 
 def described(chart):
