@@ -62,10 +62,7 @@ fn print_image<A: Allocator + Copy, W: Write>(
 }
 
 // Writes an image.
-fn write_image<A: Allocator, W: Write>(
-    image: &Book<A>,
-    out: &mut Sink<W>,
-) -> Result<(), RunFault>
+fn write_image<A: Allocator, W: Write>(image: &Book<A>, out: &mut Sink<W>) -> Result<(), RunFault>
     ensures writes { WritesImage (book_text image.now) out.old.contents out.new.contents result }
     ensures of_output { ended_before_output result ≡ false }
     ensures no_file { ended_by_file result ≡ false }
