@@ -34,6 +34,7 @@ _uca_options_of() {
         rekey) echo "--weighting --identical --from --to -h --help" ;;
         compact) echo "--weighting --identical -h --help" ;;
         expand) echo "--weighting --identical -h --help" ;;
+        book) echo "-h --help" ;;
         fingerprint) echo "--weighting --identical -h --help" ;;
     esac
 }
@@ -41,7 +42,7 @@ _uca_options_of() {
 _uca_file_count() {
     case $1 in
         rekey | compact | expand) echo 1 ;;
-        check | keys | sort | compare | affected | fingerprint) echo 2 ;;
+        check | keys | sort | compare | affected | book | fingerprint) echo 2 ;;
         tailor) echo 4 ;;
         audit | changes) echo 5 ;;
         audit-changes) echo 6 ;;
@@ -69,7 +70,7 @@ _uca_read() {
 
 _uca() {
     local current=${COMP_WORDS[COMP_CWORD]} before=" ${COMP_WORDS[*]:0:COMP_CWORD} " command count ended
-    local commands="check keys sort compare tailor audit affected changes audit-changes rekey compact expand fingerprint help"
+    local commands="check keys sort compare tailor audit affected changes audit-changes rekey compact expand book fingerprint help"
     COMPREPLY=()
     _uca_read
     case $before in

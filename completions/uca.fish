@@ -34,7 +34,7 @@ end
 
 complete -c uca -f
 complete -c uca -n 'not __uca_has_command help' -s h -l help -d 'Print help'
-complete -c uca -n 'not __uca_has_command check keys sort compare tailor audit affected changes audit-changes rekey compact expand fingerprint help' -s V -l version -d 'Print version'
+complete -c uca -n 'not __uca_has_command check keys sort compare tailor audit affected changes audit-changes rekey compact expand book fingerprint help' -s V -l version -d 'Print version'
 
 complete -c uca -n __fish_use_subcommand -a check -d 'Say whether a weight table is well-formed'
 complete -c uca -n __fish_use_subcommand -a keys -d 'Print the sort key of each line of standard input'
@@ -48,9 +48,10 @@ complete -c uca -n __fish_use_subcommand -a audit-changes -d 'Say whether change
 complete -c uca -n __fish_use_subcommand -a rekey -d 'Mend the stored keys on standard input by a certificate'
 complete -c uca -n __fish_use_subcommand -a compact -d 'Make the stored keys on standard input shorter by a book'
 complete -c uca -n __fish_use_subcommand -a expand -d 'Make the keys of the compact keys on standard input'
+complete -c uca -n __fish_use_subcommand -a book -d 'Print what a book becomes by a certificate'
 complete -c uca -n __fish_use_subcommand -a fingerprint -d 'Print the fingerprint of what keys are made by'
 complete -c uca -n __fish_use_subcommand -a help -d 'Print this message or the help of the given subcommand(s)'
-complete -c uca -n '__uca_wants_file 1 help' -a 'check keys sort compare tailor audit affected changes audit-changes rekey compact expand fingerprint help'
+complete -c uca -n '__uca_wants_file 1 help' -a 'check keys sort compare tailor audit affected changes audit-changes rekey compact expand book fingerprint help'
 
 complete -c uca -n '__uca_has_command keys sort compare fingerprint' -l weighting -x -a 'non-ignorable shifted' -d 'non-ignorable or shifted'
 complete -c uca -n '__uca_wants_option identical keys sort compare fingerprint' -l identical -d 'Compare texts that weigh the same by their code points too'
@@ -63,7 +64,7 @@ complete -c uca -n '__uca_has_command rekey' -l from -x -d 'The input has a head
 complete -c uca -n '__uca_has_command rekey' -l to -x -d 'Print a header with this fingerprint, that of the new table and data file'
 
 complete -c uca -n '__uca_wants_file 1 rekey compact expand' -F
-complete -c uca -n '__uca_wants_file 2 check keys sort compare affected fingerprint' -F
+complete -c uca -n '__uca_wants_file 2 check keys sort compare affected book fingerprint' -F
 complete -c uca -n '__uca_wants_file 4 tailor' -F
 complete -c uca -n '__uca_wants_file 5 audit changes' -F
 complete -c uca -n '__uca_wants_file 6 audit-changes' -F

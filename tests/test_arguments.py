@@ -6,7 +6,7 @@ import re
 from program import DATA, TABLE, ProgramTest
 
 HELP = os.path.join(os.path.dirname(os.path.realpath(__file__)), "help")
-COMMANDS = ["check", "keys", "sort", "compare", "tailor", "audit", "affected", "changes", "audit-changes", "rekey", "compact", "expand", "fingerprint"]
+COMMANDS = ["check", "keys", "sort", "compare", "tailor", "audit", "affected", "changes", "audit-changes", "rekey", "compact", "expand", "book", "fingerprint"]
 MORE = "For more information, try '--help'.\n"
 
 
@@ -68,6 +68,8 @@ class Help(ProgramTest):
             ("expand", missing("BOOK", "expand <BOOK>")),
             ("compact b b", unexpected("b", "compact [OPTIONS] <BOOK>")),
             ("expand --from x b", unexpected("--from", "expand [OPTIONS] <BOOK>")),
+            ("book c", missing("BOOK", "book <CERTIFICATE> <BOOK>")),
+            ("book --identical c b", unexpected("--identical", "book <CERTIFICATE> <BOOK>")),
             ("fingerprint t", missing("DATA", "fingerprint <TABLE> <DATA>")),
             ("fingerprint --lines t d", unexpected("--lines", "fingerprint [OPTIONS] <TABLE> <DATA>")),
             ("sort --weighting x --weighting x t d", twice("--weighting <W>", sort)),
@@ -96,6 +98,7 @@ class Model:
         "rekey": (1, ["--weighting", "--identical", "--from", "--to"]),
         "compact": (1, ["--weighting", "--identical"]),
         "expand": (1, ["--weighting", "--identical"]),
+        "book": (2, []),
         "fingerprint": (2, ["--weighting", "--identical"]),
     }
 
@@ -153,9 +156,10 @@ rekey --weighting shifted c --identical
 rekey --from {0} c --to={0}
 compact --weighting non-ignorable k
 expand k --identical
+book c k
 fingerprint --identical t --weighting=shifted d""".format("0123456789abcdef" * 4).splitlines()
 
-PUT_IN = """check keys sort compare tailor audit affected changes audit-changes rekey compact expand fingerprint help order t - -- ---
+PUT_IN = """check keys sort compare tailor audit affected changes audit-changes rekey compact expand book fingerprint help order t - -- ---
 --weighting --weighting= --weighting=shifted --weightings shifted non-ignorable Shifted --identical --identical= --lines --linest
 --changes --changes= --change --header --from --to={} -i -h --help -V --version é =""".format("0123456789abcdef" * 4).split()
 

@@ -68,6 +68,8 @@ LINES = [
     ("uca compact --identical ", FILES),
     ("uca expand --", {"--weighting", "--identical", "--help"}),
     ("uca expand my.book ", set()),
+    ("uca book new ", FILES),
+    ("uca book new my.book ", set()),
     ("uca keys --he", {"--header", "--help"}),
     ("uca fingerprint --identical table.txt ", FILES),
     ("uca fingerprint table.txt data.txt ", set()),

@@ -55,6 +55,7 @@ ROLES = {
     "rekey": ("certificate", "input"),
     "compact": ("book", "input"),
     "expand": ("book", "input"),
+    "book": ("certificate", "book"),
     "fingerprint": ("table", "data"),
 }
 
@@ -100,6 +101,7 @@ CASES = (
     ("compact --weighting non-ignorable book.txt", "stored.txt", ""),
     ("expand book.txt", "compact.txt", ""),
     ("expand --identical book.txt", "compact.txt", ""),
+    ("book images.txt book.txt", None, ""),
     ("fingerprint --identical table.txt data.txt", None, ""),
     ("sort table.txt missing.txt", None, ""),
     ("tailor --help", None, "memory\n"),

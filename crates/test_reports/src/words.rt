@@ -86,6 +86,8 @@ compact b | Compact(BookWords { weighting: None, depth: Weights, book: "b" })
 compact --weighting=non-ignorable compact --identical | Compact(BookWords { weighting: Some(NonIgnorable), depth: Identical, book: "compact" })
 expand b | Expand(BookWords { weighting: None, depth: Weights, book: "b" })
 expand --weighting shifted -- --identical | Expand(BookWords { weighting: Some(Shifted), depth: Weights, book: "--identical" })
+book c b | Book(BookImageWords { certificate: "c", book: "b" })
+book book -- --identical | Book(BookImageWords { certificate: "book", book: "--identical" })
 fingerprint t d | Fingerprint(FingerprintWords { weighting: None, depth: Weights, table: "t", properties: "d" })
 fingerprint --identical t --weighting shifted d | Fingerprint(FingerprintWords { weighting: Some(Shifted), depth: Identical, table: "t", properties: "d" })"#;
 

@@ -1,6 +1,6 @@
 //! What fails, and what is then returned and written.
 
-use crate::change_runs::{COMPACT, EXPANDED, End, KEYS, MOVED, Run, call, rekey};
+use crate::change_runs::{COMPACT, EXPANDED, End, IMAGE, KEYS, MOVED, Run, call, rekey};
 use std::alloc::Global;
 use std::io::ErrorKind;
 use std::test::Fail;
@@ -27,6 +27,11 @@ const EDITIONS: &[Case<'static>] = &[
         run: Run::Audit,
         places: "old old-data new new-data changes certificate memory",
         whole: "accepted\n",
+    },
+    Case {
+        run: Run::Book,
+        places: "certificate book memory",
+        whole: IMAGE,
     },
 ];
 

@@ -1,9 +1,10 @@
 //! Runs over the small files of a change: they find it, audit it, print affected lines or rekey lines. Two more compact
-//! stored keys and expand them.
+//! stored keys and expand them, and one prints the image of their book.
 
 use std::alloc::{Allocator, Global};
 use std::io::{Read, Write};
 use test_kit_allocator::Refusing;
+use uca_book_runs::run_book;
 use uca_certificates::write_certificate;
 use uca_change_files::write_changes;
 use uca_change_runs::{run_affected_by_changes_in, run_audit_changes, run_changes};
@@ -38,6 +39,9 @@ pub const MOVED: &str =
 /// A book in which both letters have cells of their own.
 const BOOK: &str = "@book 1\n1 1C47\n1 1C48\n1 1C60\n1 1C61\n";
 
+/// The image of that book: 1C48 follows 1C47, and 1C62 follows what was 1C60.
+pub const IMAGE: &str = "@book 1\n1 1C47\n1 1C48\n1 1C61\n1 1C62\n";
+
 /// The lines with their compact keys.
 pub const COMPACT: &str = "0A02\n080A02\tab\n02\n";
 
@@ -59,6 +63,8 @@ pub enum Run {
     Compact,
     /// It expands the compact keys of lines.
     Expand,
+    /// It prints the image of a book.
+    Book,
 }
 
 /// How a run ends.
@@ -131,6 +137,11 @@ fn expand(tried: &Refusing, out: &mut Sink<Vec<u8>>) -> End {
     run_expand(tried, &mut book, &mut input, out, NonIgnorable, Weights)
 }
 
+fn book(tried: &Refusing, out: &mut Sink<Vec<u8>>) -> End {
+    let mut book = Source::new(BOOK.as_bytes());
+    run_book(tried, &mut file(5), &mut book, out)
+}
+
 /// Makes a run over these files. Texts in Normalization Form D are in ample memory.
 pub fn call(ample: Global, tried: &Refusing, run: Run, out: &mut Sink<Vec<u8>>) -> End {
     let mut lines = Source::new(LINES.as_bytes());
@@ -143,5 +154,6 @@ pub fn call(ample: Global, tried: &Refusing, run: Run, out: &mut Sink<Vec<u8>>) 
         Run::Rekey => rekey(tried, &mut Source::new(KEYS.as_bytes()), out),
         Run::Compact => compact(tried, out),
         Run::Expand => expand(tried, out),
+        Run::Book => book(tried, out),
     }
 }

@@ -14,7 +14,7 @@ use Rattle.uca_certificates.specs.Certificates.{CertificateContent}
 use Rattle.uca_change_files.specs.ChangeTexts.{changes_text}
 use Rattle.uca_editions.specs.declared.found.FoundChanges.{FoundChanges}
 use Rattle.uca_words.specs.declared.Words.{Words as WordsType}
-use Rattle.uca_words.specs.declared.Words.TheVariants.{Check, Keys, Sort, Compare, Tailor, Audit, Affected, Changes, AuditChanges, Rekey, Compact, Expand, Fingerprint}
+use Rattle.uca_words.specs.declared.Words.TheVariants.{Check, Keys, Sort, Compare, Tailor, Audit, Affected, Changes, AuditChanges, Rekey, Compact, Expand, Book, Fingerprint}
 use Rattle.uca_words.specs.declared.CheckWords.{CheckWords}
 use Rattle.uca_words.specs.declared.KeysWords.{KeysWords}
 use Rattle.uca_words.specs.declared.SortWords.{SortWords}
@@ -26,6 +26,7 @@ use Rattle.uca_words.specs.declared.ChangesWords.{ChangesWords}
 use Rattle.uca_words.specs.declared.AuditChangesWords.{AuditChangesWords}
 use Rattle.uca_words.specs.declared.RekeyWords.{RekeyWords}
 use Rattle.uca_words.specs.declared.BookWords.{BookWords}
+use Rattle.uca_words.specs.declared.BookImageWords.{BookImageWords}
 use Rattle.uca_words.specs.declared.Fingerprints.{Fingerprints}
 use Rattle.uca_words.specs.declared.FingerprintWords.{FingerprintWords}
 use Rattle.uca_words.specs.Words.{AreRead, IsFaultOf}
@@ -47,6 +48,7 @@ use Rattle.uca_rekey.specs.HeadedRun.{RekeysHeaded}
 use Rattle.uca_rekey.specs.RekeyRun.{RekeysLines}
 use Rattle.uca_rekey.specs.ChangeRun.{CompactsLines, ExpandsLines}
 use Rattle.uca_fingerprint_runs.specs.FingerprintRun.{PrintsFingerprint}
+use Rattle.uca_book_runs.specs.BookRun.{PrintsBookImage}
 use Rattle.uca_host.specs.NamedFiles.{FileSystem, NamedFile, file_for, table_and_data, tailor_files, affected_files, audit_files, edition_files, change_files, AreOpened, DoesNotOpen, AreOthers, IsFirstSame, KeepsCertificate}
 use Rattle.uca_tailor_runs.specs.AuditRun.{Audits}
 use Rattle.uca_tailor_runs.specs.TailorRun.{TailorsFiles}
@@ -320,6 +322,13 @@ DoesExpand files old new words start end result =
     (λ olds news. Ran (done_result {A = Unit {0}})
     (ExpandsLines (unwrap_or words.weighting Shifted) words.depth olds news start.input end.input start.out end.out) result) result
 
+-- what `book` does
+abbrev pub DoesBook : {O F M : Type 0} → FileSystem O F M → O → O → BookImageWords → SinkState → SinkState
+    → Result ℕ RunFault → Type 0
+DoesBook files old new words out out_new result =
+    OpensAndRuns files old new (file_for roles.Certificate words.certificate.now ∷ file_for roles.Book words.book.now ∷ []) (out_new ≡ out)
+    (λ olds news. Ran (done_result {A = Unit {0}}) (PrintsBookImage olds news out out_new) result) result
+
 -- ---- The command
 
 -- what a subcommand does with its arguments, given what it reads and writes before and after
@@ -343,6 +352,8 @@ DoesWords files old new (AuditChanges words) start end result =
 DoesWords files old new (Rekey words) start end result = DoesRekey files old new words start end result
 DoesWords files old new (Compact words) start end result = DoesCompact files old new words start end result
 DoesWords files old new (Expand words) start end result = DoesExpand files old new words start end result
+DoesWords files old new (Book words) start end result =
+    (end.input ≡ start.input) × DoesBook files old new words start.out end.out result
 DoesWords files old new (Fingerprint words) start end result =
     (end.input ≡ start.input) × DoesFingerprint files old new words start.out end.out result
 

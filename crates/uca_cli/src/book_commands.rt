@@ -1,17 +1,19 @@
-//! The subcommands that put other keys in place of stored keys by a book: `compact` and `expand`.
+//! The subcommands that put other keys in place of stored keys by a book: `compact` and `expand`. And `book`, which prints a
+//! book for keys of a new edition.
 
-ghost use Rattle.uca_cli.specs.Command.{DoesCompact, DoesExpand, streams};
+ghost use Rattle.uca_cli.specs.Command.{DoesBook, DoesCompact, DoesExpand, streams};
 ghost use Rattle.uca_host.specs.NamedFiles.{file_system};
 
 use crate::statuses::done;
 use std::alloc::Global;
 use std::io::{Read, Write};
+use uca_book_runs::run_book;
 use uca_host::Opens;
-use uca_host::files::opening::open_one;
+use uca_host::files::opening::{open_one, open_two};
 use uca_rekey::{run_compact, run_expand};
 use uca_run_parts::faults::{Role, RunFault};
 use uca_weights::{Sink, Source, Weighting};
-use uca_words::BookWords;
+use uca_words::{BookImageWords, BookWords};
 
 pub(crate) fn compact<O: Opens, I: Read, W: Write>(
     alloc: Global,
@@ -47,6 +49,27 @@ pub(crate) fn expand<O: Opens, I: Read, W: Write>(
             let weighting = words.weighting.unwrap_or(Weighting::Shifted);
             done(run_expand(alloc, &mut book, input, out, weighting, words.depth))
         }
+        Err(role) => Err(RunFault::Open(role)),
+    }
+}
+
+pub(crate) fn print_book<O: Opens, W: Write>(
+    alloc: Global,
+    opener: &mut O,
+    words: &BookImageWords,
+    out: &mut Sink<W>,
+) -> Result<u8, RunFault>
+    ensures { DoesBook (file_system O.calls O.File.remaining O.Made.contents)
+        opener.old opener.new words.now out.old out.new result }
+{
+    match open_two(
+        opener,
+        Role::Certificate,
+        words.certificate,
+        Role::Book,
+        words.book,
+    ) {
+        Ok((mut certificate, mut book)) => done(run_book(alloc, &mut certificate, &mut book, out)),
         Err(role) => Err(RunFault::Open(role)),
     }
 }

@@ -6,7 +6,7 @@ ghost use Rattle.uca_cli.specs.Command.{DoesAffected, DoesAudit, DoesCheck, Does
 ghost use Rattle.uca_host.specs.NamedFiles.{affected_role, file_system};
 ghost use Rattle.uca_tailor_runs.specs.TailorRun.{TailorsFiles};
 
-use crate::book_commands::{compact, expand};
+use crate::book_commands::{compact, expand, print_book};
 use crate::change_commands::{audit_changes, changes, rekey};
 use crate::printing::print_table;
 use crate::statuses::{checked, done};
@@ -360,6 +360,7 @@ fn run_words<O: Opens, I: Read, W: Write>(
         Words::Rekey(words) => rekey(alloc, opener, words, input, out),
         Words::Compact(words) => compact(alloc, opener, words, input, out),
         Words::Expand(words) => expand(alloc, opener, words, input, out),
+        Words::Book(words) => print_book(alloc, opener, words, out),
         Words::Fingerprint(words) => fingerprint(alloc, opener, words, out),
     }
 }

@@ -1,6 +1,6 @@
 //! The command (`run_command`): it opens the files that its arguments name, runs over them, and reports what comes of it. It passes
-//! on `report` of `uca_host`, and the runs of `uca_run_parts`, `uca_key_runs`, `uca_tailor_runs`, `uca_change_runs`, `uca_rekey` and
-//! `uca_fingerprint_runs`.
+//! on `report` of `uca_host`, and the runs of `uca_run_parts`, `uca_key_runs`, `uca_tailor_runs`, `uca_change_runs`, `uca_rekey`,
+//! `uca_book_runs` and `uca_fingerprint_runs`.
 #![tactic(auto)]
 
 mod book_commands;
@@ -10,6 +10,7 @@ mod printing;
 mod statuses;
 
 pub use command::run_command;
+pub use uca_book_runs::run_book;
 pub use uca_change_runs::{
     affected_by_changes_are_the_others, run_affected_by_changes, run_affected_by_changes_in,
     run_audit_changes, run_changes,
@@ -30,7 +31,7 @@ pub use uca_run_parts::{
 };
 pub use uca_tailor_runs::{run_audit, run_audit_in, run_tailor, run_tailor_in, write_tailored};
 pub use uca_words::{
-    AffectedWords, AuditChangesWords, AuditWords, BookWords, ChangesWords, CheckWords,
-    CompareWords, EditionNames, FingerprintWords, Fingerprints, KeysWords, RekeyWords, SortWords,
-    TailorWords, WordFault, Words, read_words,
+    AffectedWords, AuditChangesWords, AuditWords, BookImageWords, BookWords, ChangesWords,
+    CheckWords, CompareWords, EditionNames, FingerprintWords, Fingerprints, KeysWords, RekeyWords,
+    SortWords, TailorWords, WordFault, Words, read_words,
 };

@@ -85,6 +85,10 @@ compact_app = with_book (new_app (codes "compact"))
 abbrev pub expand_app : App
 expand_app = with_book (new_app (codes "expand"))
 
+-- `book CERTIFICATE BOOK`
+abbrev pub book_app : App
+book_app = with_rule (with_rule (new_app (codes "book")) (word_rule (codes "certificate"))) (word_rule (codes "book"))
+
 -- `fingerprint [--weighting W] [--identical] TABLE DATA`
 abbrev pub fingerprint_app : App
 fingerprint_app = with_options (new_app (codes "fingerprint"))
@@ -96,7 +100,7 @@ bare_app = on_top (λ s. record s { subcommand_required = true; has_version = tr
 
 -- the subcommands, in the order of the help
 abbrev pub subcommands : List App
-subcommands = check_app ∷ keys_app ∷ sort_app ∷ compare_app ∷ tailor_app ∷ audit_app ∷ affected_app ∷ changes_app ∷ audit_changes_app ∷ rekey_app ∷ compact_app ∷ expand_app ∷ fingerprint_app ∷ []
+subcommands = check_app ∷ keys_app ∷ sort_app ∷ compare_app ∷ tailor_app ∷ audit_app ∷ affected_app ∷ changes_app ∷ audit_changes_app ∷ rekey_app ∷ compact_app ∷ expand_app ∷ book_app ∷ fingerprint_app ∷ []
 
 abbrev pub uca_app : App
 uca_app = fold (λ app sub. with_subcommand app sub.top) bare_app subcommands

@@ -82,6 +82,8 @@ Says name rows (words.Rekey words) =
     × HasWord rows (codes "certificate") words.certificate
 Says name rows (words.Compact words) = (name ≡ codes "compact") × HasBook rows words
 Says name rows (words.Expand words) = (name ≡ codes "expand") × HasBook rows words
+Says name rows (words.Book words) =
+    (name ≡ codes "book") × HasWord rows (codes "certificate") words.certificate × HasWord rows (codes "book") words.book
 Says name rows (words.Fingerprint words) =
     (name ≡ codes "fingerprint") × HasWeighting rows words.weighting × HasDepth rows words.depth × HasFiles rows words.table words.properties
 

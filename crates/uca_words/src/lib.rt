@@ -17,7 +17,7 @@ ghost use Rattle.hex.specs.Hex.{encode_lower};
 ghost use Rattle.clap.specs.Words.{found_of, rows_of, first_of};
 ghost use Rattle.clap.specs.Takes.{is_given};
 ghost use Rattle.clap.specs.Walk.{texts};
-ghost use Rattle.uca_words.specs.Command.{check_app, keys_app, sort_app, compare_app, tailor_app, audit_app, affected_app, changes_app, audit_changes_app, rekey_app, compact_app, expand_app, fingerprint_app};
+ghost use Rattle.uca_words.specs.Command.{check_app, keys_app, sort_app, compare_app, tailor_app, audit_app, affected_app, changes_app, audit_changes_app, rekey_app, compact_app, expand_app, book_app, fingerprint_app};
 ghost use Rattle.uca_words.specs.inside.Met.{has_words, is_met, IsFingerprintFault, IsValueFault, IsWeightingFault};
 ghost use Rattle.uca_words.specs.Words.{HasBook, HasEditions, HasFiles, HasFingerprints, HasWord, HasWeighting, HasDepth, IsNoFingerprint, Says, AreRead, IsFaultOf};
 
@@ -62,6 +62,8 @@ pub enum Words<'a> {
     Compact(BookWords<'a>),
     /// `expand [--weighting W] [--identical] BOOK`: put keys in place of the compact keys of standard input.
     Expand(BookWords<'a>),
+    /// `book CERTIFICATE BOOK`: print the image of a book under the map of level 1 of a certificate.
+    Book(BookImageWords<'a>),
     /// `fingerprint [--weighting W] [--identical] TABLE DATA`: print the fingerprint of what keys are made by.
     Fingerprint(FingerprintWords<'a>),
 }
@@ -223,6 +225,15 @@ pub struct BookWords<'a> {
     pub weighting: Option<Weighting>,
     /// The depth that made the keys: `Identical` if `--identical` is given.
     pub depth: Depth,
+    /// The name of the file of the book.
+    pub book: &'a str,
+}
+
+/// The arguments of `book`.
+#[derive(Clone, Copy, Debug)]
+pub struct BookImageWords<'a> {
+    /// The name of the file of the certificate.
+    pub certificate: &'a str,
     /// The name of the file of the book.
     pub book: &'a str,
 }
@@ -540,6 +551,16 @@ fn expand_words<'a>(found: &ArgMatches<'a>, weighting: Option<Weighting>) -> Wor
     Words::Expand(book_words(found, weighting))
 }
 
+fn book_image_words<'a>(found: &ArgMatches<'a>) -> Words<'a>
+    requires { has_words book_app (rows_of (found_of found.now)) ≡ true }
+    ensures { Says (codes "book") (rows_of (found_of found.now)) result }
+{
+    Words::Book(BookImageWords {
+        certificate: word_of(found, "certificate"),
+        book: word_of(found, "book"),
+    })
+}
+
 fn fingerprint_words<'a>(found: &ArgMatches<'a>, weighting: Option<Weighting>) -> Words<'a>
     requires { has_words fingerprint_app (rows_of (found_of found.now)) ≡ true }
     ensures { HasWeighting (rows_of (found_of found.now)) weighting → Says (codes "fingerprint") (rows_of (found_of found.now)) result }
@@ -577,6 +598,7 @@ fn subcommand_words<'a>(
         "rekey" => rekey_words(found, weighting, fingerprints),
         "compact" => compact_words(found, weighting),
         "expand" => expand_words(found, weighting),
+        "book" => book_image_words(found),
         "fingerprint" => fingerprint_words(found, weighting),
         _ => unreachable!(),
     }

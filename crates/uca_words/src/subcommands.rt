@@ -324,6 +324,17 @@ const EXPAND_COMMAND: Subcommand<'static> = Subcommand {
     arguments: &[MADE_WEIGHTING, MADE_IDENTICAL, BOOK],
 };
 
+const BOOK_COMMAND: Subcommand<'static> = Subcommand {
+    name: "book",
+    line: "Print what a book becomes by a certificate",
+    text: "Prints BOOK with its starts put through the map of level 1 of CERTIFICATE: each becomes its new weight.\n\
+           One that has none becomes the weight after the last new one below it. Mend the keys by `uca rekey` and\n\
+           this certificate, and make them compact by the new book. Then a key whose weights keep their places in\n\
+           their cells has the compact key that it had.",
+    example: "Example: uca book new.certificate my.book > new.book",
+    arguments: &[ANY_CERTIFICATE, BOOK],
+};
+
 const FINGERPRINT_COMMAND: Subcommand<'static> = Subcommand {
     name: "fingerprint",
     line: "Print the fingerprint of what keys are made by",
@@ -361,5 +372,6 @@ pub(crate) const CHANGES_COMMANDS: &[Subcommand<'static>] = &[
 pub(crate) const STORED_COMMANDS: &[Subcommand<'static>] = &[
     COMPACT_COMMAND,
     EXPAND_COMMAND,
+    BOOK_COMMAND,
     FINGERPRINT_COMMAND,
 ];

@@ -1,7 +1,7 @@
 -- The subcommand that was met is one of those that the function knows, and has the arguments that it requires.
 use Rattle.std.proofs.Common.{◌≡◌, ◌||◌, Bool, List, true, false, refl, subst, sym, true≢false}
 use Rattle.clap.specs.Words.{Row, Text, found_of, rows_of}
-use Rattle.uca_words.specs.Command.{check_app, keys_app, sort_app, compare_app, tailor_app, audit_app, affected_app, changes_app, audit_changes_app, rekey_app, compact_app, expand_app, fingerprint_app}
+use Rattle.uca_words.specs.Command.{check_app, keys_app, sort_app, compare_app, tailor_app, audit_app, affected_app, changes_app, audit_changes_app, rekey_app, compact_app, expand_app, book_app, fingerprint_app}
 use Rattle.uca_words.specs.inside.Met.{is_met}
 use Rattle.uca_words.specs.Words.{Says}
 use Rattle.uca_words.specs.declared.Words.{Words}
@@ -36,7 +36,8 @@ unreachable-requires c =
     let ten = is_of_rest rekey_app name rows _ nine c.in_default.not-rekey in
     let eleven = is_of_rest compact_app name rows _ ten c.in_default.not-compact in
     let twelve = is_of_rest expand_app name rows _ eleven c.in_default.not-expand in
-    true≢false (sym (is_of_rest fingerprint_app name rows _ twelve c.in_default.not-fingerprint))
+    let thirteen = is_of_rest book_app name rows _ twelve c.in_default.not-book in
+    true≢false (sym (is_of_rest fingerprint_app name rows _ thirteen c.in_default.not-fingerprint))
 
 pub check_words-requires : goal.check_words-requires
 check_words-requires c = by_name _ (subst (IsMet (rows_of (found_of c.args.found.now))) c.in-check.is c.requires)
@@ -73,6 +74,9 @@ compact_words-requires c = by_name _ (subst (IsMet (rows_of (found_of c.args.fou
 
 pub expand_words-requires : goal.expand_words-requires
 expand_words-requires c = by_name _ (subst (IsMet (rows_of (found_of c.args.found.now))) c.in-expand.is c.requires)
+
+pub book_image_words-requires : goal.book_image_words-requires
+book_image_words-requires c = by_name _ (subst (IsMet (rows_of (found_of c.args.found.now))) c.in-book.is c.requires)
 
 pub fingerprint_words-requires : goal.fingerprint_words-requires
 fingerprint_words-requires c = by_name _ (subst (IsMet (rows_of (found_of c.args.found.now))) c.in-fingerprint.is c.requires)
@@ -112,6 +116,9 @@ returns-in-compact c weighs prints = of_name _ _ (rows_of (found_of c.args.found
 
 pub returns-in-expand : goal.returns-in-expand
 returns-in-expand c weighs prints = of_name _ _ (rows_of (found_of c.args.found.now)) _ c.in-expand.is (c.expand_words.ensures weighs)
+
+pub returns-in-book : goal.returns-in-book
+returns-in-book c weighs prints = of_name _ _ (rows_of (found_of c.args.found.now)) _ c.in-book.is c.book_image_words.ensures
 
 pub returns-in-fingerprint : goal.returns-in-fingerprint
 returns-in-fingerprint c weighs prints = of_name _ _ (rows_of (found_of c.args.found.now)) _ c.in-fingerprint.is (c.fingerprint_words.ensures weighs)

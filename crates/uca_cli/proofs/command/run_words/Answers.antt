@@ -38,5 +38,8 @@ returns-in-Compact g c = rw c.in-Compact.is c.compact.ensures
 pub returns-in-Expand : goal.returns-in-Expand
 returns-in-Expand g c = rw c.in-Expand.is c.expand.ensures
 
+pub returns-in-Book : goal.returns-in-Book
+returns-in-Book g c = rw c.in-Book.is (refl, c.print_book.ensures)
+
 pub returns-in-Fingerprint : goal.returns-in-Fingerprint
 returns-in-Fingerprint g c = rw c.in-Fingerprint.is (refl, c.fingerprint.ensures)
