@@ -42,8 +42,8 @@ KEYS = [
     ("--weighting non-ignorable", "1C4A 2345 0000 0020 0020 0000 0002 0002", "09020C034502"),
     # a lesser weight of level 2, whose one cell is 0001 to 001F: 03 before it, 00 for the cell, and the offset 0F
     ("--weighting non-ignorable", "1C47 0000 0010 0000 0002", "080003000F01"),
-    # the last two cells of level 2, 008F to 018E and 018F to FFFF, are D2 and D3; those of level 3, 0021 to 0120 and 0121 to
-    # FFFF, are 7E and 7F
+    # the last two cells of level 2, 008F to 018E and 018F to FFFF, have the bytes 0xD2 and 0xD3; those of level 3, 0021 to
+    # 0120 and 0121 to FFFF, have 0x7E and 0x7F
     ("--weighting non-ignorable", "1C47 0000 0020 0090 0190 0000 0002 0002 0002", "080463D201D3000101"),
     ("--weighting non-ignorable", "1C47 1C47 0000 0020 0020 0000 0022 0122", "0808037E017F000100"),
     # an implicit weight: both weights count as one letter
