@@ -1,4 +1,5 @@
 pub mod Numbers
+pub mod OpenCollators
 pub mod Opened
 pub mod Results
 pub mod Statuses

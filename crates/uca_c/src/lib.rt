@@ -8,6 +8,7 @@ mod crossing;
 mod exports;
 mod handle;
 mod numbers;
+mod open_collator;
 mod parts;
 mod slot;
 mod statuses;
