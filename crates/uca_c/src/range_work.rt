@@ -5,6 +5,8 @@ ghost use Rattle.uca_order.specs.Depths.{ReadText};
 ghost use Rattle.uca_compact.specs.Forms.{AreWeights};
 ghost use Rattle.uca_c.specs.CompactCalls.{IsOneTooSmall, WritesOne};
 ghost use Rattle.uca_c.specs.OpenCollators.{keying_at};
+ghost use Rattle.uca_c.specs.declared.numbers.End.{End};
+ghost use Rattle.uca_c.specs.declared.numbers.RangeOf.{RangeOf};
 ghost use Rattle.uca_c.specs.RangeCalls.{letters_in, whole_end, compact_end, end_by, AsksNoEnd, IsEndOf};
 ghost use Rattle.uca_c.specs.Statuses.{IsKeyStatus};
 ghost use Rattle.uca_c.specs.inside.TextKeys.{IsKeyOf, IsTextKey};
