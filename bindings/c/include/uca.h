@@ -9,12 +9,18 @@
    - A uca_collator was zeroed (UCA_CLOSED_COLLATOR) before its first call, and its members are written by calls alone. It may be
      moved in memory, between calls, if the old bytes are forgotten. A copy of an open one is none.
    - A uca_collator is in one call at a time. It may change threads between two calls, if a lock or a thread's start or join orders
-     these. uca_abi, uca_version, uca_collator_size, uca_compare_keys and uca_fingerprint may be called from any thread at any time.
+     these. uca_abi, uca_version, uca_collator_size, uca_compare_keys, uca_fingerprint and uca_compact_fingerprint may be called
+     from any thread at any time.
    - malloc, realloc and free are one allocator, whose blocks are aligned to 16 bytes. No call is made in a signal handler, or in
      the forked child of a process with threads.
 
    Who owns what: memory that a pointer names stays the caller's. An open collator has memory of its own, which uca_close
-   gives back. uca_open keeps none of the bytes that it reads. */
+   gives back. uca_open and uca_open_compact keep none of the bytes that they read.
+
+   Keys are whole or compact. uca_key makes whole keys (UTS #10, section 7.3) where the collator was opened by uca_open, and
+   compact keys where it was opened by uca_open_compact. A compact key is the same key in fewer bytes, by a book: a small file that
+   says which weights have short codes (docs/FORMATS.md, "Book files"). Compact keys of one book compare as bytes as the whole keys
+   do. Keys of two books do not mix, and compact keys do not mix with whole ones. */
 #ifndef UCA_H
 #define UCA_H
 
@@ -41,7 +47,10 @@ typedef enum uca_status {
     UCA_UTF8 = 7,         /* a text is not UTF-8 */
     UCA_TOO_LONG = 8,     /* a text has more than 1,048,576 code points in Normalization Form D */
     UCA_LONG_RUN = 9,     /* a text has more than 64 non-starters in a row in Normalization Form D */
-    UCA_SMALL = 10        /* the key has more bytes than there is room for */
+    UCA_SMALL = 10,       /* what is written has more bytes than there is room for */
+    UCA_BOOK = 11,        /* the table and the data file are read, and the book is rejected: the error has the line and why */
+    UCA_NO_BOOK = 12,     /* the collator has no book: it was opened by uca_open */
+    UCA_NO_KEY = 13       /* the bytes are no key of the collator's settings, or no compact key of its book */
 } uca_status;
 
 /* How variable elements, such as spaces and punctuation, are weighted (UTS #10, section 4). */
@@ -56,6 +65,19 @@ typedef enum uca_depth {
     UCA_WEIGHTS = 0,  /* by the levels of weights */
     UCA_IDENTICAL = 1 /* by one more level, that of the code points: only canonically equivalent texts are equal */
 } uca_depth;
+
+/* Which keys a range has. "The same letters" means that level 1 is the same, as for `cafe`, `Cafe` and `café`. */
+typedef enum uca_range_of {
+    UCA_SAME_LETTERS = 1, /* the keys with the letters of the text: level 1 is the same */
+    UCA_SAME_ACCENTS = 2, /* the keys with the letters and the accents of the text: levels 1 and 2 are the same. For whole keys alone */
+    UCA_BEGINS = 3        /* the keys whose level 1 begins with the letters of the text */
+} uca_range_of;
+
+/* An end of a range. */
+typedef enum uca_end {
+    UCA_LOW = 0, /* no key of the range is less than this one */
+    UCA_HIGH = 1 /* all keys of the range are less than this one */
+} uca_end;
 
 /* Why a file is rejected. docs/FORMATS.md says what each kind means. */
 typedef enum uca_kind {
@@ -111,18 +133,64 @@ size_t uca_collator_size(void);
 uint32_t uca_open(uca_collator *collator, const uint8_t *table, size_t table_length, const uint8_t *data, size_t data_length,
                   uint32_t weighting, uint32_t depth, uca_error *error);
 
-/* The sort key of a text (UTS #10, section 7.3), which is UTF-8 and may have any bytes, also 0.
+/* Opens a closed collator as uca_open does, and by the bytes of a book. From then on uca_key gives compact keys. The table is
+   judged first, then the data file, then the book. The error is 0 and 0 unless the status is UCA_TABLE, UCA_DATA or UCA_BOOK.
+
+   UCA_OK: the bytes mean a table, a data file and a book, and texts are keyed by these until uca_close.
+   UCA_ALREADY_OPEN, UCA_ARGUMENT, UCA_TABLE, UCA_DATA, UCA_BOOK, UCA_MEMORY: the collator is as before. */
+uint32_t uca_open_compact(uca_collator *collator, const uint8_t *table, size_t table_length, const uint8_t *data, size_t data_length,
+                          const uint8_t *book, size_t book_length, uint32_t weighting, uint32_t depth, uca_error *error);
+
+/* The sort key of a text (UTS #10, section 7.3), which is UTF-8 and may have any bytes, also 0. It is the compact key where the
+   collator has a book, else the whole key.
 
    UCA_OK: the first `*needed` bytes of `out` are the key, and those after them are as before.
    UCA_SMALL: the key has `*needed` bytes, and `room` is less.
    UCA_CLOSED, UCA_UTF8, UCA_TOO_LONG, UCA_LONG_RUN, UCA_MEMORY: `*needed` is 0.
    Unless the status is UCA_OK, `out` is as before.
 
-   Keys of one collator compare as bytes (memcmp, and then the length) as their texts do, and uca_compare_keys tells the
-   level. Canonically equivalent texts have one key. At UCA_IDENTICAL no other texts have. */
+   Keys of one collator compare as bytes (memcmp, and then the length) as their texts do. Of whole keys, uca_compare_keys tells the
+   level too. Canonically equivalent texts have one key. At UCA_IDENTICAL no other texts have. */
 uint32_t uca_key(uca_collator *collator, const uint8_t *text, size_t length, uint8_t *out, size_t room, size_t *needed);
 
-/* Compares two texts without keys. It tells what uca_compare_keys tells of their keys.
+/* The compact key of a whole key, by the book of the collator. The key need not be that of a text.
+
+   UCA_OK: the first `*needed` bytes of `out` are the compact key, and those after them are as before.
+   UCA_SMALL: the compact key has `*needed` bytes, and `room` is less.
+   UCA_NO_KEY: the bytes are no whole key of the weighting and the depth. `*needed` is 0.
+   UCA_CLOSED, UCA_NO_BOOK, UCA_MEMORY: `*needed` is 0.
+   Unless the status is UCA_OK, `out` is as before. */
+uint32_t uca_compact(uca_collator *collator, const uint8_t *key, size_t length, uint8_t *out, size_t room, size_t *needed);
+
+/* The whole key of which these bytes are the compact key, by the book of the collator.
+
+   UCA_OK: the first `*needed` bytes of `out` are the whole key, and those after them are as before.
+   UCA_SMALL: the whole key has `*needed` bytes, and `room` is less.
+   UCA_NO_KEY: the bytes are the compact key of no whole key. `*needed` is 0.
+   UCA_CLOSED, UCA_NO_BOOK, UCA_MEMORY: `*needed` is 0.
+   Unless the status is UCA_OK, `out` is as before. */
+uint32_t uca_expand(uca_collator *collator, const uint8_t *compact, size_t length, uint8_t *out, size_t room, size_t *needed);
+
+/* One end of the range of keys that a lookup by this text scans: all keys from the low end up to, and without, the high end.
+   `range` is a uca_range_of, and `end` is a uca_end. The keys are those that uca_key makes with this collator: compact ones where it
+   has a book, else whole ones.
+
+   For example, the range UCA_SAME_LETTERS of `cafe` has the keys of `cafe`, `Cafe` and `café`, and no key of `cafes`. The range
+   UCA_BEGINS of `caf` has all these, and that of `cafes`. Among whole keys, UCA_BEGINS has no key in which the weight FFFF comes
+   after the letters of the text.
+
+   The low end of UCA_SAME_LETTERS or UCA_SAME_ACCENTS can be kept as a key of its own: two texts have the same low end exactly if
+   they have the same letters, or the same letters and accents. So a unique index on it lets no second such text in.
+
+   UCA_OK: the first `*needed` bytes of `out` are the end, and those after them are as before.
+   UCA_SMALL: the end has `*needed` bytes, and `room` is less.
+   UCA_ARGUMENT: the range or the end is none of those, or the range is UCA_SAME_ACCENTS and the collator has a book. `*needed` is 0.
+   UCA_CLOSED, UCA_UTF8, UCA_TOO_LONG, UCA_LONG_RUN, UCA_MEMORY: `*needed` is 0.
+   Unless the status is UCA_OK, `out` is as before. */
+uint32_t uca_range(uca_collator *collator, const uint8_t *text, size_t length, uint32_t range, uint32_t end, uint8_t *out,
+                   size_t room, size_t *needed);
+
+/* Compares two texts without keys. It tells what uca_compare_keys tells of their whole keys. A book changes nothing here.
 
    UCA_OK: the comparison is that of the texts.
    UCA_CLOSED, UCA_UTF8, UCA_TOO_LONG, UCA_LONG_RUN, UCA_MEMORY: the comparison is 0 and 0. The left text is judged first. */
@@ -136,12 +204,12 @@ uint32_t uca_compare(uca_collator *collator, const uint8_t *left, size_t left_le
    UCA_CLOSED, UCA_MEMORY: `*order` is 0. */
 uint32_t uca_order(uca_collator *collator, const uint8_t *left, size_t left_length, const uint8_t *right, size_t right_length, int32_t *order);
 
-/* Compares two stored keys of as many levels: 3, one more under UCA_SHIFTED, and one more at UCA_IDENTICAL. Any bytes can be
-   compared. */
+/* Compares two whole keys of as many levels: 3, one more under UCA_SHIFTED, and one more at UCA_IDENTICAL. Any bytes can be
+   compared. Compact keys are compared as bytes instead. */
 void uca_compare_keys(const uint8_t *left, size_t left_length, const uint8_t *right, size_t right_length, uint8_t levels,
                       uca_comparison *comparison);
 
-/* The fingerprint of what keys are made by. Keep it beside stored keys: two collators of one fingerprint make the same keys. It is
+/* The fingerprint of what whole keys are made by. Keep it beside stored keys: two collators of one fingerprint make the same keys. It is
    the SHA-256 of this text, in which each line ends with a line feed (10):
 
      uca keys 1
@@ -159,6 +227,18 @@ void uca_compare_keys(const uint8_t *left, size_t left_length, const uint8_t *ri
    UCA_ARGUMENT, UCA_TABLE, UCA_DATA, UCA_MEMORY: `out` is as before. */
 uint32_t uca_fingerprint(const uint8_t *table, size_t table_length, const uint8_t *data, size_t data_length, uint32_t weighting,
                          uint32_t depth, uint8_t *out, uca_error *error);
+
+/* The fingerprint of what compact keys are made by: the fingerprint of the whole keys, 32 bytes at `keys` that uca_fingerprint wrote,
+   and the bytes of a book. Keep it beside stored compact keys. It is the SHA-256 of this text, in which each line ends with a line
+   feed (10):
+
+     uca compact keys 1
+     keys 64 lower-case hexadecimal digits
+     book 64 lower-case hexadecimal digits
+
+   The first digits are those of the 32 bytes, and the others are the SHA-256 of the book. The bytes of the book are not judged:
+   uca_open_compact rejects what is no book. The 32 bytes at `out` are written. */
+void uca_compact_fingerprint(const uint8_t *keys, const uint8_t *book, size_t book_length, uint8_t *out);
 
 /* Gives back all memory of a collator, which is closed then. A closed one stays so. */
 void uca_close(uca_collator *collator);
