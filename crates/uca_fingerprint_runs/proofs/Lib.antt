@@ -1,3 +1,4 @@
+pub mod BookText
 pub mod SummedLines
 pub mod SummedMeanings
 pub mod Writing

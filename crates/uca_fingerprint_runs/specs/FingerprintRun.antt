@@ -6,13 +6,14 @@ use Rattle.sha2.specs.Sha256.{sha256}
 use Rattle.uca_weights.specs.declared.Depth.{Depth}
 use Rattle.uca_weights.specs.declared.Weighting.{Weighting}
 use Rattle.uca_weights.specs.Streams.{SourceState, SinkState}
-use Rattle.uca_fingerprint.specs.Fingerprints.{fingerprint_text}
+use Rattle.uca_fingerprint.specs.Fingerprints.{compact_fingerprint_text, fingerprint_text}
 use Rattle.uca_order.specs.Keyings.{settings_by}
+use Rattle.uca_run_parts.specs.declared.faults.Role.{Role}
 use Rattle.uca_run_parts.specs.declared.faults.RunFault.{RunFault}
 use Rattle.uca_run_parts.specs.declared.faults.RunFault.TheVariants.{Write}
-use Rattle.uca_run_parts.specs.Files.{HaveFailed, Over, table_and_data_roles}
+use Rattle.uca_run_parts.specs.Files.{HaveFailed, Over, Reading, table_and_data_roles}
 use Rattle.uca_run_parts.specs.Runs.{PartWentOut, ended_before_output, ended_by_output}
-use Rattle.uca_fingerprint_runs.specs.SummedFiles.{SummedContent, summed_files}
+use Rattle.uca_fingerprint_runs.specs.SummedFiles.{BookedContent, SummedContent, booked_files, booked_roles, summed_files}
 
 -- the fingerprint of what texts are keyed by under files that were summed
 abbrev pub fingerprint_under : Option Weighting → Depth → SummedContent → List ℕ
@@ -28,11 +29,27 @@ WritesText text begun now (Ok x) = Appends begun now text
 WritesText text begun now (Err (Write written)) = PartWentOut begun now text written
 WritesText text begun now (Err _) = ⊥
 
--- A run of fingerprint: what it writes if the bytes of its files are known. And for any files and output, when nothing is
--- written, and what has failed.
-pub record PrintsFingerprint {A : Type 0} (asked : Option Weighting) (depth : Depth) (olds news : List SourceState) (out out_new : SinkState)
+-- the fingerprint of compact keys of what texts are keyed by, under files that were summed
+abbrev pub compact_fingerprint_under : Option Weighting → Depth → BookedContent → List ℕ
+compact_fingerprint_under asked depth read = sha256 (compact_fingerprint_text (fingerprint_under asked depth read.files) read.book_sum)
+
+-- its line
+abbrev pub compact_fingerprint_line : Option Weighting → Depth → BookedContent → List ℕ
+compact_fingerprint_line asked depth read = encode_lower (compact_fingerprint_under asked depth read) ++ 10 ∷ []
+
+-- A run that writes the line of what some files mean: what it writes if the bytes of its files are known. And for any
+-- files and output, when nothing is written, and what has failed.
+pub record PrintsLine {A C : Type 0} (reading : Reading C) (of : List Role) (line : C → List ℕ) (olds news : List SourceState) (out out_new : SinkState)
     (result : Result A RunFault) : Type 0 where
-  pub runs : Over summed_files olds news (λ files. WritesText (fingerprint_line asked depth files) out.contents out_new.contents result) result
+  pub runs : Over reading olds news (λ files. WritesText (line files) out.contents out_new.contents result) result
   pub nothing_written : ended_before_output result ≡ true → out_new ≡ out
-  pub failed : HaveFailed table_and_data_roles olds news result
+  pub failed : HaveFailed of olds news result
   pub out_failed : out_new.failed ≡ (out.failed || ended_by_output result)
+
+-- a run of fingerprint
+abbrev pub PrintsFingerprint : {A : Type 0} → Option Weighting → Depth → List SourceState → List SourceState → SinkState → SinkState → Result A RunFault → Type 0
+PrintsFingerprint asked depth = PrintsLine summed_files table_and_data_roles (fingerprint_line asked depth)
+
+-- one of fingerprint with a book
+abbrev pub PrintsCompactFingerprint : {A : Type 0} → Option Weighting → Depth → List SourceState → List SourceState → SinkState → SinkState → Result A RunFault → Type 0
+PrintsCompactFingerprint asked depth = PrintsLine booked_files booked_roles (compact_fingerprint_line asked depth)

@@ -1,3 +1,4 @@
 pub mod FingerprintRun
 pub mod SummedFiles
 pub mod Sums
+pub mod inside

@@ -1,17 +1,22 @@
-//! The run that prints the fingerprint of what keys are made by. It reads the table and the data file alone, each by a
-//! parser that sums (`Summed` of `summed_files`).
+//! The runs that print the fingerprint of what keys are made by, and that of what compact keys are. They read the table
+//! and the data file, each by a parser that sums (`Summed` of `summed_files`), and the second one a book too.
 
 ghost use Rattle.std.specs.Prelude.{◌≡◌, ◌∷◌, [], ◌++◌};
 ghost use Rattle.hex.specs.Hex.{encode_lower};
 ghost use Rattle.uca_values.specs.Content.{properties_of};
-ghost use Rattle.uca_fingerprint_runs.specs.FingerprintRun.{PrintsFingerprint, fingerprint_under};
-ghost use Rattle.uca_fingerprint_runs.specs.SummedFiles.{summed_with};
+ghost use Rattle.uca_fingerprint_runs.specs.FingerprintRun.{
+  PrintsCompactFingerprint,
+  PrintsFingerprint,
+  compact_fingerprint_under,
+  fingerprint_under,
+};
+ghost use Rattle.uca_fingerprint_runs.specs.SummedFiles.{booked_with, summed_with};
 
-use crate::summed_files::{SummedFiles, read_summed_files};
+use crate::summed_files::{BookedFiles, SummedFiles, read_booked_files, read_summed_files};
 use hex::encode_to_slice;
 use std::alloc::Allocator;
 use std::io::{Read, Write};
-use uca_fingerprint::fingerprint_of_sums;
+use uca_fingerprint::{compact_fingerprint_of_sums, fingerprint_of_sums};
 use uca_run_parts::RunFault;
 use uca_run_parts::output::write_text;
 use uca_weights::{Depth, Settings, Sink, Source, Weighting};
@@ -41,6 +46,48 @@ pub fn run_fingerprint<A: Allocator + Copy, T: Read, D: Read, W: Write>(
         }
         Err(fault) => Err(fault),
     }
+}
+
+/// Writes the fingerprint of what compact keys are made by under a table, a data file and a book: 64 lower-case hexadecimal
+/// digits and LF. The weighting is as in [`run_fingerprint`]. The files are read in this order.
+///
+/// # Errors
+///
+/// `File` if the table, or else the data file, or else the book, is rejected: nothing was written. `Write` if the writer
+/// failed: the first `written` bytes of the line went out.
+pub fn run_compact_fingerprint<A: Allocator + Copy, T: Read, D: Read, B: Read, W: Write>(
+    alloc: A,
+    table: &mut Source<T>,
+    properties: &mut Source<D>,
+    book: &mut Source<B>,
+    out: &mut Sink<W>,
+    weighting: Option<Weighting>,
+    depth: Depth,
+) -> Result<(), RunFault>
+    ensures { PrintsCompactFingerprint weighting depth (table.old ∷ properties.old ∷ book.old ∷ [])
+        (table.new ∷ properties.new ∷ book.new ∷ []) out.old out.new result }
+{
+    match read_booked_files(alloc, table, properties, book) {
+        Ok(files) => {
+            let sum = compact_fingerprint_of_files(&files, weighting, depth);
+            drop(files);
+            write_text(&line_of(&sum), out)
+        }
+        Err(fault) => Err(fault),
+    }
+}
+
+// The fingerprint of compact keys under files that were summed.
+fn compact_fingerprint_of_files<A: Allocator>(
+    read: &BookedFiles<A>,
+    asked: Option<Weighting>,
+    depth: Depth,
+) -> [u8; 32]
+    ensures { result ≡ compact_fingerprint_under asked depth
+        (booked_with (summed_with read.now.files.table (properties_of read.now.files.properties.0, read.now.files.properties.1)) read.now.book) }
+{
+    let (_, book_sum) = &read.book;
+    compact_fingerprint_of_sums(&fingerprint_of_files(&read.files, asked, depth), book_sum)
 }
 
 // The fingerprint under files that were summed.

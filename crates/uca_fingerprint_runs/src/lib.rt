@@ -1,8 +1,11 @@
-//! The run that prints the fingerprint of what keys are made by (`run_fingerprint`); reading a table and a data file
-//! with their sums (`read_summed_files`).
+//! The runs that print the fingerprint of what keys are made by (`run_fingerprint`), and that of compact keys
+//! (`run_compact_fingerprint`). Reading a table, a data file and a book with their sums (`read_summed_files`,
+//! `read_booked_files`).
 #![tactic(auto)]
 
+mod book_sums;
 mod fingerprint;
 pub mod summed_files;
 
-pub use fingerprint::run_fingerprint;
+pub use book_sums::sum_of_book;
+pub use fingerprint::{run_compact_fingerprint, run_fingerprint};

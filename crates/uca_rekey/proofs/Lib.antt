@@ -6,4 +6,5 @@ pub mod Rekeying
 pub mod Headers
 pub mod MovedLines
 pub mod Changing
+pub mod ByBook
 pub mod WorkedLines

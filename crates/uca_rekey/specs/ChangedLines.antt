@@ -1,5 +1,5 @@
 -- Lines that begin with the digits of a key, and the same lines with another key, which may have another length.
-use Rattle.std.specs.Prelude.{◌≡◌, ℕ, ◌<◌, ◌==◌, List, [], ◌∷◌, ◌++◌, Some, if◌then◌else◌, ⊤}
+use Rattle.std.specs.Prelude.{◌≡◌, ℕ, ◌<◌, ◌==◌, List, [], ◌∷◌, ◌++◌, Option, Some, None, if◌then◌else◌, ⊤}
 use Rattle.std.specs.List.{AllByRecursion, flat_map}
 use Rattle.uca_weights.specs.declared.Settings.{Settings}
 use Rattle.uca_books.specs.Books.{BookContent}
@@ -46,3 +46,18 @@ abbrev pub LinesBecome : (List ℕ → List ℕ → Type 0) → List (List ℕ) 
 LinesBecome KeyBecomes [] [] = ⊤
 LinesBecome KeyBecomes (line ∷ lines) (new ∷ news) = LineBecomes KeyBecomes line new × LinesBecome KeyBecomes lines news
 LinesBecome KeyBecomes _ _ = ⊥
+
+-- ---- After a header
+
+-- a header, and the one in its place
+pub record Headers : Type 0 where
+  pub old : List ℕ
+  pub new : List ℕ
+
+-- Each of these lines becomes the new line at its place. Where there are headers, the old one is the first line, and the
+-- new one comes in its place.
+abbrev pub LinesBecomeAfter : (List ℕ → List ℕ → Type 0) → Option Headers → List (List ℕ) → List (List ℕ) → Type 0
+LinesBecomeAfter KeyBecomes None lines news = LinesBecome KeyBecomes lines news
+LinesBecomeAfter KeyBecomes (Some headers) (line ∷ lines) (new ∷ news) =
+    (line ≡ headers.old) × (new ≡ headers.new) × LinesBecome KeyBecomes lines news
+LinesBecomeAfter KeyBecomes (Some headers) _ _ = ⊥

@@ -1,79 +1,28 @@
-//! The runs that compact the keys of lines, and that expand compact keys.
+//! The runs that compact the keys of lines, and that expand compact keys: with and without a header.
 
-ghost use Rattle.std.specs.Prelude.{◌≡◌, ◌∷◌, [], ℕ, ◌^◌, ◌≤◌, ◌||◌, true, false, List, Option};
-ghost use Rattle.uca_weights.specs.Streams.{SinkState};
+ghost use Rattle.std.specs.Prelude.{◌≡◌, ◌∷◌, [], ◌||◌, true, false};
 ghost use Rattle.uca_run_parts.specs.EachLine.{ended_before_input};
 ghost use Rattle.uca_run_parts.specs.Files.{ended_by_file};
 ghost use Rattle.uca_run_parts.specs.Runs.{ended_by_output, is_input_read};
-ghost use Rattle.uca_rekey.specs.ChangeRun.{CompactsLines, ExpandsLines, RunsChange};
-ghost use Rattle.uca_rekey.specs.inside.ChangeSoFar.{ChangesLine, ChangesRest, HasChanged};
+ghost use Rattle.uca_rekey.specs.ChangeRun.{
+  ChangesByBook,
+  CompactsHeaded,
+  CompactsLines,
+  ExpandsHeaded,
+  ExpandsLines,
+  RunsChange,
+};
+ghost use Rattle.uca_rekey.specs.ChangedLines.{compacts, expands};
+ghost use Rattle.uca_rekey.specs.inside.ChangeSoFar.{headers_of};
 
-use crate::changed_line::{Keys, change_line};
+use crate::change_run::{HeaderLines, begin};
 use crate::changes::ChangesKeys;
-use crate::lines::KeyLines;
-use crate::written::WrittenLines;
 use std::alloc::Allocator;
 use std::io::{Read, Write};
 use uca_compact::{KeyCompacter, KeyExpander};
-use uca_run_parts::{RunFault, read_book_file};
+use uca_fingerprint::KeyHeader;
+use uca_run_parts::{RunFault, StoredKeyKind, read_book_file};
 use uca_weights::{Depth, Settings, Sink, Source, Weighting};
-
-// What changes keys, the lines of the input, the new line of the last one, and the lines that were written.
-#[derive(Drop)]
-struct ChangeRun<A: Allocator, C: ChangesKeys> {
-    change: C,
-    lines: KeyLines<A>,
-    keys: Keys<A>,
-    line: Vec<u8, A>,
-    written: WrittenLines,
-}
-
-impl<A: Allocator, C: ChangesKeys> ChangeRun<A, C> {
-    // Reads the next line and makes its new line, and returns whether there was a line.
-    fn next<I: Read>(&mut self, input: &mut Source<I>) -> Result<bool, RunFault>
-        ensures changes { (start begun : Option (List ℕ)) (before news : List (List ℕ)) (out : SinkState) →
-            HasChanged (C.becomes self.old.change) start begun before news self.old.lines input.old self.old.written out →
-            ChangesLine (C.becomes self.old.change) C.none start before self.new.lines input.new self.new.line.items result }
-        ensures change { self.new.change ≡ self.old.change }
-        ensures written { self.new.written ≡ self.old.written }
-        ensures few { self.old.written.number ≤ 2 ^ 63 }
-        ensures of_lines { ended_before_input result ≡ false }
-        ensures not_write { ended_by_output result ≡ false }
-        ensures failed { input.new.failed ≡ (input.old.failed || is_input_read result) }
-    {
-        let line = self.written.number() + 1;
-        match self.lines.next(input) {
-            Ok(true) => {
-                let old = self.lines.line();
-                match change_line(&mut self.change, old, &mut self.keys, &mut self.line) {
-                    Ok(()) => Ok(true),
-                    Err(kind) => Err(RunFault::StoredKey { line, kind }),
-                }
-            }
-            Ok(false) => Ok(false),
-            Err(kind) => Err(RunFault::StoredKey { line, kind }),
-        }
-    }
-
-    // Makes the new lines of all lines that are left, and writes them.
-    fn change_rest<I: Read, W: Write>(
-        &mut self,
-        input: &mut Source<I>,
-        out: &mut Sink<W>,
-    ) -> Result<(), RunFault>
-        ensures changes { (start begun : Option (List ℕ)) (before news : List (List ℕ)) →
-            HasChanged (C.becomes self.old.change) start begun before news self.old.lines input.old self.old.written out.old →
-            ChangesRest (C.becomes self.old.change) C.none start begun input.new self.new.written.buffer out.new result }
-        ensures of_lines { ended_before_input result ≡ false }
-        ensures input_failed { input.new.failed ≡ (input.old.failed || is_input_read result) }
-        ensures out_failed { out.new.failed ≡ (out.old.failed || ended_by_output result) }
-    {
-        while self.next(input)? {
-            self.written.write(out, &self.line)?;
-        }
-        Ok(())
-    }
-}
 
 // Changes the keys of the lines of an input, and writes the new lines.
 fn run_changes<A: Allocator + Copy, C: ChangesKeys, I: Read, W: Write>(
@@ -81,51 +30,62 @@ fn run_changes<A: Allocator + Copy, C: ChangesKeys, I: Read, W: Write>(
     change: C,
     input: &mut Source<I>,
     out: &mut Sink<W>,
+    headers: Option<HeaderLines>,
 ) -> Result<(), RunFault>
-    ensures changes { RunsChange (C.becomes change) C.none input.old input.new out.old out.new result }
+    ensures changes { RunsChange (C.becomes change) (headers_of headers) C.none input.old input.new out.old out.new result }
     ensures nothing_written { ended_before_input result ≡ true → (out.new ≡ out.old) × (input.new ≡ input.old) }
     ensures no_file { ended_by_file result ≡ false }
     ensures input_failed { ended_by_output result ≡ false → input.new.failed ≡ (input.old.failed || is_input_read result) }
     ensures out_failed { out.new.failed ≡ (out.old.failed || ended_by_output result) }
 {
-    match KeyLines::new(alloc) {
-        Ok(lines) => run_lines(alloc, change, lines, input, out),
-        Err(_) => {
-            drop(change);
-            Err(RunFault::Memory)
+    match begin(alloc, change) {
+        Ok(mut run) => {
+            let end = run.change_lines(input, out, headers);
+            drop(run);
+            end
         }
+        Err(_) => Err(RunFault::Memory),
     }
 }
 
-// Changes the keys of lines of which nothing was read, and writes the new lines.
-fn run_lines<A: Allocator + Copy, C: ChangesKeys, I: Read, W: Write>(
+// Reads the book, and compacts by it the keys of the lines of an input.
+fn compact_by_book<A: Allocator + Copy, B: Read, I: Read, W: Write>(
     alloc: A,
-    change: C,
-    lines: KeyLines<A>,
+    book: &mut Source<B>,
     input: &mut Source<I>,
     out: &mut Sink<W>,
+    settings: Settings,
+    headers: Option<HeaderLines>,
 ) -> Result<(), RunFault>
-    requires pending { lines.pending ≡ [] }
-    requires at_end { lines.at_end ≡ false }
-    ensures changes { RunsChange (C.becomes change) C.none input.old input.new out.old out.new result }
-    ensures of_lines { ended_before_input result ≡ false }
-    ensures input_failed { ended_by_output result ≡ false → input.new.failed ≡ (input.old.failed || is_input_read result) }
-    ensures out_failed { out.new.failed ≡ (out.old.failed || ended_by_output result) }
+    ensures { ChangesByBook (compacts settings) (headers_of headers) StoredKeyKind.OtherKey (book.old ∷ []) (book.new ∷ []) input.old input.new out.old out.new result }
 {
-    let mut run = ChangeRun {
-        change,
-        lines,
-        keys: Keys {
-            key: Vec::new(alloc),
-            changed: Vec::new(alloc),
-        },
-        line: Vec::new(alloc),
-        written: WrittenLines::new(),
-    };
-    let end = run.change_rest(input, out);
-    let end = run.written.end(out, end);
-    drop(run);
-    end
+    match read_book_file(alloc, book) {
+        Ok(book) => {
+            let change = KeyCompacter::new(alloc, book, settings);
+            run_changes(alloc, change, input, out, headers)
+        }
+        Err(fault) => Err(fault),
+    }
+}
+
+// Reads the book, and expands by it the compact keys of the lines of an input.
+fn expand_by_book<A: Allocator + Copy, B: Read, I: Read, W: Write>(
+    alloc: A,
+    book: &mut Source<B>,
+    input: &mut Source<I>,
+    out: &mut Sink<W>,
+    settings: Settings,
+    headers: Option<HeaderLines>,
+) -> Result<(), RunFault>
+    ensures { ChangesByBook (expands settings) (headers_of headers) StoredKeyKind.NoCompactKey (book.old ∷ []) (book.new ∷ []) input.old input.new out.old out.new result }
+{
+    match read_book_file(alloc, book) {
+        Ok(book) => {
+            let change = KeyExpander::new(alloc, book, settings);
+            run_changes(alloc, change, input, out, headers)
+        }
+        Err(fault) => Err(fault),
+    }
 }
 
 /// Puts the compact key of each stored key of the lines of `input` in its place, for keys that were made at this depth
@@ -158,10 +118,43 @@ pub fn run_compact<A: Allocator + Copy, B: Read, I: Read, W: Write>(
     ensures { CompactsLines weighting depth (book.old ∷ []) (book.new ∷ []) input.old input.new out.old out.new result }
 {
     let settings = Settings { weighting, depth };
-    match read_book_file(alloc, book) {
-        Ok(book) => run_changes(alloc, KeyCompacter::new(alloc, book, settings), input, out),
-        Err(fault) => Err(fault),
-    }
+    compact_by_book(alloc, book, input, out, settings, None)
+}
+
+/// As [`run_compact`], for lines after a header. The first line of `input` has to be the header of keys that were made
+/// under this weighting, at this depth and with the fingerprint `from`. The output begins with the header of compact keys
+/// with the fingerprint `to` in its place, and LF.
+///
+/// # Errors
+///
+/// - `StoredKey` with line 1 and `Header`: the first line is another one, or there is no line. Nothing was written.
+/// - Those of [`run_compact`]. The header is line 1, and it was written if an error is about a later line.
+pub fn run_headed_compact<A: Allocator + Copy, B: Read, I: Read, W: Write>(
+    alloc: A,
+    book: &mut Source<B>,
+    input: &mut Source<I>,
+    out: &mut Sink<W>,
+    weighting: Weighting,
+    depth: Depth,
+    from: &[u8; 32],
+    to: &[u8; 32],
+) -> Result<(), RunFault>
+    ensures { CompactsHeaded weighting depth from.now to.now (book.old ∷ []) (book.new ∷ []) input.old input.new out.old out.new result }
+{
+    let settings = Settings { weighting, depth };
+    let old_header = KeyHeader::new(settings, from);
+    let new_header = KeyHeader::compact(settings, to);
+    compact_by_book(
+        alloc,
+        book,
+        input,
+        out,
+        settings,
+        Some(HeaderLines {
+            from: old_header,
+            to: new_header,
+        }),
+    )
 }
 
 /// As [`run_compact`] the other way round: puts the stored key of each compact key of the lines of `input` in its place,
@@ -182,8 +175,40 @@ pub fn run_expand<A: Allocator + Copy, B: Read, I: Read, W: Write>(
     ensures { ExpandsLines weighting depth (book.old ∷ []) (book.new ∷ []) input.old input.new out.old out.new result }
 {
     let settings = Settings { weighting, depth };
-    match read_book_file(alloc, book) {
-        Ok(book) => run_changes(alloc, KeyExpander::new(alloc, book, settings), input, out),
-        Err(fault) => Err(fault),
-    }
+    expand_by_book(alloc, book, input, out, settings, None)
+}
+
+/// As [`run_headed_compact`] the other way round: the header of compact keys with the fingerprint `from` comes first, and
+/// that of keys with the fingerprint `to` is written in its place.
+///
+/// # Errors
+///
+/// - `StoredKey` with line 1 and `Header`, as there.
+/// - Those of [`run_expand`]. The header is line 1, and it was written if an error is about a later line.
+pub fn run_headed_expand<A: Allocator + Copy, B: Read, I: Read, W: Write>(
+    alloc: A,
+    book: &mut Source<B>,
+    input: &mut Source<I>,
+    out: &mut Sink<W>,
+    weighting: Weighting,
+    depth: Depth,
+    from: &[u8; 32],
+    to: &[u8; 32],
+) -> Result<(), RunFault>
+    ensures { ExpandsHeaded weighting depth from.now to.now (book.old ∷ []) (book.new ∷ []) input.old input.new out.old out.new result }
+{
+    let settings = Settings { weighting, depth };
+    let old_header = KeyHeader::compact(settings, from);
+    let new_header = KeyHeader::new(settings, to);
+    expand_by_book(
+        alloc,
+        book,
+        input,
+        out,
+        settings,
+        Some(HeaderLines {
+            from: old_header,
+            to: new_header,
+        }),
+    )
 }

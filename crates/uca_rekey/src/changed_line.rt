@@ -1,9 +1,9 @@
 //! A line that begins with the digits of a key, and the same line with what that key becomes.
 
-ghost use Rattle.std.specs.Prelude.{◌≡◌, ◌++◌, ℕ, List, OnOk, IfErr, length};
+ghost use Rattle.std.specs.Prelude.{◌≡◌, ◌++◌, ℕ, List, Option, OnOk, IfErr, length};
 ghost use Rattle.std.specs.List.{flat_map};
 ghost use Rattle.uca_run_parts.specs.Print.{byte_digits};
-ghost use Rattle.uca_rekey.specs.ChangedLines.{LineBecomes, from_tab, with_new_key};
+ghost use Rattle.uca_rekey.specs.ChangedLines.{Headers, LineBecomes, from_tab, with_new_key};
 ghost use Rattle.uca_rekey.specs.ChangeRun.{IsChangeCause};
 
 use crate::changes::ChangesKeys;
@@ -27,7 +27,7 @@ pub(crate) struct Keys<A: Allocator> {
 ///
 /// `NoKey` if the line begins with no key, and the error of `C` if that key becomes none. `Memory` if an allocation
 /// failed.
-pub(crate) fn change_line<C: ChangesKeys, A: Allocator>(
+pub(crate) fn change_line<A: Allocator, C: ChangesKeys>(
     change: &mut C,
     line: &[u8],
     keys: &mut Keys<A>,
@@ -35,7 +35,8 @@ pub(crate) fn change_line<C: ChangesKeys, A: Allocator>(
 ) -> Result<(), StoredKeyKind>
     ensures same { change.new ≡ change.old }
     ensures becomes { OnOk result (LineBecomes (C.becomes change.old) line.now made.new.items) }
-    ensures cause { (before : List (List ℕ)) → IfErr result (IsChangeCause (C.becomes change.old) C.none before line.now) }
+    ensures cause { (headers : Option Headers) (before : List (List ℕ)) →
+        IfErr result (IsChangeCause (C.becomes change.old) headers C.none before line.now) }
 {
     read_key(line, &mut keys.key)?;
     match change.change(&keys.key, &mut keys.changed) {

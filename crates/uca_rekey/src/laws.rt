@@ -10,7 +10,8 @@ pub fn lines_move_with_keys()
     ensures { LinesMoveWithKeys }
 {}
 
-/// The definitions give the new lines of some lines with compact keys, and the errors of others, as was worked out by hand.
+/// The definitions give the new lines of some lines with compact keys, also after a header, and the errors of others, as
+/// was worked out by hand.
 pub fn worked_lines()
     ensures { WorkedLines }
 {}

@@ -7,7 +7,7 @@ use Rattle.uca_rekey.proofs.changed_line.change_line.Goals as goal
 pub returns-in_err-read_key-clause-cause : goal.returns-in_err-read_key-clause-cause
 returns-in_err-read_key-clause-cause g c =
     let p = err_from_is_err_and c.from_residual.result c.from_residual.ensures.1 in
-    rw (p.1, p.2) (λ before. change_cause_by_key (g.C.ChangesKeys.becomes c.args.change.now) g.C.ChangesKeys.none before c.args.line.now c.in_err-read_key.field-0.0
+    rw (p.1, p.2) (λ headers before. change_cause_by_key (g.C.ChangesKeys.becomes c.args.change.now) headers g.C.ChangesKeys.none before c.args.line.now c.in_err-read_key.field-0.0
     c.in_err-read_key.ensures.cause)
 
 pub returns-in-Ok-true-clause-becomes : goal.returns-in-Ok-true-clause-becomes
@@ -17,11 +17,11 @@ returns-in-Ok-true-clause-becomes g c =
     (c.in_ok-read_key.ensures.key ∙ ap (λ (key : List ℕ). Some key) (sym c.deref.ensures.value)) changed c.deref-in-Ok-true.ensures.value c.put_line.ensures.put
 
 pub returns-in-Ok-true-clause-cause : goal.returns-in-Ok-true-clause-cause
-returns-in-Ok-true-clause-cause g c = λ before.
-    change_memory (g.C.ChangesKeys.becomes c.args.change.now) g.C.ChangesKeys.none before c.args.line.now c.put_line.result c.put_line.ensures.memory
+returns-in-Ok-true-clause-cause g c = λ headers before.
+    change_memory (g.C.ChangesKeys.becomes c.args.change.now) headers g.C.ChangesKeys.none before c.args.line.now c.put_line.result c.put_line.ensures.memory
 
 pub returns-in-Ok-false-clause-cause : goal.returns-in-Ok-false-clause-cause
-returns-in-Ok-false-clause-cause g c = λ before.
-    key_none (g.C.ChangesKeys.becomes c.args.change.now) g.C.ChangesKeys.none c.none.result before c.args.line.now c.deref.result.now c.none.ensures.value c.none.ensures.of_key
+returns-in-Ok-false-clause-cause g c = λ headers before.
+    key_none (g.C.ChangesKeys.becomes c.args.change.now) headers g.C.ChangesKeys.none c.none.result before c.args.line.now c.deref.result.now c.none.ensures.value c.none.ensures.of_key
     (c.in_ok-read_key.ensures.key ∙ ap (λ (key : List ℕ). Some key) (sym c.deref.ensures.value))
     (rw c.in-Ok-false.field-0-test at c.in-Ok-false.ensures.key)
