@@ -1,5 +1,5 @@
 -- What the runs return and write that print compact keys: alone, or each before its line, and with or without a header.
-use Rattle.std.specs.Prelude.{ℕ, List, [], ◌∷◌, Option, IfSome, Result, Err, ⊤, chars}
+use Rattle.std.specs.Prelude.{ℕ, List, [], ◌∷◌, Option, Result, chars}
 use Rattle.uca_weights.specs.declared.Depth.{Depth}
 use Rattle.uca_weights.specs.declared.Weighting.{Weighting}
 use Rattle.uca_weights.specs.Streams.{SourceState, SinkState}

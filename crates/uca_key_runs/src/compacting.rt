@@ -1,6 +1,6 @@
 //! The key of a line as it is shown: the whole key, or the compact key that a book makes of it.
 
-ghost use Rattle.std.specs.Prelude.{◌≡◌, ℕ, IfOk, OnOk};
+ghost use Rattle.std.specs.Prelude.{◌≡◌, OnOk};
 ghost use Rattle.std.specs.Char.{IsScalar};
 ghost use Rattle.std.specs.List.{AllByRecursion};
 ghost use Rattle.uca_weights.specs.declared.Settings.{Settings};
