@@ -11,7 +11,7 @@ use Rattle.uca_books.specs.Books.{BookContent}
 use Rattle.uca_order.specs.Keyings.{Keying, keying_by}
 use Rattle.uca_key_runs.specs.Keys.{keying_at, keying_of_writer}
 use Rattle.uca_key_runs.specs.inside.KeyForms.{MakesKeys, book_of, compacter_of, line_as}
-use Rattle.uca_run_parts.proofs.Printing.{line_written, not_written, no_write}
+use Rattle.uca_run_parts.proofs.Printing.{line_written, no_line, not_written, no_write}
 use Rattle.uca_run_parts.proofs.Running.{as_before}
 use Rattle.uca_key_runs.proofs.ShownKeys.{same_book, still_for}
 use Rattle.uca_key_runs.proofs.keys.KeyRun.print_rest.Goals as goal
@@ -68,6 +68,18 @@ pub returns-in_err-next-clause-out_failed : goal.returns-in_err-next-clause-out_
 returns-in_err-next-clause-out_failed g c =
     let q = err_from_is_err_and c.from_residual.result c.from_residual.ensures.1 in
     rw (q.1, q.2) (c.loop-self.invariant.out_failed ∙ as_before c.args.out.now.failed _ (no_write Bool ⊤ c.in_err-next.field-0.0 c.in_err-next.ensures.not_write))
+
+pub returns-in_err-next-clause-prints : goal.returns-in_err-next-clause-prints
+returns-in_err-next-clause-prints g c = λ start begun before p.
+    let q = err_from_is_err_and c.from_residual.result c.from_residual.ensures.1 in
+    let bytes_of = line_as c.args.form (book_of c.args.self.now.compacting) (keying_at g.L.Lookup.content c.args.self.now.key c.args.depth) in
+    let i = c.loop-self.invariant.written start begun before p in
+    let held = subst (λ b. IsBuffered begun c.loop-self.out.contents (flat_map bytes_of i.0) b) (sym c.in_err-next.ensures.output) i.1.written in
+    rw (q.1, q.2) (
+      i.0,
+      no_line (properties_of c.args.properties.now) bytes_of start begun i.0 c.next.new.self.lines c.next.new.input c.next.new.self.output
+          c.loop-self.out c.in_err-next.field-0.0 (c.in_err-next.ensures.reads start i.0 i.1.read) held,
+    )
 
 pub returns-in_err-print_line-clause-prints : goal.returns-in_err-print_line-clause-prints
 returns-in_err-print_line-clause-prints g c = λ start begun before p.
