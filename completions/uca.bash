@@ -23,7 +23,7 @@ _uca_options_of() {
     case $1 in
         '') echo "-h --help -V --version" ;;
         check) echo "-h --help" ;;
-        keys) echo "--weighting --identical --lines --header -h --help" ;;
+        keys) echo "--weighting --identical --lines --header --compact -h --help" ;;
         sort) echo "--weighting --identical -h --help" ;;
         compare) echo "--weighting --identical -h --help" ;;
         tailor) echo "-h --help" ;;
@@ -57,7 +57,7 @@ _uca_read() {
     for ((at = 1; at < COMP_CWORD; at++)); do
         case ${COMP_WORDS[at]} in
             *[\<\>]) ((at++)) ;;
-            --weighting | --from | --to)
+            --weighting | --compact | --from | --to)
                 [[ ${COMP_WORDS[at + 1]} == = ]] && ((at++))
                 ((at++))
                 ;;
@@ -77,6 +77,7 @@ _uca() {
         *[\<\>]' ') _uca_files "$current" ;;
         *' --weighting ') _uca_words "${current#=}" "non-ignorable shifted" ;;
         *' --weighting = ') _uca_words "$current" "non-ignorable shifted" ;;
+        *' --compact ' | *' --compact = ') ;;
         *' --from ' | *' --from = ') ;;
         *' --to ' | *' --to = ') ;;
         *)

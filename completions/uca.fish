@@ -7,7 +7,7 @@ function __uca_arguments
     for word in (commandline -opc)[2..-1]
         if test $skip = 1
             set skip 0
-        else if contains -- "$word" --weighting --from --to
+        else if contains -- "$word" --weighting --compact --from --to
             set skip 1
         else if not string match -q -- '-*' $word
             echo $word
@@ -57,6 +57,7 @@ complete -c uca -n '__uca_has_command keys sort compare fingerprint' -l weightin
 complete -c uca -n '__uca_wants_option identical keys sort compare fingerprint' -l identical -d 'Compare texts that weigh the same by their code points too'
 complete -c uca -n '__uca_wants_option lines keys' -l lines -d 'Print the key without blanks, a tab and the line'
 complete -c uca -n '__uca_wants_option header keys' -l header -d 'Print a first line that says what made the keys'
+complete -c uca -n '__uca_has_command keys' -l compact -x -d 'Print compact keys, made by this book'
 complete -c uca -n '__uca_wants_option changes affected' -l changes -d 'RULES is a file of changes, and DATA the new data file'
 complete -c uca -n '__uca_has_command rekey compact expand' -l weighting -x -a 'non-ignorable shifted' -d 'non-ignorable or shifted, as the keys were made'
 complete -c uca -n '__uca_wants_option identical rekey compact expand' -l identical -d 'The keys were made with --identical'

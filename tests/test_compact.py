@@ -1,4 +1,7 @@
-"""`uca compact` and `uca expand`: stored keys, and their compact keys by a book."""
+"""`uca compact` and `uca expand`: stored keys, and their compact keys by a book. And `uca keys --compact`, which makes these at
+once."""
+import hashlib
+
 from program import DATA, TABLE, ProgramTest
 
 # Cells of one weight: 1C47, 1C60 and, at level 4, 0209. So level 1 has the cells 0001 to 1C46, 1C47, 1C48 to 1C5F, 1C60,
@@ -180,6 +183,69 @@ class Keys(ProgramTest):
             ended = self.run_uca(command, "k", given=given * 2)
             self.assertEqual((ended.status, ended.err), (0, b""))
             self.assertTrue(ended.out == wanted.encode() * 2)
+
+
+class KeysCompact(ProgramTest):
+    """`uca keys --compact`."""
+
+    def setUp(self):
+        super().setUp()
+        self.write(t=TABLE, d=DATA, k=BOOK)
+
+    # options of `keys`, a line, and its compact key: those of KEYS above
+    CASES = [
+        ("", "a", "0A03"),
+        ("--weighting non-ignorable", "a", "0802"),
+        ("", "ab", "0A0C03"),
+        ("--weighting non-ignorable", "", "02"),
+        ("", "", "03"),
+        ("", "A\u0301", "0A068B8F04A505"),
+        ("", "a b", "0A0C02030102"),
+        ("", " ", "04010100"),
+        ("--weighting non-ignorable", " b", "0702080A02"),
+        ("--weighting non-ignorable", "\u4E00", "0CDB400CAE0002"),
+        ("", "\u4E00", "0EDB400EAE0003"),
+        ("--identical --weighting non-ignorable", "a", "080261"),
+        ("--identical", "a\u0301", "0A068B8F0261CC81"),
+        ("--identical", "", "03"),
+    ]
+
+    def test_keys(self):
+        for options, line, compact in self.CASES:
+            self.expect(f"keys --compact k {options} t d", line + "\n", out=compact + "\n")
+            self.expect(f"keys --lines {options} --compact k t d", f"{line}\n" * 2, out=f"{compact}\t{line}\n" * 2)
+
+    def test_as_two_commands(self):
+        """The same as `keys --lines` and then `compact`."""
+        for options in "", "--weighting non-ignorable", "--identical", "--identical --weighting non-ignorable":
+            keys = self.run_uca("keys", "--lines", *options.split(), "t", "d", given=LINES)
+            weighting = options or "--weighting shifted"
+            compact = self.run_uca("compact", *weighting.split(), "k", given=keys.out)
+            self.assertEqual((keys.status, compact.status), (0, 0))
+            self.expect(["keys", *options.split(), "--lines", "--compact", "k", "t", "d"], LINES, out=compact.out)
+
+    def test_header(self):
+        sums = [hashlib.sha256(it.encode()).hexdigest() for it in (TABLE, DATA, BOOK)]
+        for options, weighting, depth, line in [
+            ("", "shifted", "weights", "0A03"),
+            ("--lines --weighting non-ignorable", "non-ignorable", "weights", "0802\ta"),
+            ("--lines --identical", "shifted", "identical", "0A0361\ta"),
+        ]:
+            keys = f"uca keys 1\nunicode 18.0.0\nweighting {weighting}\ndepth {depth}\ntable {sums[0]}\ndata {sums[1]}\n"
+            text = f"uca compact keys 1\nkeys {hashlib.sha256(keys.encode()).hexdigest()}\nbook {sums[2]}\n"
+            header = f"#uca compact 1 {weighting} {depth} {hashlib.sha256(text.encode()).hexdigest()}\n"
+            self.expect(f"keys --header --compact k {options} t d", "a\n", out=header + line + "\n")
+            self.expect(f"keys --header --compact k {options} t d", "", out=header)
+
+    def test_rejected(self):
+        """Lines have the errors of `keys`. The files are read in their order, and then the input."""
+        self.expect("keys --compact k --lines t d", b"a\n\xff\na\n", out="0A03\ta\n", status=1, err="input line 2: Utf8\n")
+        self.write(x="?\n")
+        for header in "", "--header ":
+            self.expect(f"keys {header}--compact x t d", b"\xff", status=1, err="book line 1: Order\n")
+            self.expect(f"keys {header}--compact x x d", b"\xff", status=1, err="table line 1: Order\n")
+            self.expect(f"keys {header}--compact x t x", b"\xff", status=1, err="data line 1: Order\n")
+            self.expect(f"keys {header}--compact missing t d", b"\xff", status=3, err="book: Open\n")
 
 
 class Orders(ProgramTest):

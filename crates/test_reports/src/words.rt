@@ -40,20 +40,21 @@ fn check_cases(alloc: Global, cases: &str) -> Result<(), Fail> {
 
 /// An empty text is a word too, as is the name of a subcommand.
 const READ: &str = r#"check t d | Check(CheckWords { table: "t", properties: "d" })
-keys t d | Keys(KeysWords { weighting: None, depth: Weights, lines: false, header: false, table: "t", properties: "d" })
-keys --weighting shifted t d | Keys(KeysWords { weighting: Some(Shifted), depth: Weights, lines: false, header: false, table: "t", properties: "d" })
-keys t --weighting shifted d | Keys(KeysWords { weighting: Some(Shifted), depth: Weights, lines: false, header: false, table: "t", properties: "d" })
-keys --weighting=shifted d t | Keys(KeysWords { weighting: Some(Shifted), depth: Weights, lines: false, header: false, table: "d", properties: "t" })
-keys -- --weighting d | Keys(KeysWords { weighting: None, depth: Weights, lines: false, header: false, table: "--weighting", properties: "d" })
-keys --identical t d | Keys(KeysWords { weighting: None, depth: Identical, lines: false, header: false, table: "t", properties: "d" })
-keys t d --identical | Keys(KeysWords { weighting: None, depth: Identical, lines: false, header: false, table: "t", properties: "d" })
-keys t -- --identical | Keys(KeysWords { weighting: None, depth: Weights, lines: false, header: false, table: "t", properties: "--identical" })
-keys --header t d | Keys(KeysWords { weighting: None, depth: Weights, lines: false, header: true, table: "t", properties: "d" })
-keys --lines t d | Keys(KeysWords { weighting: None, depth: Weights, lines: true, header: false, table: "t", properties: "d" })
-keys t --lines d | Keys(KeysWords { weighting: None, depth: Weights, lines: true, header: false, table: "t", properties: "d" })
-keys t d --lines --identical --weighting shifted | Keys(KeysWords { weighting: Some(Shifted), depth: Identical, lines: true, header: false, table: "t", properties: "d" })
-keys t -- --lines | Keys(KeysWords { weighting: None, depth: Weights, lines: false, header: false, table: "t", properties: "--lines" })
-keys help d | Keys(KeysWords { weighting: None, depth: Weights, lines: false, header: false, table: "help", properties: "d" })
+keys t d | Keys(KeysWords { weighting: None, depth: Weights, lines: false, header: false, compact: None, table: "t", properties: "d" })
+keys --weighting shifted t d | Keys(KeysWords { weighting: Some(Shifted), depth: Weights, lines: false, header: false, compact: None, table: "t", properties: "d" })
+keys t --weighting shifted d | Keys(KeysWords { weighting: Some(Shifted), depth: Weights, lines: false, header: false, compact: None, table: "t", properties: "d" })
+keys --weighting=shifted d t | Keys(KeysWords { weighting: Some(Shifted), depth: Weights, lines: false, header: false, compact: None, table: "d", properties: "t" })
+keys -- --weighting d | Keys(KeysWords { weighting: None, depth: Weights, lines: false, header: false, compact: None, table: "--weighting", properties: "d" })
+keys --identical t d | Keys(KeysWords { weighting: None, depth: Identical, lines: false, header: false, compact: None, table: "t", properties: "d" })
+keys t d --identical | Keys(KeysWords { weighting: None, depth: Identical, lines: false, header: false, compact: None, table: "t", properties: "d" })
+keys t -- --identical | Keys(KeysWords { weighting: None, depth: Weights, lines: false, header: false, compact: None, table: "t", properties: "--identical" })
+keys --header t d | Keys(KeysWords { weighting: None, depth: Weights, lines: false, header: true, compact: None, table: "t", properties: "d" })
+keys --compact b t d | Keys(KeysWords { weighting: None, depth: Weights, lines: false, header: false, compact: Some("b"), table: "t", properties: "d" })
+keys --lines t d | Keys(KeysWords { weighting: None, depth: Weights, lines: true, header: false, compact: None, table: "t", properties: "d" })
+keys t --lines d | Keys(KeysWords { weighting: None, depth: Weights, lines: true, header: false, compact: None, table: "t", properties: "d" })
+keys t d --lines --identical --weighting shifted | Keys(KeysWords { weighting: Some(Shifted), depth: Identical, lines: true, header: false, compact: None, table: "t", properties: "d" })
+keys t -- --lines | Keys(KeysWords { weighting: None, depth: Weights, lines: false, header: false, compact: None, table: "t", properties: "--lines" })
+keys help d | Keys(KeysWords { weighting: None, depth: Weights, lines: false, header: false, compact: None, table: "help", properties: "d" })
 sort t d | Sort(SortWords { weighting: None, depth: Weights, table: "t", properties: "d" })
 sort t d --weighting shifted | Sort(SortWords { weighting: Some(Shifted), depth: Weights, table: "t", properties: "d" })
 sort --weighting=non-ignorable t d | Sort(SortWords { weighting: Some(NonIgnorable), depth: Weights, table: "t", properties: "d" })
@@ -113,7 +114,7 @@ fingerprint --weighting x t d | Weighting
 keys --weighting= t d | Weighting
 sort --weighting x no-such-table no-such-data | Weighting
 keys --weighting x t | MissingRequiredArgument
-keys --weighting shifted t d | Keys(KeysWords { weighting: Some(Shifted), depth: Weights, lines: false, header: false, table: "t", properties: "d" })"#;
+keys --weighting shifted t d | Keys(KeysWords { weighting: Some(Shifted), depth: Weights, lines: false, header: false, compact: None, table: "t", properties: "d" })"#;
 
 #[test]
 fn weightings_that_are_none(rt: HostRuntime) -> Result<(), Fail> {

@@ -1,6 +1,7 @@
 -- What the whole command does: it reads its arguments, opens the files that they name in their order, runs over them,
 -- and ends with a status.
 use Rattle.std.specs.Prelude.{◌≡◌, ◌≢◌, ◌⊎◌, ◌<◌, ℕ, List, [], ◌∷◌, ◌||◌, Bool, true, false, Option, Some, None, Result, Ok, Err, IfErr, is_err, length, unwrap_or}
+use Rattle.std.specs.Borrow.{Bor}
 use Rattle.std.specs.Global.{Global}
 use Rattle.uca_weights.specs.declared.Depth.{Depth}
 use Rattle.uca_weights.specs.declared.streams.sink.WriteFault.{WriteFault}
@@ -36,7 +37,9 @@ use Rattle.uca_run_parts.specs.declared.faults.Role.TheVariants as roles
 use Rattle.uca_run_parts.specs.declared.faults.RunFault.{RunFault}
 use Rattle.uca_run_parts.specs.declared.faults.RunFault.TheVariants.{CertificateWrite, Memory, Open, SameAs, Words, Write}
 use Rattle.uca_run_parts.specs.CheckRun.{Checks}
+use Rattle.uca_key_runs.specs.CompactRun.{PrintsCompactKeys, PrintsCompactLines}
 use Rattle.uca_key_runs.specs.CompareRun.{Compares, comparing}
+use Rattle.uca_key_runs.specs.HeadedCompactRun.{PrintsHeadedCompactKeys, PrintsHeadedCompactLines}
 use Rattle.uca_key_runs.specs.HeadedRun.{PrintsHeadedKeys, PrintsHeadedLines}
 use Rattle.uca_key_runs.specs.KeysRun.{PrintsKeys, PrintsKeyedLines}
 use Rattle.uca_run_parts.specs.AffectedRun.{PrintsAffected}
@@ -120,13 +123,35 @@ Prints true true weighting depth olds news input input_new out out_new run =
 Prints false true weighting depth olds news input input_new out out_new run =
     PrintsHeadedKeys weighting depth olds news input input_new out out_new run
 
--- what `keys` does
-abbrev pub DoesKeys : {O F M : Type 0} → FileSystem O F M → O → O → KeysWords → Streams → Streams
+-- and what it prints with `--compact`: compact keys
+abbrev pub PrintsCompact : Bool → Bool → Option Weighting → Depth → List SourceState → List SourceState → SourceState → SourceState
+    → SinkState → SinkState → Result (Unit {0}) RunFault → Type 0
+PrintsCompact true false weighting depth olds news input input_new out out_new run =
+    PrintsCompactLines weighting depth olds news input input_new out out_new run
+PrintsCompact false false weighting depth olds news input input_new out out_new run =
+    PrintsCompactKeys weighting depth olds news input input_new out out_new run
+PrintsCompact true true weighting depth olds news input input_new out out_new run =
+    PrintsHeadedCompactLines weighting depth olds news input input_new out out_new run
+PrintsCompact false true weighting depth olds news input input_new out out_new run =
+    PrintsHeadedCompactKeys weighting depth olds news input input_new out out_new run
+
+-- what `keys` does without `--compact`, and with this book
+abbrev pub DoesKeysBy : {O F M : Type 0} → FileSystem O F M → O → O → KeysWords → Option (Bor (List ℕ)) → Streams → Streams
     → Result ℕ RunFault → Type 0
-DoesKeys files old new words start end result =
+DoesKeysBy files old new words None start end result =
     OpensAndRuns files old new (table_and_data words.table.now words.properties.now) (end ≡ start)
     (λ olds news. Ran (done_result {A = Unit {0}})
     (Prints words.lines words.header words.weighting words.depth olds news start.input end.input start.out end.out) result) result
+DoesKeysBy files old new words (Some book) start end result =
+    OpensAndRuns files old new
+    (file_for roles.Table words.table.now ∷ file_for roles.Data words.properties.now ∷ file_for roles.Book book.now ∷ []) (end ≡ start)
+    (λ olds news. Ran (done_result {A = Unit {0}})
+    (PrintsCompact words.lines words.header words.weighting words.depth olds news start.input end.input start.out end.out) result) result
+
+-- what `keys` does
+abbrev pub DoesKeys : {O F M : Type 0} → FileSystem O F M → O → O → KeysWords → Streams → Streams
+    → Result ℕ RunFault → Type 0
+DoesKeys files old new words start end result = DoesKeysBy files old new words words.compact start end result
 
 -- what `sort` does
 abbrev pub DoesSort : {O F M : Type 0} → FileSystem O F M → O → O → SortWords → Streams → Streams

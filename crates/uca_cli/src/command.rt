@@ -1,13 +1,14 @@
 //! The command: it reads its arguments, opens the files that they name, and calls the run.
 
-ghost use Rattle.std.specs.Prelude.{◌∷◌, [], ⊤, ℕ, Bool, List, Result, ◌≡◌};
+ghost use Rattle.std.specs.Prelude.{None, ◌∷◌, [], ⊤, ℕ, Bool, List, Result, ◌≡◌};
 ghost use Rattle.clap.specs.Walk.{texts};
-ghost use Rattle.uca_cli.specs.Command.{DoesAffected, DoesAudit, DoesCheck, DoesCommand, DoesCompare, DoesFingerprint, DoesKeys, DoesSort, DoesTailor, DoesWords, EndsWith, KeepsAndPrints, KeepsMade, MakesOpened, Prints, PrintsLines, files_of_tailor, made_table, streams};
+ghost use Rattle.uca_cli.specs.Command.{DoesAffected, DoesAudit, DoesCheck, DoesCommand, DoesCompare, DoesFingerprint, DoesKeys, DoesKeysBy, DoesSort, DoesTailor, DoesWords, EndsWith, KeepsAndPrints, KeepsMade, MakesOpened, Prints, PrintsLines, files_of_tailor, made_table, streams};
 ghost use Rattle.uca_host.specs.NamedFiles.{affected_role, file_system};
 ghost use Rattle.uca_tailor_runs.specs.TailorRun.{TailorsFiles};
 
 use crate::book_commands::{compact, expand, print_book};
 use crate::change_commands::{audit_changes, changes, rekey};
+use crate::compact_keys::keys_by_book;
 use crate::printing::print_table;
 use crate::statuses::{checked, done};
 use std::alloc::Global;
@@ -57,6 +58,23 @@ fn keys<O: Opens, I: Read, W: Write>(
 ) -> Result<u8, RunFault>
     ensures { DoesKeys (file_system O.calls O.File.remaining O.Made.contents)
         opener.old opener.new words.now (streams input.old out.old) (streams input.new out.new) result }
+{
+    match words.compact {
+        Some(book) => keys_by_book(alloc, opener, words, book, input, out),
+        None => whole_keys(alloc, opener, words, input, out),
+    }
+}
+
+// `keys` without a book.
+fn whole_keys<O: Opens, I: Read, W: Write>(
+    alloc: Global,
+    opener: &mut O,
+    words: &KeysWords,
+    input: &mut Source<I>,
+    out: &mut Sink<W>,
+) -> Result<u8, RunFault>
+    ensures { DoesKeysBy (file_system O.calls O.File.remaining O.Made.contents)
+        opener.old opener.new words.now None (streams input.old out.old) (streams input.new out.new) result }
 {
     match open_files(opener, words.table, words.properties) {
         Ok((mut table, mut properties)) => {

@@ -6,6 +6,7 @@
 mod book_commands;
 mod change_commands;
 pub mod command;
+mod compact_keys;
 mod printing;
 mod statuses;
 
@@ -20,7 +21,8 @@ pub use uca_host::{MakeFault, OpenFault, Opens, STREAM_FAILED, report};
 pub use uca_key_runs::{
     affected_texts_are_the_others, canonically_equivalent_lines_have_one_key_line, compare_words,
     identical_line_keys_are_of_equivalent_lines, key_order_is_one, line_keys_compare_as_lines,
-    run_compare, run_compare_in, run_headed_keys, run_headed_keys_in, run_headed_lines,
+    run_compact_keys, run_compact_lines, run_compare, run_compare_in, run_headed_compact_keys,
+    run_headed_compact_lines, run_headed_keys, run_headed_keys_in, run_headed_lines,
     run_headed_lines_in, run_keyed_lines, run_keyed_lines_in, run_keys, run_keys_in, run_sort,
     run_sort_in, sort_lines, untouched_lines_keep_their_order,
 };

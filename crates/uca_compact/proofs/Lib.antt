@@ -22,3 +22,5 @@ pub mod LevelSteps
 pub mod KeySteps
 pub mod ExpandedKeys
 pub mod KeyBytes
+pub mod TextKeys
+pub mod Lengths

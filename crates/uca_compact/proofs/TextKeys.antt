@@ -1,5 +1,6 @@
 -- Keys of texts are stored keys.
-use Rattle.std.proofs.Common.{◌≡◌, ℕ, zero, suc, ◌/◌, ◌<◌, List, [], ◌∷◌, ◌++◌, Bool, true, false, Some, cond, not, filter, map, nat_eq, refl, ap, sym, subst, ◌∙◌, arith}
+use Rattle.std.proofs.Common.{◌≡◌, ℕ, zero, suc, ◌/◌, ◌<◌, List, [], ◌∷◌, ◌++◌, Bool, true, false, ◌&&◌, Option, Some, None, option_map, Result, Ok, Err, IfOk, if◌then◌else◌, cond, not, filter, map, nat_eq, refl, ap, sym, subst, ◌∙◌, arith}
+use Rattle.std.specs.Char.{IsScalar}
 use Rattle.std.specs.List.{AllByRecursion}
 use Rattle.std.specs.Str.{all_scalars}
 use Rattle.std.proofs.lemmas.Bool.Decides.{nat_tests}
@@ -9,9 +10,10 @@ use Rattle.uca_weights.specs.declared.Weighting.{Weighting}
 use Rattle.uca_order.specs.Levels.{Weights as WeightList, weighted, level_count, level_bytes, levels_bytes, level_list, level_lists_from, level_lists, key_bytes, weight_at}
 use Rattle.uca_order.specs.Depths.{ReadText, key_at, points_bytes}
 use Rattle.uca_compact.specs.Forms.{AreWeights, AreLevels}
-use Rattle.uca_compact.specs.CompactKeys.{text_parts, AreParts}
+use Rattle.uca_books.specs.Books.{BookContent}
+use Rattle.uca_compact.specs.CompactKeys.{KeyParts, text_parts, compact_key, AreParts}
 use Rattle.uca_compact.specs.StoredParts.{stored_parts}
-use Rattle.uca_compact.proofs.OnlyCells.{AreBytes, bytes_after}
+use Rattle.uca_compact.proofs.OnlyCells.{AreBytes, bytes_after, nothing, same_some}
 use Rattle.uca_compact.proofs.StoredBack.{stored_again}
 
 -- bytes before others
@@ -60,3 +62,26 @@ pub text_is_read : (depth : Depth) (weighting : Weighting) (t : ReadText) → Ar
     → stored_parts depth weighting (key_at depth weighting t) ≡ Some (text_parts depth weighting t)
 text_is_read Weights weighting t parts = stored_again Weights weighting (text_parts Weights weighting t) parts
 text_is_read Identical weighting t parts = stored_again Identical weighting (text_parts Identical weighting t) parts
+
+-- ---- Compact keys of texts
+
+scalars_are : (points : List ℕ) → AllByRecursion IsScalar points → all_scalars points ≡ true
+scalars_are [] each = refl
+scalars_are (c ∷ points) each = ap (λ (b : Bool). b && all_scalars points) each.0 ∙ scalars_are points each.1
+
+-- a key and its compact key, by what is said of the bytes
+made_by : (code : KeyParts → List ℕ) (o : Option KeyParts) (k : KeyParts) (found : Bool) (made : List ℕ) → o ≡ Some k
+    → option_map code o ≡ (if found then Some made else None) → (found ≡ true) × (made ≡ code k)
+made_by code o k true made is h = (refl, sym (same_some (code k) made (sym (ap (option_map code) is) ∙ h)))
+made_by code o k false made is h = nothing (sym h ∙ ap (option_map code) is)
+
+-- what is written of the key of a text is its compact key
+pub compact_of_text : {E : Type 0} (depth : Depth) (weighting : Weighting) (b : BookContent) (key made : List ℕ) (result : Result Bool E) → AreBytes key
+    → IfOk result (λ found. option_map (compact_key depth weighting b) (stored_parts depth weighting key) ≡ (if found then Some made else None))
+    → (t : ReadText) → key ≡ key_at depth weighting t → AllByRecursion IsScalar t.points
+    → IfOk result (λ found. (found ≡ true) × (made ≡ compact_key depth weighting b (text_parts depth weighting t)))
+compact_of_text depth weighting b key made (Err fault) bytes h t is scalars = tt
+compact_of_text depth weighting b key made (Ok found) bytes h t is scalars =
+    let parts = parts_of_bytes depth weighting t (subst AreBytes is bytes) (scalars_are t.points scalars) in
+    made_by (compact_key depth weighting b) (stored_parts depth weighting key) (text_parts depth weighting t) found made
+    (ap (stored_parts depth weighting) is ∙ text_is_read depth weighting t parts) h

@@ -1,9 +1,12 @@
 //! `KeyCompacter`: stored keys become compact keys.
 
-ghost use Rattle.std.specs.Prelude.{◌≡◌, IfOk, [], if◌then◌else◌, None, Some, option_map};
+ghost use Rattle.std.specs.Prelude.{◌≡◌, IfOk, [], if◌then◌else◌, true, None, Some, option_map};
 ghost use Rattle.std.specs.Bool.{MatchBool};
+ghost use Rattle.std.specs.Char.{IsScalar};
+ghost use Rattle.std.specs.List.{AllByRecursion};
 ghost use Rattle.uca_weights.specs.declared.Weighting.TheVariants.{NonIgnorable, Shifted};
-ghost use Rattle.uca_compact.specs.CompactKeys.{compact_key};
+ghost use Rattle.uca_order.specs.Depths.{ReadText, key_at};
+ghost use Rattle.uca_compact.specs.CompactKeys.{compact_key, text_parts};
 ghost use Rattle.uca_compact.specs.StoredParts.{stored_parts, IsCompactOf, IsOfNoKey};
 
 use crate::buffers::Levels;
@@ -59,6 +62,8 @@ impl<A: Allocator> KeyCompacter<A> {
     /// byte at the end. So it does at depth `Identical` if what follows the weights is not whole code points: three
     /// bytes each, high byte first, each a Unicode scalar value. What was written is then unspecified.
     ///
+    /// The key of a text is always a key of its settings. So for it `false` is never returned.
+    ///
     /// # Errors
     ///
     /// An allocation failed. The bytes are then unspecified.
@@ -70,6 +75,9 @@ impl<A: Allocator> KeyCompacter<A> {
         ensures same { self.new ≡ self.old }
         ensures key { IfOk result (λ found. option_map (compact_key self.old.settings.depth self.old.settings.weighting self.old.book)
             (stored_parts self.old.settings.depth self.old.settings.weighting key.now) ≡ (if found then Some compact.new.items else None)) }
+        ensures text { (t : ReadText) → key.now ≡ key_at self.old.settings.depth self.old.settings.weighting t → AllByRecursion IsScalar t.points →
+            IfOk result (λ found. (found ≡ true) × (compact.new.items ≡ compact_key self.old.settings.depth self.old.settings.weighting self.old.book
+            (text_parts self.old.settings.depth self.old.settings.weighting t))) }
     {
         compact.clear();
         match self.settings.weighting {

@@ -1,37 +1,40 @@
 -- The line of output of a line, by its key and by the code points that are printed.
-use Rattle.std.proofs.Common.{◌≡◌, ℕ, ◌^◌, ◌<◌, ◌≤◌, true, List, length, chars, refl, ap, ◌∙◌}
+use Rattle.std.proofs.Common.{◌≡◌, ℕ, ◌^◌, ◌<◌, ◌≤◌, true, List, Option, length, chars, refl, ap, ◌∙◌}
 use Rattle.uca_weights.specs.declared.Depth.{Depth}
 use Rattle.uca_weights.specs.declared.Depth.TheVariants.{Weights, Identical}
 use Rattle.uca_weights.specs.declared.Weighting.{Weighting}
 use Rattle.uca_elements.specs.Collations.{Collation}
 use Rattle.uca_text.specs.Texts.{nfd_text}
-use Rattle.uca_order.specs.Depths.{read_text, key_at}
+use Rattle.uca_books.specs.Books.{BookContent}
+use Rattle.uca_order.specs.Depths.{read_text}
 use Rattle.uca_order.specs.Keyings.{keying_by}
 use Rattle.uca_key_runs.specs.declared.keys.KeyForm.{KeyForm}
-use Rattle.uca_key_runs.specs.declared.keys.KeyForm.TheVariants.{Alone, BeforeLine}
-use Rattle.uca_key_runs.specs.inside.KeyForms.{depth_as, shows_points, printed_as, line_as}
+use Rattle.uca_key_runs.specs.declared.keys.KeyForm.TheVariants.{Alone, Digits, BeforeLine}
+use Rattle.uca_key_runs.specs.inside.KeyForms.{depth_as, shows_points, printed_as, shown_at, line_as}
 use Rattle.uca_run_parts.specs.Print.{print_line_at}
-use Rattle.uca_run_parts.proofs.PrintLemmas.{line_is_short, keyed_is_short}
+use Rattle.uca_run_parts.proofs.PrintLemmas.{line_is_short, digits_are_short, keyed_is_short}
 
 -- code points that are not printed do not matter
 same_printed : (form : KeyForm) (depth : Depth) (key points others line : List ℕ) → (shows_points form depth ≡ true → points ≡ others)
     → printed_as form depth key points line ≡ printed_as form depth key others line
 same_printed Alone Weights key points others line shown = refl
 same_printed Alone Identical key points others line shown = ap (λ ps. print_line_at Identical key ps) (shown refl)
+same_printed Digits depth key points others line shown = refl
 same_printed BeforeLine depth key points others line shown = refl
 
 -- what is printed of a line is its line of output
-pub line_made : (form : KeyForm) (depth made : Depth) (collation : Collation) (weighting : Weighting) (key points line : List ℕ)
-    → key ≡ key_at made weighting (read_text collation (nfd_text collation.properties (chars line))) → made ≡ depth_as form depth
+pub line_made : (form : KeyForm) (book : Option BookContent) (depth made : Depth) (collation : Collation) (weighting : Weighting) (key points line : List ℕ)
+    → key ≡ shown_at book made weighting (read_text collation (nfd_text collation.properties (chars line))) → made ≡ depth_as form depth
     → (shows_points form depth ≡ true → points ≡ (nfd_text collation.properties (chars line)).points)
-    → printed_as form depth key points line ≡ line_as form (keying_by collation (record { weighting = weighting; depth = depth })) line
-line_made form depth made collation weighting key points line is at shown =
+    → printed_as form depth key points line ≡ line_as form book (keying_by collation (record { weighting = weighting; depth = depth })) line
+line_made form book depth made collation weighting key points line is at shown =
     let text = nfd_text collation.properties (chars line) in
-    ap (λ k. printed_as form depth k points line) (is ∙ ap (λ d. key_at d weighting (read_text collation text)) at)
-    ∙ same_printed form depth (key_at (depth_as form depth) weighting (read_text collation text)) points text.points line shown
+    ap (λ k. printed_as form depth k points line) (is ∙ ap (λ d. shown_at book d weighting (read_text collation text)) at)
+    ∙ same_printed form depth (shown_at book (depth_as form depth) weighting (read_text collation text)) points text.points line shown
 
--- a line of either form is short
-pub printed_is_short : (form : KeyForm) (depth : Depth) (key points line : List ℕ) → length key < 2 ^ 40 → length points ≤ 1048576 → length line ≤ 4194304
-    → length (printed_as form depth key points line) < 2 ^ 42
+-- a line of each form is short
+pub printed_is_short : (form : KeyForm) (depth : Depth) (key points line : List ℕ) → length key < 2 ^ 41 → length points ≤ 1048576 → length line ≤ 4194304
+    → length (printed_as form depth key points line) < 2 ^ 43
 printed_is_short Alone depth key points line short few line_short = line_is_short depth key points short few
+printed_is_short Digits depth key points line short few line_short = digits_are_short key short
 printed_is_short BeforeLine depth key points line short few line_short = keyed_is_short key line short line_short

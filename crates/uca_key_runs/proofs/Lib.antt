@@ -15,3 +15,4 @@ pub mod KeyOrders
 pub mod Groups
 pub mod StoredLines
 pub mod GroupKeys
+mod ShownKeys

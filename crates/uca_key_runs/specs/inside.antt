@@ -1,3 +1,4 @@
+pub mod CompactParts
 pub mod HeadedParts
 pub mod KeptLines
 pub mod KeyForms

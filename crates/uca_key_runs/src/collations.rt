@@ -10,7 +10,7 @@ ghost use Rattle.uca_run_parts.specs.EachLine.{ended_before_input};
 ghost use Rattle.uca_order.specs.Keyings.{settings_by};
 ghost use Rattle.uca_key_runs.specs.Keys.{IsCollation};
 
-mod packed_files;
+pub(crate) mod packed_files;
 
 use packed_files::read_packed_files;
 use std::alloc::{Allocator, Global};

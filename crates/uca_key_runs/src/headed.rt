@@ -20,6 +20,7 @@ use crate::collations::{ReadCollation, collation_of};
 use crate::keys::{KeyForm, print_lines};
 use std::alloc::{Allocator, Global};
 use std::io::{Read, Write};
+use uca_books::Book;
 use uca_elements::{Collator, Lookup};
 use uca_fingerprint::{KeyHeader, fingerprint_of_sums};
 use uca_fingerprint_runs::summed_files::{SummedFiles, read_summed_files};
@@ -40,13 +41,19 @@ fn after_header(header: &[u8], end: Result<(), RunFault>) -> Result<(), RunFault
     }
 }
 
-// Writes a header, and then what the output has of each line of the input, until its end or its first line with an error.
-fn print_headed<L: Lookup, T: Allocator, A: Allocator + Copy, I: Read, W: Write>(
+/// Writes a header, and then what the output has of each line of the input, until its end or its first line with an error. With
+/// a book the lines have compact keys.
+///
+/// # Errors
+///
+/// Those of `print_lines`. The count of an error of the writer has the bytes of the header too.
+pub(crate) fn print_headed<L: Lookup, T: Allocator, A: Allocator + Copy, I: Read, W: Write>(
     alloc: A,
     global: Global,
     collator: &Collator<L, T>,
     settings: Settings,
     form: KeyForm,
+    book: Option<Book<A>>,
     header: &[u8],
     input: &mut Source<I>,
     out: &mut Sink<W>,
@@ -55,7 +62,7 @@ fn print_headed<L: Lookup, T: Allocator, A: Allocator + Copy, I: Read, W: Write>
     requires short { length header.now ≤ 128 }
     ensures writes { IfSome input.old.remaining (λ bytes.
         let c = keying_of L.content collator.now settings in
-        WritesHeaded header.now c.collation.properties (line_as form c) bytes input.new.remaining out.old.contents out.new.contents result) }
+        WritesHeaded header.now c.collation.properties (line_as form book c) bytes input.new.remaining out.old.contents out.new.contents result) }
     ensures of_lines { ended_before_input result ≡ false }
     ensures input_failed { ended_by_output result ≡ false →
         input.new.failed ≡ (input.old.failed || is_input_read result) }
@@ -63,10 +70,13 @@ fn print_headed<L: Lookup, T: Allocator, A: Allocator + Copy, I: Read, W: Write>
 {
     match write_text(header, out) {
         Ok(()) => {
-            let end = print_lines(alloc, global, collator, settings, form, input, out);
+            let end = print_lines(alloc, global, collator, settings, form, book, input, out);
             after_header(header, end)
         }
-        Err(fault) => Err(fault),
+        Err(fault) => {
+            drop(book);
+            Err(fault)
+        }
     }
 }
 
@@ -138,7 +148,9 @@ fn run_headed_in<A: Allocator + Copy, T: Read, D: Read, I: Read, W: Write>(
             let collator = read.collation.collator();
             let settings = read.settings;
             let first = header.as_bytes();
-            let end = print_headed(alloc, global, &collator, settings, form, first, input, out);
+            let end = print_headed(
+                alloc, global, &collator, settings, form, None, first, input, out,
+            );
             drop(header);
             drop(read);
             end

@@ -8,7 +8,9 @@ ghost use Rattle.uca_lines.specs.Buffered.{HasRoom, WritesThrough};
 ghost use Rattle.uca_text.specs.Texts.{nfd_text};
 ghost use Rattle.uca_elements.specs.Collations.{collation_of};
 ghost use Rattle.uca_order.specs.Lengths.{HasShortRows};
+ghost use Rattle.uca_order.specs.Depths.{read_text};
 ghost use Rattle.uca_order.specs.Keyings.{keying_of};
+ghost use Rattle.uca_key_writer.specs.Writers.{collation_by};
 ghost use Rattle.uca_key_runs.specs.Keys.{keying_at, keying_of_writer};
 ghost use Rattle.uca_run_parts.specs.Runs.{is_input_read, ended_by_output};
 ghost use Rattle.uca_run_parts.specs.EachLine.{WritesEach, ended_before_input};
@@ -17,19 +19,21 @@ ghost use Rattle.uca_key_runs.specs.KeysRun.{PrintsKeys};
 ghost use Rattle.uca_run_parts.specs.Input.{cause_of};
 ghost use Rattle.uca_run_parts.specs.Texts.{HasRead, HasTextCause, ReadsCleanLine, is_read};
 ghost use Rattle.uca_key_runs.specs.inside.KeyForms;
-ghost use Rattle.uca_key_runs.specs.inside.KeyForms.{MakesKeys, PrintsAs, depth_as, line_as, printed_as};
+ghost use Rattle.uca_key_runs.specs.inside.KeyForms.{IsFor, MakesKeys, PrintsAs, book_of, compacter_of, depth_as, line_as, printed_as, shown_at, shown_of};
 
 use crate::collations::read_collation;
+use crate::compacting::{Compacting, compact_shown, compacting_by, shown};
 use crate::line_keys::write_line_key;
 use std::alloc::{Allocator, Global};
 use std::io::{Read, Write};
+use uca_books::Book;
 use uca_elements::{Collator, Lookup};
 use uca_key_writer::KeyWriter;
 use uca_lines::{LINE_LIMIT, OutputBuffer};
 use uca_run_parts::faults::{InputKind, RunFault};
 use uca_run_parts::input::{InputLines, take_text};
 use uca_run_parts::output::end_output;
-use uca_run_parts::print::{KeyDigits, print_key, print_keyed_line};
+use uca_run_parts::print::{KeyDigits, print_digits, print_key, print_keyed_line};
 use uca_text::Normal;
 use uca_values::Data;
 use uca_weights::{Depth, Settings, Sink, Source, Weighting, WriteFault};
@@ -39,6 +43,8 @@ use uca_weights::{Depth, Settings, Sink, Source, Weighting, WriteFault};
 pub(crate) enum KeyForm {
     /// Its key, in groups.
     Alone,
+    /// The digits of its key.
+    Digits,
     /// The digits of its key, a tab, and the line.
     BeforeLine,
 }
@@ -59,6 +65,7 @@ fn print_as<W: Write>(
 {
     match form {
         KeyForm::Alone => print_key(digits, buffer, out, depth, key, points),
+        KeyForm::Digits => print_digits(digits, buffer, out, key),
         KeyForm::BeforeLine => print_keyed_line(digits, buffer, out, key, line),
     }
 }
@@ -69,7 +76,7 @@ fn depth_of(form: KeyForm, depth: Depth) -> Depth
 {
     match form {
         KeyForm::Alone => Depth::Weights,
-        KeyForm::BeforeLine => depth,
+        KeyForm::Digits | KeyForm::BeforeLine => depth,
     }
 }
 
@@ -92,31 +99,65 @@ fn take_shown_text<A: Allocator, D: Allocator>(
             Depth::Weights => Ok(()),
             Depth::Identical => take_text(text, lines, properties),
         },
-        KeyForm::BeforeLine => Ok(()),
+        KeyForm::Digits | KeyForm::BeforeLine => Ok(()),
     }
 }
 
-// Makes the key of the line that was read, and its text where its code points are printed.
+// Makes the key of the line that was read, and its compact key where that is shown.
+fn make_shown_key<'a, L: Lookup, T: Allocator, A: Allocator>(
+    key: &mut KeyWriter<'a, L, T, A>,
+    compacting: &mut Option<Compacting<A>>,
+    lines: &InputLines<A>,
+) -> Result<(), InputKind>
+    requires rows { HasShortRows (collation_by L.content key.old).rows }
+    requires compact { IsFor (compacter_of compacting.old) key.old.settings }
+    ensures shown { let c = keying_of_writer L.content key.old in
+        OnOk result (shown_of compacting.new key.new.key ≡ shown_at (book_of compacting.old) c.settings.depth c.settings.weighting
+        (read_text c.collation (nfd_text c.collation.properties (chars lines.now.line)))) }
+    ensures short { OnOk result (length (shown_of compacting.new key.new.key) < 2 ^ 41) }
+    ensures clean { (before : ℕ) → before < LINE_LIMIT →
+        OnOk result (cause_of (collation_by L.content key.old).properties before lines.now.line ≡ None) }
+    ensures fault { (before : ℕ) → before < LINE_LIMIT →
+        IfErr result (HasTextCause (collation_by L.content key.old).properties before lines.now.line) }
+    ensures not_read { is_read result ≡ false }
+    ensures collation { collation_by L.content key.new ≡ collation_by L.content key.old }
+    ensures settings { key.new.settings ≡ key.old.settings }
+    ensures compacter { compacter_of compacting.new ≡ compacter_of compacting.old }
+{
+    match write_line_key(key, lines) {
+        Ok(()) => match compact_shown(compacting, key.bytes()) {
+            Ok(()) => Ok(()),
+            Err(_) => Err(InputKind::Memory),
+        },
+        Err(kind) => Err(kind),
+    }
+}
+
+// Makes the key of the line that was read, its compact key where that is shown, and its text where its code points are
+// printed.
 fn make_key<'a, L: Lookup, T: Allocator, A: Allocator, D: Allocator>(
     key: &mut KeyWriter<'a, L, T, A>,
+    compacting: &mut Option<Compacting<A>>,
     text: &mut Normal,
     form: KeyForm,
     depth: Depth,
     lines: &InputLines<A>,
     properties: &Data<D>,
 ) -> Result<(), InputKind>
-    requires { MakesKeys form depth (properties_of properties.now) (keying_of_writer L.content key.old) }
-    ensures made { OnOk result (printed_as form depth key.new.key text.new.points lines.now.line
-        ≡ line_as form (keying_at L.content key.old depth) lines.now.line) }
-    ensures short { OnOk result (length key.new.key < 2 ^ 40) }
+    requires keys { MakesKeys form depth (properties_of properties.now) (keying_of_writer L.content key.old) }
+    requires compact { IsFor (compacter_of compacting.old) key.old.settings }
+    ensures made { OnOk result (printed_as form depth (shown_of compacting.new key.new.key) text.new.points lines.now.line
+        ≡ line_as form (book_of compacting.old) (keying_at L.content key.old depth) lines.now.line) }
+    ensures short { OnOk result (length (shown_of compacting.new key.new.key) < 2 ^ 41) }
     ensures clean { (before : ℕ) → before < LINE_LIMIT →
         OnOk result (cause_of (properties_of properties.now) before lines.now.line ≡ None) }
     ensures fault { (before : ℕ) → before < LINE_LIMIT →
         IfErr result (HasTextCause (properties_of properties.now) before lines.now.line) }
     ensures not_read { is_read result ≡ false }
     ensures kept { keying_of_writer L.content key.new ≡ keying_of_writer L.content key.old }
+    ensures compacter { compacter_of compacting.new ≡ compacter_of compacting.old }
 {
-    match write_line_key(key, lines) {
+    match make_shown_key(key, compacting, lines) {
         Ok(()) => match take_shown_text(text, form, depth, lines, properties) {
             Ok(()) => Ok(()),
             Err(kind) => Err(kind),
@@ -130,6 +171,8 @@ fn make_key<'a, L: Lookup, T: Allocator, A: Allocator, D: Allocator>(
 struct KeyRun<'a, L: Lookup, T: Allocator, A: Allocator> {
     lines: InputLines<A>,
     key: KeyWriter<'a, L, T, A>,
+    // what makes compact keys of keys, where these are shown
+    compacting: Option<Compacting<A>>,
     // the text of the line, where its code points are printed
     text: Normal,
     output: OutputBuffer,
@@ -146,24 +189,27 @@ impl<'a, L: Lookup, T: Allocator, A: Allocator> KeyRun<'a, L, T, A> {
         properties: &Data<D>,
         input: &mut Source<I>,
     ) -> Result<bool, RunFault>
-        requires { MakesKeys form depth (properties_of properties.now) (keying_of_writer L.content self.old.key) }
+        requires keys { MakesKeys form depth (properties_of properties.now) (keying_of_writer L.content self.old.key) }
+        requires compact { IsFor (compacter_of self.old.compacting) self.old.key.settings }
         ensures reads { (start : Option (List ℕ)) (before : List (List ℕ)) →
             HasRead (properties_of properties.now) start before self.old.lines input.old →
             ReadsCleanLine (properties_of properties.now) start before self.new.lines input.new result }
         ensures made { IfOk result (λ more. OnTrue more (
-            printed_as form depth self.new.key.key self.new.text.points self.new.lines.line
-            ≡ line_as form (keying_at L.content self.old.key depth) self.new.lines.line)) }
-        ensures short { IfOk result (λ more. OnTrue more (length self.new.key.key < 2 ^ 40)) }
+            printed_as form depth (shown_of self.new.compacting self.new.key.key) self.new.text.points self.new.lines.line
+            ≡ line_as form (book_of self.old.compacting) (keying_at L.content self.old.key depth) self.new.lines.line)) }
+        ensures short { IfOk result (λ more. OnTrue more (length (shown_of self.new.compacting self.new.key.key) < 2 ^ 41)) }
         ensures count { IfOk result (λ more. OnTrue more ((self.new.lines.reader.number ≡ self.old.lines.reader.number + 1)
             × (self.old.lines.reader.number < LINE_LIMIT))) }
         ensures output { self.new.output ≡ self.old.output }
         ensures kept { keying_of_writer L.content self.new.key ≡ keying_of_writer L.content self.old.key }
+        ensures compacter { compacter_of self.new.compacting ≡ compacter_of self.old.compacting }
         ensures not_write { ended_by_output result ≡ false }
         ensures failed { input.new.failed ≡ (input.old.failed || is_input_read result) }
     {
         match self.lines.next(input) {
             Ok(true) => match make_key(
                 &mut self.key,
+                &mut self.compacting,
                 &mut self.text,
                 form,
                 depth,
@@ -188,19 +234,20 @@ impl<'a, L: Lookup, T: Allocator, A: Allocator> KeyRun<'a, L, T, A> {
         depth: Depth,
         out: &mut Sink<W>,
     ) -> Result<(), RunFault>
-        requires short { length self.old.key.key < 2 ^ 40 }
+        requires short { length (shown_of self.old.compacting self.old.key.key) < 2 ^ 41 }
         requires few { 0 < self.old.lines.reader.number }
         requires most { self.old.lines.reader.number ≤ LINE_LIMIT }
         requires small { self.old.output.written + length self.old.output.held
-            ≤ (self.old.lines.reader.number - 1) * 2 ^ 42 }
+            ≤ (self.old.lines.reader.number - 1) * 2 ^ 43 }
         ensures prints { (begun : Option (List ℕ)) (before : List ℕ) →
             IsBuffered begun out.old.contents before self.old.output →
-            WritesText begun before (printed_as form depth self.old.key.key self.old.text.points self.old.lines.line)
+            WritesText begun before (printed_as form depth (shown_of self.old.compacting self.old.key.key) self.old.text.points self.old.lines.line)
             self.old.lines.reader.number self.old.output out.old self.new.output out.new result }
         ensures small { OnOk result (self.new.output.written + length self.new.output.held
-            ≤ self.old.lines.reader.number * 2 ^ 42) }
+            ≤ self.old.lines.reader.number * 2 ^ 43) }
         ensures lines { self.new.lines ≡ self.old.lines }
         ensures key { self.new.key ≡ self.old.key }
+        ensures compacting { self.new.compacting ≡ self.old.compacting }
         ensures not_read { is_input_read result ≡ false }
         ensures failed { out.new.failed ≡ (out.old.failed || ended_by_output result) }
     {
@@ -210,7 +257,7 @@ impl<'a, L: Lookup, T: Allocator, A: Allocator> KeyRun<'a, L, T, A> {
             out,
             form,
             depth,
-            self.key.bytes(),
+            shown(&self.compacting, self.key.bytes()),
             self.text.chars(),
             self.lines.line(),
         )?)
@@ -226,13 +273,14 @@ impl<'a, L: Lookup, T: Allocator, A: Allocator> KeyRun<'a, L, T, A> {
         out: &mut Sink<W>,
     ) -> Result<(), RunFault>
         requires makes { MakesKeys form depth (properties_of properties.now) (keying_of_writer L.content self.old.key) }
+        requires compact { IsFor (compacter_of self.old.compacting) self.old.key.settings }
         requires small { self.old.output.written + length self.old.output.held
-            ≤ self.old.lines.reader.number * 2 ^ 42 }
+            ≤ self.old.lines.reader.number * 2 ^ 43 }
         ensures prints { (start begun : Option (List ℕ)) (before : List (List ℕ)) →
             let points = properties_of properties.now in
-            let c = keying_at L.content self.old.key depth in
-            HasWritten points (line_as form c) start begun before self.old.lines input.old self.old.output out.old →
-            WritesRest points (line_as form c) start begun input.new self.new.output out.new result }
+            let line = line_as form (book_of self.old.compacting) (keying_at L.content self.old.key depth) in
+            HasWritten points line start begun before self.old.lines input.old self.old.output out.old →
+            WritesRest points line start begun input.new self.new.output out.new result }
         ensures input_failed { input.new.failed ≡ (input.old.failed || is_input_read result) }
         ensures out_failed { out.new.failed ≡ (out.old.failed || ended_by_output result) }
     {
@@ -255,13 +303,14 @@ pub(crate) fn print_lines<L: Lookup, T: Allocator, A: Allocator + Copy, I: Read,
     collator: &Collator<L, T>,
     settings: Settings,
     form: KeyForm,
+    book: Option<Book<A>>,
     input: &mut Source<I>,
     out: &mut Sink<W>,
 ) -> Result<(), RunFault>
     requires { HasShortRows (collation_of L.content collator.now).rows }
     ensures writes { IfSome input.old.remaining (λ bytes.
         let c = keying_of L.content collator.now settings in
-        WritesEach c.collation.properties (line_as form c) bytes input.new.remaining out.old.contents out.new.contents result) }
+        WritesEach c.collation.properties (line_as form book c) bytes input.new.remaining out.old.contents out.new.contents result) }
     ensures of_lines { ended_before_input result ≡ false }
     ensures input_failed { ended_by_output result ≡ false →
         input.new.failed ≡ (input.old.failed || is_input_read result) }
@@ -274,6 +323,7 @@ pub(crate) fn print_lines<L: Lookup, T: Allocator, A: Allocator + Copy, I: Read,
     let mut run = KeyRun {
         lines: InputLines::new(alloc),
         key: KeyWriter::new(alloc, global, *collator, made),
+        compacting: compacting_by(alloc, book, made),
         text: Normal::new(global),
         output: OutputBuffer::new(),
         digits: KeyDigits::new(),
@@ -360,7 +410,16 @@ pub(crate) fn run_lines_in<A: Allocator + Copy, T: Read, D: Read, I: Read, W: Wr
     match read_collation(alloc, table, properties, weighting, depth) {
         Ok(read) => {
             let collator = read.collation.collator();
-            let end = print_lines(alloc, global, &collator, read.settings, form, input, out);
+            let end = print_lines(
+                alloc,
+                global,
+                &collator,
+                read.settings,
+                form,
+                None,
+                input,
+                out,
+            );
             drop(read);
             end
         }

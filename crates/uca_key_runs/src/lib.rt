@@ -18,16 +18,21 @@
 #![tactic(auto)]
 
 mod collations;
+pub mod compact;
+mod compacting;
 pub mod compare;
 pub mod headed;
+pub mod headed_compact;
 pub mod keyed_lines;
 pub mod keys;
 pub mod laws;
 mod line_keys;
 pub mod sort;
 
+pub use compact::{run_compact_keys, run_compact_lines};
 pub use compare::{compare_words, run_compare, run_compare_in};
 pub use headed::{run_headed_keys, run_headed_keys_in, run_headed_lines, run_headed_lines_in};
+pub use headed_compact::{run_headed_compact_keys, run_headed_compact_lines};
 pub use keyed_lines::{run_keyed_lines, run_keyed_lines_in};
 pub use keys::{run_keys, run_keys_in};
 pub use laws::{

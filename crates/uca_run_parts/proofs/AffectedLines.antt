@@ -59,5 +59,5 @@ pub line_affected : (is_so : List ℕ → Bool) (text line : List ℕ) → is_so
 line_affected is_so text line so = ap (λ b. if b then ended line else []) so
 
 -- a line is short
-pub affected_is_short : (line : List ℕ) → length line ≤ 4194304 → length (ended line) < 2 ^ 42
+pub affected_is_short : (line : List ℕ) → length line ≤ 4194304 → length (ended line) < 2 ^ 43
 affected_is_short line short = omega (arith, short, length-append line (10 ∷ []))

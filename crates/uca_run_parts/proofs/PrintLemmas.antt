@@ -11,7 +11,7 @@ use Rattle.uca_lines.specs.Lines.{ended}
 use Rattle.uca_lines.specs.OutputBuffer.{BufferState}
 use Rattle.uca_lines.specs.Buffered.{HasRoom, HasWrittenThrough}
 use Rattle.uca_lines.proofs.BufferedLemmas.{part, written_none, written_then}
-use Rattle.uca_run_parts.specs.Print.{byte_digits, groups, printed_groups, spaced_groups, spaced_point, identical_level, printed_after, print_line_at, keyed_line_of}
+use Rattle.uca_run_parts.specs.Print.{byte_digits, groups, printed_groups, spaced_groups, spaced_point, identical_level, printed_after, print_line_at, digits_line_of, keyed_line_of}
 
 -- ---- The groups
 
@@ -264,7 +264,7 @@ length-level : (depth : Depth) (points : List ℕ) → length (printed_after dep
 length-level Weights points = omega arith
 length-level Identical points = omega (arith, length-points points)
 
-pub line_is_short : (depth : Depth) (key points : List ℕ) → length key < 2 ^ 40 → length points ≤ 1048576 → length (print_line_at depth key points) < 2 ^ 42
+pub line_is_short : (depth : Depth) (key points : List ℕ) → length key < 2 ^ 41 → length points ≤ 1048576 → length (print_line_at depth key points) < 2 ^ 43
 line_is_short depth key points short few =
     let level = printed_after depth points in
     omega (arith, short, few, length-append (printed_groups key) (level ++ 10 ∷ []), length-append level (10 ∷ []), length-groups key, length-level depth points)
@@ -362,13 +362,23 @@ all_digits key [] out now buffer held upto none =
     subst (λ (l : List ℕ). HasWrittenThrough (flat_map byte_digits l) buffer held out now) (sym (upto.key_is ∙ append-nil upto.done)) upto.written_through
 all_digits key (a ∷ rest) out now buffer held upto none = absurd (omega arith)
 
--- the parts of such a line
+-- the parts of a line with the digits alone
+abbrev pub digits_parts : List ℕ → List (List ℕ)
+digits_parts key = flat_map byte_digits key ∷ (10 ∷ []) ∷ []
+
+pub digits_is : (key : List ℕ) → digits_line_of key ≡ flat_map part (digits_parts key)
+digits_is key = refl
+
+pub digits_are_short : (key : List ℕ) → length key < 2 ^ 41 → length (digits_line_of key) < 2 ^ 43
+digits_are_short key short = omega (arith, short, length-digits key, length-append (flat_map byte_digits key) (10 ∷ []))
+
+-- the parts of a key before a line
 abbrev pub keyed_parts : List ℕ → List ℕ → List (List ℕ)
 keyed_parts key line = flat_map byte_digits key ∷ (9 ∷ []) ∷ ended line ∷ []
 
 pub keyed_is : (key line : List ℕ) → keyed_line_of key line ≡ flat_map part (keyed_parts key line)
 keyed_is key line = ap (λ l. flat_map byte_digits key ++ 9 ∷ l) (sym (append-nil (ended line)))
 
-pub keyed_is_short : (key line : List ℕ) → length key < 2 ^ 40 → length line ≤ 4194304 → length (keyed_line_of key line) < 2 ^ 42
+pub keyed_is_short : (key line : List ℕ) → length key < 2 ^ 41 → length line ≤ 4194304 → length (keyed_line_of key line) < 2 ^ 43
 keyed_is_short key line short few =
     omega (arith, short, few, length-digits key, length-append (flat_map byte_digits key) (9 ∷ ended line), length-append line (10 ∷ []))

@@ -19,10 +19,10 @@ use Rattle.uca_run_parts.specs.Texts.{LinesState, HasRead, HasCleanLine, ReadsCl
 -- ---- Counts
 
 -- so much was written that the count of all bytes fits
-pub small_enough : (n all line : ℕ) → all ≤ n * 2 ^ 42 → n < 1000000 → line < 2 ^ 42 → all + line < 2 ^ 64
+pub small_enough : (n all line : ℕ) → all ≤ n * 2 ^ 43 → n < 1000000 → line < 2 ^ 43 → all + line < 2 ^ 64
 small_enough n all line small few short = omega (arith, small, few, short)
 
-pub still_small : (n m old new line : ℕ) → old ≤ n * 2 ^ 42 → m ≡ n + 1 → line < 2 ^ 42 → new ≡ old + line → new ≤ m * 2 ^ 42
+pub still_small : (n m old new line : ℕ) → old ≤ n * 2 ^ 43 → m ≡ n + 1 → line < 2 ^ 43 → new ≡ old + line → new ≤ m * 2 ^ 43
 still_small n m old new line small next short count = omega (arith, small, next, short, count)
 
 -- what is no error of the output

@@ -44,6 +44,10 @@ printed_after Identical points = identical_level points
 abbrev pub print_line_at : Depth → List ℕ → List ℕ → List ℕ
 print_line_at depth key points = printed_groups key ++ (printed_after depth points ++ 10 ∷ [])
 
+-- a key alone: its digits without spaces, and LF
+abbrev pub digits_line_of : List ℕ → List ℕ
+digits_line_of key = flat_map byte_digits key ++ 10 ∷ []
+
 -- a key before a line: the digits of the key without spaces, a tab, the line, and LF
 abbrev pub keyed_line_of : List ℕ → List ℕ → List ℕ
 keyed_line_of key line = flat_map byte_digits key ++ (9 ∷ (line ++ 10 ∷ []))

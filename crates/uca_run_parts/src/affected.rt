@@ -59,13 +59,13 @@ impl<A: Allocator> AffectedRun<A> {
         requires few { 0 < self.old.texts.lines.reader.number }
         requires most { self.old.texts.lines.reader.number ≤ LINE_LIMIT }
         requires small { self.old.output.written + length self.old.output.held
-            ≤ (self.old.texts.lines.reader.number - 1) * 2 ^ 42 }
+            ≤ (self.old.texts.lines.reader.number - 1) * 2 ^ 43 }
         ensures prints { (begun : Option (List ℕ)) (before : List ℕ) →
             IsBuffered begun out.old.contents before self.old.output →
             WritesText begun before (if_so (X.affects affects.now) self.old.texts.text.points self.old.texts.lines.line)
             self.old.texts.lines.reader.number self.old.output out.old self.new.output out.new result }
         ensures small { OnOk result (self.new.output.written + length self.new.output.held
-            ≤ self.old.texts.lines.reader.number * 2 ^ 42) }
+            ≤ self.old.texts.lines.reader.number * 2 ^ 43) }
         ensures texts { self.new.texts ≡ self.old.texts }
         ensures not_read { is_input_read result ≡ false }
         ensures failed { out.new.failed ≡ (out.old.failed || ended_by_output result) }
@@ -85,7 +85,7 @@ impl<A: Allocator> AffectedRun<A> {
         out: &mut Sink<W>,
     ) -> Result<(), RunFault>
         requires small { self.old.output.written + length self.old.output.held
-            ≤ self.old.texts.lines.reader.number * 2 ^ 42 }
+            ≤ self.old.texts.lines.reader.number * 2 ^ 43 }
         ensures prints { (start begun : Option (List ℕ)) (before : List (List ℕ)) →
             let points = properties_of properties.now in
             HasWritten points (line_if (X.affects affects.now) points) start begun before self.old.texts.lines input.old self.old.output out.old →

@@ -4,7 +4,7 @@ ghost use Rattle.std.specs.Prelude.{◌≡◌, ◌≤◌, length};
 ghost use Rattle.std.specs.List.{flat_map};
 ghost use Rattle.uca_lines.specs.Buffered.{HasRoom, WritesThrough};
 ghost use Rattle.uca_run_parts.specs.Print;
-ghost use Rattle.uca_run_parts.specs.Print.{byte_digits, printed_groups, spaced_groups, printed_after, print_line_at, keyed_line_of};
+ghost use Rattle.uca_run_parts.specs.Print.{byte_digits, printed_groups, spaced_groups, printed_after, print_line_at, digits_line_of, keyed_line_of};
 
 use crate::output::write_line;
 use std::io::Write;
@@ -54,6 +54,21 @@ pub fn print_key<W: Write>(
 {
     write_groups(&mut digits.groups, buffer, out, key)?;
     write_level(buffer, out, depth, points)?;
+    buffer.write(out, b"\n")
+}
+
+/// Writes a key as a line of upper-case hexadecimal digits without spaces, and LF. It takes no memory. An error says how many
+/// bytes went out of all that was written to the buffer.
+pub fn print_digits<W: Write>(
+    digits: &mut KeyDigits,
+    buffer: &mut OutputBuffer,
+    out: &mut Sink<W>,
+    key: &[u8],
+) -> Result<(), WriteFault>
+    requires { HasRoom buffer.old (length (digits_line_of key.now)) }
+    ensures { WritesThrough (digits_line_of key.now) buffer.old buffer.new out.old out.new result }
+{
+    write_digits(&mut digits.pairs, buffer, out, key)?;
     buffer.write(out, b"\n")
 }
 

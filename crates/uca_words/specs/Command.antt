@@ -33,9 +33,11 @@ with_options app = with_files (with_settings app)
 abbrev pub check_app : App
 check_app = with_files (new_app (codes "check"))
 
--- `keys [--weighting W] [--identical] [--lines] [--header] TABLE DATA`
+-- `keys [--weighting W] [--identical] [--lines] [--header] [--compact BOOK] TABLE DATA`
 abbrev pub keys_app : App
-keys_app = with_rule (with_rule (with_options (new_app (codes "keys"))) (flag_rule (codes "lines"))) (flag_rule (codes "header"))
+keys_app =
+    with_rule (with_rule (with_rule (with_options (new_app (codes "keys"))) (flag_rule (codes "lines"))) (flag_rule (codes "header")))
+    (value_rule (codes "compact"))
 
 abbrev pub sort_app : App
 sort_app = with_options (new_app (codes "sort"))

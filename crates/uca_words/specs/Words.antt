@@ -39,6 +39,10 @@ HasFingerprints rows (Some given) =
 abbrev pub HasWord : List Row → Text → Bor Text → Type 0
 HasWord rows id word = first_of id rows ≡ Some word.now
 
+-- the option of this name is given this value, or is not given
+abbrev pub HasOption : List Row → Text → Option (Bor Text) → Type 0
+HasOption rows id value = option_map (λ word. word.now) value ≡ first_of id rows
+
 abbrev pub HasFiles : List Row → Bor Text → Bor Text → Type 0
 HasFiles rows table properties = HasWord rows (codes "table") table × HasWord rows (codes "data") properties
 
@@ -57,7 +61,7 @@ abbrev pub Says : Text → List Row → Words → Type 0
 Says name rows (words.Check words) = (name ≡ codes "check") × HasFiles rows words.table words.properties
 Says name rows (words.Keys words) =
     (name ≡ codes "keys") × HasWeighting rows words.weighting × HasDepth rows words.depth × (is_given (codes "lines") rows ≡ words.lines)
-    × (is_given (codes "header") rows ≡ words.header) × HasFiles rows words.table words.properties
+    × (is_given (codes "header") rows ≡ words.header) × HasOption rows (codes "compact") words.compact × HasFiles rows words.table words.properties
 Says name rows (words.Sort words) =
     (name ≡ codes "sort") × HasWeighting rows words.weighting × HasDepth rows words.depth × HasFiles rows words.table words.properties
 Says name rows (words.Compare words) =

@@ -38,7 +38,8 @@ use uca_weights::{Depth, Weighting};
 pub enum Words<'a> {
     /// `check TABLE DATA`: say whether a weight table is well-formed.
     Check(CheckWords<'a>),
-    /// `keys [--weighting W] [--identical] [--lines] [--header] TABLE DATA`: print the sort key of each line of standard input.
+    /// `keys [--weighting W] [--identical] [--lines] [--header] [--compact BOOK] TABLE DATA`: print the sort key of each line of
+    /// standard input, or its compact key.
     Keys(KeysWords<'a>),
     /// `sort [--weighting W] [--identical] TABLE DATA`: sort the lines of standard input.
     Sort(SortWords<'a>),
@@ -88,6 +89,8 @@ pub struct KeysWords<'a> {
     pub lines: bool,
     /// Whether a first line says what made the keys: `--header` is given.
     pub header: bool,
+    /// The name of the book file that compact keys are made by, if `--compact` is given.
+    pub compact: Option<&'a str>,
     /// The name of the table file.
     pub table: &'a str,
     /// The name of the data file.
@@ -404,6 +407,7 @@ fn keys_words<'a>(found: &ArgMatches<'a>, weighting: Option<Weighting>) -> Words
         depth: given_depth(found),
         lines: is_in_words(found, "lines"),
         header: is_in_words(found, "header"),
+        compact: value_of(found, "compact"),
         table,
         properties,
     })

@@ -69,6 +69,12 @@ const HEADER: Argument<'static> = Argument::Flag {
     help: "Print a first line that says what made the keys",
 };
 
+const COMPACT: Argument<'static> = Argument::Value {
+    id: "compact",
+    name: "BOOK",
+    help: "Print compact keys, made by this book",
+};
+
 const FROM: Argument<'static> = Argument::Value {
     id: "from",
     name: "FINGERPRINT",
@@ -205,11 +211,13 @@ const KEYS_COMMAND: Subcommand<'static> = Subcommand {
            of Normalization Form D follow as one more level, six digits each. With `--lines` each key has no\n\
            blanks, and after it come a tab and the line: a database or `sort` can read that. With `--header` a\n\
            first line has the weighting, the depth and the fingerprint. `rekey` tests it, and `sort` in the locale C\n\
-           leaves it first.",
+           leaves it first. With `--compact` it prints the compact key of each line, without blanks, as\n\
+           `uca compact BOOK` makes it of the key. The header then names the book too.",
     example: "Examples:\n\
          \x20 uca keys allkeys.txt data.txt < lines.txt\n\
-         \x20 uca keys --lines --header allkeys.txt data.txt < lines.txt > keyed.tsv",
-    arguments: &[WEIGHTING, IDENTICAL, TABLE, DATA, LINES, HEADER],
+         \x20 uca keys --lines --header allkeys.txt data.txt < lines.txt > keyed.tsv\n\
+         \x20 uca keys --compact general.book --lines allkeys.txt data.txt < lines.txt > compact.tsv",
+    arguments: &[WEIGHTING, IDENTICAL, TABLE, DATA, LINES, HEADER, COMPACT],
 };
 
 const SORT_COMMAND: Subcommand<'static> = Subcommand {

@@ -1,5 +1,5 @@
 -- The parts of a run with a header.
-use Rattle.std.specs.Prelude.{◌≡◌, ℕ, ◌+◌, ◌-◌, ◌^◌, min, List, Option, Result, Ok, Err}
+use Rattle.std.specs.Prelude.{◌≡◌, ℕ, ◌+◌, ◌-◌, ◌^◌, min, List, Option, None, Result, Ok, Err}
 use Rattle.uca_weights.specs.declared.Depth.{Depth}
 use Rattle.uca_weights.specs.declared.Settings.{Settings}
 use Rattle.uca_weights.specs.declared.Weighting.{Weighting}
@@ -29,4 +29,4 @@ ended_after first (Err fault) = Err fault
 abbrev pub PrintsHeadedAs : {A : Type 0} → KeyForm → Option Weighting → Depth → List SourceState → List SourceState → SourceState → SourceState
     → SinkState → SinkState → Result A RunFault → Type 0
 PrintsHeadedAs form asked depth olds news input input_new out out_new result =
-    PrintsEach summed_files table_and_data_roles (RunsHeaded (line_as form) asked depth input input_new out out_new result) olds news input input_new out out_new result
+    PrintsEach summed_files table_and_data_roles (RunsHeaded (line_as form None) asked depth input input_new out out_new result) olds news input input_new out out_new result

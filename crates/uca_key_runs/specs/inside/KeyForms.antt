@@ -1,52 +1,97 @@
 -- The forms of a line of output that has a key.
-use Rattle.std.specs.Prelude.{◌≡◌, ℕ, List, Bool, true, false, Option, Result, chars}
+use Rattle.std.specs.Prelude.{◌≡◌, ℕ, List, Bool, true, false, Option, Some, None, option_map, Result, ⊤, chars}
+use Rattle.uca_weights.specs.declared.Settings.{Settings}
 use Rattle.uca_weights.specs.Streams.{SourceState, SinkState}
 use Rattle.uca_weights.specs.declared.Weighting.{Weighting}
 use Rattle.uca_weights.specs.declared.Depth.{Depth}
 use Rattle.uca_weights.specs.declared.Depth.TheVariants.{Weights, Identical}
 use Rattle.uca_values.specs.Content.{Properties}
 use Rattle.uca_text.specs.Texts.{NfdText, nfd_text}
-use Rattle.uca_order.specs.Depths.{read_text, key_at}
+use Rattle.uca_books.specs.Books.{BookContent}
+use Rattle.uca_order.specs.Depths.{ReadText, read_text, key_at}
 use Rattle.uca_order.specs.Lengths.{HasShortRows}
 use Rattle.uca_run_parts.specs.declared.faults.RunFault.{RunFault}
 use Rattle.uca_key_runs.specs.declared.keys.KeyForm.{KeyForm}
-use Rattle.uca_key_runs.specs.declared.keys.KeyForm.TheVariants.{Alone, BeforeLine}
+use Rattle.uca_key_runs.specs.declared.keys.KeyForm.TheVariants.{Alone, Digits, BeforeLine}
 use Rattle.uca_run_parts.specs.EachLine.{PrintsEach}
 use Rattle.uca_run_parts.specs.Files.{table_and_data, table_and_data_roles}
 use Rattle.uca_order.specs.Keyings.{Keying}
 use Rattle.uca_key_runs.specs.KeysRun.{RunsUnder}
-use Rattle.uca_run_parts.specs.Print.{print_line_at, keyed_line_of}
+use Rattle.uca_run_parts.specs.Print.{print_line_at, digits_line_of, keyed_line_of}
+use Rattle.uca_compact.specs.CompactKeys.{compact_key, text_parts}
+use Rattle.uca_compact.specs.Programs.{CompacterState}
+use Rattle.uca_key_runs.specs.CompactRun.{RunsCompact, compact_files, compact_roles}
 
 -- the depth of the key that is made for a form: a key alone shows its identical level otherwise than the weights
 abbrev pub depth_as : KeyForm → Depth → Depth
 depth_as Alone depth = Weights
+depth_as Digits depth = depth
 depth_as BeforeLine depth = depth
 
 -- whether the code points of the text are printed: those of a key alone are, with an identical level
 abbrev pub shows_points : KeyForm → Depth → Bool
 shows_points Alone Weights = false
 shows_points Alone Identical = true
+shows_points Digits depth = false
 shows_points BeforeLine depth = false
 
 -- the line of output, by that key, the code points of the text, and the line of the input
 abbrev pub printed_as : KeyForm → Depth → List ℕ → List ℕ → List ℕ → List ℕ
 printed_as Alone depth key points line = print_line_at depth key points
+printed_as Digits depth key points line = digits_line_of key
 printed_as BeforeLine depth key points line = keyed_line_of key line
 
--- that of a line with its text
-abbrev pub text_as : KeyForm → Keying → NfdText → List ℕ → List ℕ
-text_as form c text line =
-    printed_as form c.settings.depth (key_at (depth_as form c.settings.depth) c.settings.weighting (read_text c.collation text)) text.points line
+-- the key that is shown of a text: the whole one, or the compact one by a book
+abbrev pub shown_at : Option BookContent → Depth → Weighting → ReadText → List ℕ
+shown_at None depth weighting text = key_at depth weighting text
+shown_at (Some book) depth weighting text = compact_key depth weighting book (text_parts depth weighting text)
+
+-- the line of output of a line with its text
+abbrev pub text_as : KeyForm → Option BookContent → Keying → NfdText → List ℕ → List ℕ
+text_as form book c text line =
+    printed_as form c.settings.depth (shown_at book (depth_as form c.settings.depth) c.settings.weighting (read_text c.collation text)) text.points line
 
 -- that of a line of the input, which is UTF-8
-abbrev pub line_as : KeyForm → Keying → List ℕ → List ℕ
-line_as form c line = text_as form c (nfd_text c.collation.properties (chars line)) line
+abbrev pub line_as : KeyForm → Option BookContent → Keying → List ℕ → List ℕ
+line_as form book c line = text_as form book c (nfd_text c.collation.properties (chars line)) line
 
 -- a run that writes such a line for each line of its input
 abbrev pub PrintsAs : {A : Type 0} → KeyForm → Option Weighting → Depth → List SourceState → List SourceState → SourceState → SourceState
     → SinkState → SinkState → Result A RunFault → Type 0
 PrintsAs form asked depth olds news input input_new out out_new result =
-    PrintsEach table_and_data table_and_data_roles (RunsUnder (line_as form) asked depth input input_new out out_new result) olds news input input_new out out_new result
+    PrintsEach table_and_data table_and_data_roles (RunsUnder (line_as form None) asked depth input input_new out out_new result) olds news input input_new out out_new result
+
+-- a run that writes such a line with a compact key
+abbrev pub PrintsCompactAs : {A : Type 0} → KeyForm → Option Weighting → Depth → List SourceState → List SourceState → SourceState → SourceState
+    → SinkState → SinkState → Result A RunFault → Type 0
+PrintsCompactAs form asked depth olds news input input_new out out_new result =
+    PrintsEach compact_files compact_roles (RunsCompact (λ book. line_as form (Some book)) asked depth input input_new out out_new result)
+    olds news input input_new out out_new result
+
+-- ---- What makes compact keys of keys
+
+-- what a clause sees of it: the compacter, and the compact key that was made last
+pub record CompactState : Type 0 where
+  pub by : CompacterState
+  pub key : List ℕ
+
+-- the book, where compact keys are made
+abbrev pub book_of : Option CompactState → Option BookContent
+book_of compact = option_map (λ c. c.by.book) compact
+
+-- what compact keys are made by
+abbrev pub compacter_of : Option CompactState → Option CompacterState
+compacter_of compact = option_map (λ c. c.by) compact
+
+-- the key that is shown: the compact one, where it is made
+abbrev pub shown_of : Option CompactState → List ℕ → List ℕ
+shown_of None key = key
+shown_of (Some c) key = c.key
+
+-- it makes compact keys of the keys of these settings
+abbrev pub IsFor : Option CompacterState → Settings → Type 0
+IsFor None settings = ⊤
+IsFor (Some by) settings = by.settings ≡ settings
 
 -- ---- A writer of the keys of a form
 

@@ -1,11 +1,8 @@
--- Both files are opened, and then run over.
-use Rattle.std.proofs.Common.{[], ◌∷◌, inr}
+-- The book says which of both is done.
 use Rattle.uca_cli.proofs.command.keys.Goals as goal
 
-pub returns-in-Ok : goal.returns-in-Ok
-returns-in-Ok g c = inr (record {
-  before = c.in-Ok.table ∷ c.in-Ok.properties ∷ [];
-  after = c.print.new.table ∷ c.print.new.properties ∷ [];
-  opened = c.in-Ok.ensures;
-  runs = record { run = c.print.result; runs = c.print.ensures; status = c.done.ensures };
-})
+pub returns-in-Some : goal.returns-in-Some
+returns-in-Some g c = rw c.in-Some.is c.keys_by_book.ensures
+
+pub returns-in-None : goal.returns-in-None
+returns-in-None g c = rw c.in-None.is c.whole_keys.ensures

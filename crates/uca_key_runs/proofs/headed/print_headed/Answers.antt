@@ -13,7 +13,7 @@ pub returns-in-Ok-clause-writes : goal.returns-in-Ok-clause-writes
 returns-in-Ok-clause-writes g c =
     let keying = keying_of g.L.Lookup.content c.args.collator.now c.args.settings in
     let properties = keying.collation.properties in
-    let bytes_of = line_as c.args.form keying in
+    let bytes_of = line_as c.args.form c.args.book keying in
     let header = c.args.header.now in
     let known = c.args.input.now.remaining in
     let left = c.print_lines-end.new.input.remaining in
@@ -36,7 +36,7 @@ returns-in-Ok-clause-out_failed g c = out_after (length c.args.header.now) c.pri
 pub returns-in-Err-clause-writes : goal.returns-in-Err-clause-writes
 returns-in-Err-clause-writes g c =
     let keying = keying_of g.L.Lookup.content c.args.collator.now c.args.settings in
-    part_of_header c.args.header.now keying.collation.properties (line_as c.args.form keying) c.args.input.now.remaining c.args.input.now.remaining
+    part_of_header c.args.header.now keying.collation.properties (line_as c.args.form c.args.book keying) c.args.input.now.remaining c.args.input.now.remaining
     c.args.out.now.contents c.write_text.new.out.contents c.in-Err.fault c.requires.short c.in-Err.ensures.failed_in
 
 pub returns-in-Err-clause-of_lines : goal.returns-in-Err-clause-of_lines

@@ -1,15 +1,17 @@
 -- What went out, from what was written.
-use Rattle.std.proofs.Common.{◌≡◌, ◌||◌, [], ap, subst, sym, ◌∙◌}
+use Rattle.std.proofs.Common.{◌≡◌, ◌||◌, Option, [], refl, ap, subst, sym, ◌∙◌}
 use Rattle.uca_weights.specs.declared.Settings.{Settings}
 use Rattle.uca_elements.specs.Collations.{Collation}
 use Rattle.uca_values.specs.Content.{properties_of}
 use Rattle.uca_order.specs.Keyings.{keying_of}
 use Rattle.uca_key_runs.specs.Keys.{keying_at}
 use Rattle.uca_order.specs.Lengths.{HasShortRows}
-use Rattle.uca_key_runs.specs.inside.KeyForms.{line_as}
+use Rattle.uca_books.specs.Books.{BookContent}
+use Rattle.uca_key_runs.specs.inside.KeyForms.{book_of, line_as}
 use Rattle.uca_run_parts.specs.EachLineSoFar.{WritesRest}
 use Rattle.uca_run_parts.proofs.Finishing.{started, of_lines}
 use Rattle.uca_key_runs.proofs.Keyings.{same_parts}
+use Rattle.uca_key_runs.proofs.ShownKeys.{still_for}
 use Rattle.uca_key_runs.proofs.keys.print_lines.Goals as goal
 
 pub print_rest-end-requires-clause-makes : goal.print_rest-end-requires-clause-makes
@@ -18,6 +20,10 @@ print_rest-end-requires-clause-makes g c = record {
   same = ap (λ (collation : Collation). collation.properties) (sym c.new-2.ensures.collation);
   short_rows = subst (λ (collation : Collation). HasShortRows collation.rows) (sym c.new-2.ensures.collation) c.requires;
 }
+
+pub print_rest-end-requires-clause-compact : goal.print_rest-end-requires-clause-compact
+print_rest-end-requires-clause-compact g c =
+    still_for _ _ _ _ refl (sym c.new-2.ensures.settings) c.compacting_by.ensures.settings
 
 pub returns-clause-writes : goal.returns-clause-writes
 returns-clause-writes g c =
@@ -29,15 +35,19 @@ returns-clause-writes g c =
     same_parts c.new-2.ensures.collation (ap (λ (s : Settings). record { weighting = s.weighting; depth = c.args.settings.depth }) c.new-2.ensures.settings) in
     let input = c.args.input.now in
     let out = c.args.out.now in
-    let begin = started properties (line_as form keying) c.new.result input c.new-4.result out (c.new.ensures.read properties input) c.new-4.ensures.held c.new-4.ensures.written in
-    let rest = subst (λ s. WritesRest properties (line_as form s) input.remaining out.contents c.print_rest-end.new.input c.print_rest-end.new.self.output c.print_rest-end.new.out c.print_rest-end.result)
-    same (c.print_rest-end.ensures.prints input.remaining out.contents [] begin) in
-    c.end_output-end.ensures.writes properties (line_as form asked) input.remaining out.contents c.print_rest-end.new.input rest
+    let book = book_of c.compacting_by.result in
+    let begin = started properties (line_as form book keying) c.new.result input c.new-4.result out (c.new.ensures.read properties input) c.new-4.ensures.held c.new-4.ensures.written in
+    let end = c.print_rest-end in
+    let rest = subst (λ s. WritesRest properties (line_as form book s) input.remaining out.contents end.new.input end.new.self.output end.new.out end.result)
+    same (end.ensures.prints input.remaining out.contents [] begin) in
+    let by_book = subst (λ (b : Option BookContent). WritesRest properties (line_as form b asked) input.remaining out.contents end.new.input end.new.self.output end.new.out end.result)
+    c.compacting_by.ensures.book rest in
+    c.end_output-end.ensures.writes properties (line_as form c.args.book asked) input.remaining out.contents end.new.input by_book
 
 pub returns-clause-of_lines : goal.returns-clause-of_lines
 returns-clause-of_lines g c =
     let properties = properties_of c.args.collator.now.data.now in
-    let bytes_of = line_as c.args.form (keying_at g.L.Lookup.content c.new-2.result c.args.settings.depth) in
+    let bytes_of = line_as c.args.form (book_of c.compacting_by.result) (keying_at g.L.Lookup.content c.new-2.result c.args.settings.depth) in
     let input = c.args.input.now in
     let out = c.args.out.now in
     let begin = started properties bytes_of c.new.result input c.new-4.result out (c.new.ensures.read properties input) c.new-4.ensures.held c.new-4.ensures.written in

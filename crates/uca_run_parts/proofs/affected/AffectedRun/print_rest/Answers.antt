@@ -24,7 +24,7 @@ loop-self-preserved g c =
     let now = c.in_ok-print_text.ensures in
     let same = ap (λ (text : NfdText). if_so (g.X.Affects.affects c.args.affects.now) text.points texts.lines.line) next.text in
     record {
-      small = subst (λ (t : TextsState). c.print_text.new.self.output.written + length c.print_text.new.self.output.held ≤ t.lines.reader.number * 2 ^ 42) (sym now.texts) now.small;
+      small = subst (λ (t : TextsState). c.print_text.new.self.output.written + length c.print_text.new.self.output.held ≤ t.lines.reader.number * 2 ^ 43) (sym now.texts) now.small;
       written = λ start begun before p.
           let i = inv.written start begun before p in
           let t = next.reads start i.0 i.1.read in (

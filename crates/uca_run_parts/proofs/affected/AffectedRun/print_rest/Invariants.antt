@@ -9,7 +9,7 @@ abbrev pub invariant-loop-self : goal.invariant-loop-self
 invariant-loop-self g l =
     let bytes_of = line_if (g.X.Affects.affects l.affects) (properties_of l.properties) in
     record {
-      small : l.self.output.written + length l.self.output.held ≤ l.self.texts.lines.reader.number * 2 ^ 42;
+      small : l.self.output.written + length l.self.output.held ≤ l.self.texts.lines.reader.number * 2 ^ 43;
       written : (start begun : Option (List ℕ)) (before : List (List ℕ)) →
           HasWritten (properties_of l.properties) bytes_of start begun before l.fn.self.texts.lines l.fn.input l.fn.self.output l.fn.out →
           (now : List (List ℕ)) × HasWritten (properties_of l.properties) bytes_of start begun now l.self.texts.lines l.input l.self.output l.out;

@@ -1,0 +1,5 @@
+-- The flags say which run it is.
+use Rattle.uca_cli.proofs.compact_keys.print_compact.Goals as goal
+
+pub returns-then-words-2 : goal.returns-then-words-2
+returns-then-words-2 g c = rw (c.if-words.true, c.if-words-2.true) c.run_headed_compact_lines.ensures
