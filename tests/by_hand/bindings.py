@@ -234,7 +234,7 @@ def python_valgrind(work):
     # Not of leaks and undefined values, since CPython itself has both when it ends.
     words = ["valgrind", "-q", "--error-exitcode=9", "--leak-check=no", "--undef-value-errors=no", "--fair-sched=yes", sys.executable]
     environment = {**python_environment(), "PYTHONMALLOC": "malloc", "UCA_STRESS_SECONDS": "4"}
-    run([*words, "-m", "unittest", "test_uca.Keys", "test_uca.Values", "test_uca.Sharing", "test_stress"], env=environment, cwd=f"{PYTHON}/tests")
+    run([*words, "-m", "unittest", "test_uca.Keys", "test_uca.CompactKeys", "test_uca.Ranges", "test_uca.Values", "test_uca.Sharing", "test_stress"], env=environment, cwd=f"{PYTHON}/tests")
 
 
 def python_with_wheel():
@@ -457,7 +457,7 @@ MADE_BY_BOOK = [
 
 def with_fingerprint(call, fingerprint):
     """The call, which names its files by this fingerprint: uca_key('a', 1) is uca_key('a', FINGERPRINT, 1)."""
-    return re.sub(r"^(\w+\((?:'[^']*'|NULL|[^,()]*))", lambda it: f"{it[1]}, '{fingerprint}'", call)
+    return re.sub(r"^(\w+\((?:CAST\([^()]*\)|[^,()]*))", lambda it: f"{it[1]}, '{fingerprint}'", call)
 
 
 WITH_BOOK = "CREATE TABLE words(word TEXT, key BLOB AS (uca_key(word, '{0}')) STORED, letters BLOB AS (uca_key(word, '{0}', 1)) VIRTUAL);"
@@ -468,61 +468,74 @@ def sqlite_compact(work):
     """Keys by a book, keys through some levels, and ranges."""
     small = small_book(work)
     fingerprint, load = fingerprint_of(TABLE, DATA, book=small), sqlite_load(book=small)
-    both = load + sqlite_load()
     for call, compact, whole in MADE_BY_BOOK:
         statement = f"SELECT hex({with_fingerprint(call, fingerprint)}), hex({with_fingerprint(call, USED)});"
-        same(sqlite_says(work, statement, load=both), f"{compact}|{whole}\n", call)
+        same(sqlite_says(work, statement, load=load + sqlite_load()), f"{compact}|{whole}\n", call)
     for _, compact, whole in MADE_BY_BOOK[:4]:
         statement = f"SELECT hex(uca_expand(x'{compact}', '{fingerprint}')), hex(uca_compact(x'{whole}', '{fingerprint}'));"
         same(sqlite_says(work, statement, load=load), f"{whole}|{compact}\n", statement)
-    names = ["uca_key", "uca_key {}, 1", "uca_range_low {}, 1", "uca_range_high {}, 2", "uca_prefix_low", "uca_prefix_high", "uca_expand", "uca_compact"]
-    for it in names:
-        name, _, more = it.partition(" {}")
-        same(sqlite_says(work, f"SELECT {name}(NULL, '{fingerprint}'{more}) IS NULL;", load=load), "1\n", f"{name} of NULL")
-        given = "x'0A03'" if name in ("uca_expand", "uca_compact") else "'a'"
-        for wrong, error in ((OTHER, f"{name}: the files of fingerprint {OTHER} are not loaded; loaded: {fingerprint}"), ("", f"{name}: the second argument {NO_FINGERPRINT}")):
-            sqlite_fails(work, error, f"SELECT {name}({given}, '{wrong}'{more});", load=load)
-            sqlite_fails(work, error, f"SELECT {name}(NULL, '{wrong}'{more});", load=load)
-        other, error = ("'0A03'", "no blob, so it is no key") if name in ("uca_expand", "uca_compact") else ("x'61'", "a blob, not a text")
-        sqlite_fails(work, f"{name}: the first argument is {error}", f"SELECT {name}({other}, '{fingerprint}'{more});", load=load)
-    for name in ("uca_key", "uca_range_low", "uca_range_high"):
-        for levels in ("0", "3", "-1", "NULL", "'1'", "1.0", "4294967297"):
-            sqlite_fails(work, f"{name}: the third argument is not 1 or 2", f"SELECT {name}('a', '{fingerprint}', {levels});", load=load)
-    for call, error in (("uca_expand(x'0A', {})", "uca_expand: NoCompactKey"), ("uca_expand(x'', {})", "uca_expand: NoCompactKey"), ("uca_compact(x'1C', {})", "uca_compact: OtherKey"),
-                        ("uca_prefix_low(CAST(x'FF' AS TEXT), {})", "uca_prefix_low: Utf8"), ("uca_key(CAST(x'FF' AS TEXT), {}, 1)", "uca_key: Utf8")):
-        sqlite_fails(work, error, f"SELECT {call};".format(f"'{fingerprint}'"), load=load)
     for name in ("uca_expand", "uca_compact"):
         sqlite_fails(work, f"{name}: the files of fingerprint {USED} have no book", f"SELECT {name}(x'0A03', '{USED}');")
 
 
+def sqlite_arguments(work):
+    """What the functions make of NULL, of other types, fingerprints and numbers, and of bytes that are rejected."""
+    small = small_book(work)
+    fingerprint, load = fingerprint_of(TABLE, DATA, book=small), sqlite_load(book=small)
+    for it in ("uca_key", "uca_key {}, 1", "uca_range_low {}, 1", "uca_range_high {}, 2", "uca_prefix_low", "uca_prefix_high", "uca_expand", "uca_compact"):
+        name, _, more = it.partition(" {}")
+        takes_key = name in ("uca_expand", "uca_compact")
+        same(sqlite_says(work, f"SELECT {name}(NULL, '{fingerprint}'{more}) IS NULL;", load=load), "1\n", f"{name} of NULL")
+        given, other, error = ("x'0A03'", "'0A03'", "no blob, so it is no key") if takes_key else ("'a'", "x'61'", "a blob, not a text")
+        sqlite_fails(work, f"{name}: the first argument is {error}", f"SELECT {name}({other}, '{fingerprint}'{more});", load=load)
+        not_loaded = f"{name}: the files of fingerprint {OTHER} are not loaded; loaded: {fingerprint}"
+        for wrong, error in ((OTHER, not_loaded), ("", f"{name}: the second argument {NO_FINGERPRINT}")):
+            for value in (given, "NULL"):
+                sqlite_fails(work, error, f"SELECT {name}({value}, '{wrong}'{more});", load=load)
+    for name in ("uca_key", "uca_range_low", "uca_range_high"):
+        for levels in ("0", "3", "-1", "NULL", "'1'", "1.0", "4294967297"):
+            sqlite_fails(work, f"{name}: the third argument is not 1 or 2", f"SELECT {name}('a', '{fingerprint}', {levels});", load=load)
+    for call, error in (("uca_expand(x'0A')", "NoCompactKey"), ("uca_expand(x'')", "NoCompactKey"), ("uca_compact(x'1C')", "OtherKey"), ("uca_compact(x'')", "OtherKey"),
+                        ("uca_prefix_low(CAST(x'FF' AS TEXT))", "Utf8"), ("uca_range_high(CAST(x'FF' AS TEXT), 2)", "Utf8"), ("uca_key(CAST(x'FF' AS TEXT), 1)", "Utf8")):
+        sqlite_fails(work, f"{call.partition('(')[0]}: {error}", f"SELECT {with_fingerprint(call, fingerprint)};", load=load)
+
+
+# Texts of an index on keys, and what some ranges have of them, in order.
+LOOKED_THROUGH = "('a'), ('Á'), ('ab'), ('A-'), ('Abc'), ('b'), ('ch')"
+LOOKUPS = [("uca_range_{}('A', 1)", "a A- Á"), ("uca_range_{}('A', 2)", "a A-"), ("uca_prefix_{}('Ab')", "ab Abc"), ("uca_prefix_{}('c')", ""), ("uca_prefix_{}('')", "a A- Á ab Abc b ch")]
+# Texts that go into a unique index on keys through so many levels, and one that does not.
+UNIQUES = [(1, "('a'), ('b'), ('ab')", "('Á')"), (2, "('a'), ('á'), ('b')", "('A')")]
+
+
 def sqlite_books(work):
-    """Where another book or none is loaded, no row goes in, and a dump with rows is not restored. A unique index by letters."""
-    fingerprint, small = fingerprint_of(TABLE, DATA, book=BOOK), small_book(work)
-    other = fingerprint_of(TABLE, DATA, book=small)
-    in_order = IN_ORDER.replace(USED, fingerprint)
+    """Where another book or none is loaded, no row goes in, and a dump with rows is not restored."""
+    small, load_it = small_book(work), sqlite_load(book=BOOK)
+    in_order = IN_ORDER.replace(USED, COMPACT)
     database, restored = f"{work}/book.db", f"{work}/book-restored.db"
-    sqlite_says(work, WITH_BOOK.format(fingerprint), "CREATE INDEX i ON words(key); CREATE INDEX l ON words(letters);", THREE, load=sqlite_load(book=BOOK), database=database)
-    dump = sqlite_says(work, ".dump", load=sqlite_load(book=BOOK), database=database)
-    for load, loaded in ((sqlite_load(book=small), other), (sqlite_load(), USED)):
-        error = f"uca_key: the files of fingerprint {fingerprint} are not loaded; loaded: {loaded}"
+    sqlite_says(work, WITH_BOOK.format(COMPACT), "CREATE INDEX i ON words(key); CREATE INDEX l ON words(letters);", THREE, load=load_it, database=database)
+    dump = sqlite_says(work, ".dump", load=load_it, database=database)
+    for load, loaded in ((sqlite_load(book=small), fingerprint_of(TABLE, DATA, book=small)), (sqlite_load(), USED)):
+        error = f"uca_key: the files of fingerprint {COMPACT} are not loaded; loaded: {loaded}"
         sqlite_fails(work, error, ROW, load=load, database=database)
         sqlite_fails(work, error, in_order, load=load, database=database)
         sqlite_fails(work, error, dump, load=load, database=restored)
         os.remove(restored)
-    same(sqlite_says(work, dump, in_order, "PRAGMA integrity_check;", load=sqlite_load(book=BOOK), database=restored), "b bh bz\nok\n", "a dump of compact keys")
-    for book in (None, BOOK):
-        load, used = sqlite_load(book=book), fingerprint_of(TABLE, DATA, book=book)
-        for levels, goes_in, error in ((1, "('a'), ('b'), ('ab')", "('Á')"), (2, "('a'), ('á'), ('b')", "('A')")):
+    same(sqlite_says(work, dump, in_order, "PRAGMA integrity_check;", load=load_it, database=restored), "b bh bz\nok\n", "a dump of compact keys")
+
+
+def sqlite_lookups(work):
+    """Ranges find texts by an index, and a unique index takes no second text of the same levels, by whole keys and by compact ones."""
+    for book, used in ((None, USED), (BOOK, COMPACT)):
+        load, key = sqlite_load(book=book), f"uca_key(word, '{used}')"
+        for levels, goes_in, error in UNIQUES:
             made = [UNIQUE.format(used, levels), f"INSERT INTO words VALUES {goes_in};"]
             sqlite_says(work, *made, load=load)
             sqlite_fails(work, "UNIQUE constraint failed", *made, f"INSERT INTO words VALUES {error};", load=load)
-        made = [f"CREATE TABLE words(word TEXT); CREATE INDEX i ON words(uca_key(word, '{used}'));",
-                "INSERT INTO words VALUES ('a'), ('Á'), ('ab'), ('A-'), ('Abc'), ('b'), ('ch');"]
-        key = f"uca_key(word, '{used}')"
-        for low, high, found in (("range_low('A', {}, 1)", "range_high('A', {}, 1)", "a A- Á"), ("range_low('A', {}, 2)", "range_high('A', {}, 2)", "a A-"), ("prefix_low('Ab', {})", "prefix_high('Ab', {})", "ab Abc")):
-            where = f"{key} >= uca_{low} AND {key} < uca_{high}".format(f"'{used}'", f"'{used}'")
-            query = f"SELECT group_concat(word, ' ') FROM (SELECT word FROM words WHERE {where} ORDER BY {key});"
-            same(sqlite_says(work, *made, query, load=load), f"{found}\n", where)
+        made = [f"CREATE TABLE words(word TEXT); CREATE INDEX i ON words({key});", f"INSERT INTO words VALUES {LOOKED_THROUGH};"]
+        for ends, found in LOOKUPS:
+            low, high = (with_fingerprint(ends.format(it), used) for it in ("low", "high"))
+            query = f"SELECT group_concat(word, ' ') FROM (SELECT word FROM words WHERE {key} >= {low} AND {key} < {high} ORDER BY {key});"
+            same(sqlite_says(work, *made, query, load=load), f"{found}\n", query)
             if "SEARCH words USING INDEX i (<expr>>? AND <expr><?)" not in sqlite_says(work, *made, f"EXPLAIN QUERY PLAN {query}", load=load):
                 raise AssertionError(f"a query without its index: {query}")
 
@@ -1117,55 +1130,62 @@ NO_SERVER_BOOK = "ERROR:  uca: the server has no book, so its keys are whole"
 
 
 def postgresql_compact(work):
-    """Keys by a book, keys through some levels, and ranges."""
-    small = small_book(work)
-    for book in (small, None):
+    """Keys by a book, keys through some levels, and ranges; and the same by whole keys."""
+    for book in (small_book(work), None):
         with postgresql_server(work, book=book) as (_, says, _):
             fingerprint = fingerprint_of(TABLE, DATA, book=book)
             same(says("SELECT uca_fingerprint(); SELECT fingerprint FROM uca_files;"), f"{fingerprint}\n" * 2, "the fingerprint")
-            for call, compact, whole in MADE_BY_BOOK:
-                statement = f"SELECT upper(encode({call}, 'hex')), {call} = {with_fingerprint(call, fingerprint)};"
-                same(says(statement), f"{compact if book else whole}|t\n", f"{call} by {book}")
-            for call, compact, whole in MADE_BY_BOOK[:4]:
-                expanded, made = f"uca_expand('\\x{compact}')", f"uca_compact('\\x{whole}')"
-                if not book:
-                    for it in (expanded, made):
-                        same(says(f"SELECT {it};", fails=True), NO_SERVER_BOOK, f"{it} without a book")
-                        same(says(f"SELECT {with_fingerprint(it, fingerprint)};", fails=True), NO_SERVER_BOOK, f"{it} without a book, by fingerprint")
-                    continue
-                for it, wanted in ((expanded, whole), (made, compact), (f"substring(uca_any_key(convert_from('\\x61', 'utf8')) from 2)", "0A03")):
-                    same(says(f"SELECT upper(encode({it}, 'hex'));"), f"{wanted}\n", it)
-                for it, wanted in ((expanded, whole), (made, compact)):
-                    same(says(f"SELECT upper(encode({with_fingerprint(it, fingerprint)}, 'hex'));"), f"{wanted}\n", it)
-            arguments = {"uca_key": "NULL", "uca_range_low": "NULL, 1", "uca_range_high": "'a', NULL", "uca_prefix_low": "NULL", "uca_prefix_high": "NULL", "uca_expand": "NULL", "uca_compact": "NULL"}
-            for name, its in arguments.items():
-                first, _, later = its.partition(", ")
-                named = f"{name}({first}, '{fingerprint}'{later and ', ' + later})"
-                same(says(f"SELECT {name}({its}) IS NULL, {named} IS NULL;"), "t|t\n", f"{name} of NULL")
-                for wrong, error in ((f"'{OTHER}'", OTHERS_NAMED), ("NULL", "ERROR:  uca: the fingerprint is NULL")):
-                    same(says(f"SELECT {named.replace(f'{chr(39)}{fingerprint}{chr(39)}', wrong)};", fails=True), error, f"{name} by {wrong}")
-            for call in ("uca_key('a', {})", "uca_range_low('a', {})", "uca_range_high('a', {})"):
-                for levels in (0, 3, -1):
-                    it = call.format(levels)
-                    for one in (it, with_fingerprint(it, fingerprint)):
-                        same(says(f"SELECT {one};", fails=True), f"ERROR:  uca: the number of levels is {levels}, and not 1 or 2", one)
-            same(says(f"SELECT uca_key({RUN_OF_65}, 1);", fails=True), "ERROR:  uca: the text is rejected: LongRun", "letters of a text that is rejected")
-            same(says(f"SELECT uca_prefix_low({LONG});", fails=True), "ERROR:  uca: the text is rejected: TooLong", "the beginning of a text of 180 MB")
+            statements = [f"SELECT upper(encode({call}, 'hex')), {call} = {with_fingerprint(call, fingerprint)};" for call, _, _ in MADE_BY_BOOK]
+            same(says("".join(statements)), "".join(f"{compact if book else whole}|t\n" for _, compact, whole in MADE_BY_BOOK), f"keys by {book}")
+            same(says("SELECT uca_any_key('Áb') = '\\x00' || uca_key('Áb');"), "t\n", f"any key by {book}")
+            postgresql_expand(says, fingerprint, book)
+            postgresql_arguments(says, fingerprint)
+            postgresql_lookups(says)
+
+
+def postgresql_expand(says, fingerprint, book):
+    """From compact keys to whole ones and back, or an error where the server has no book."""
+    calls = [(f"uca_expand('\\x{compact}')", whole) for _, compact, whole in MADE_BY_BOOK[:4]] + [(f"uca_compact('\\x{whole}')", compact) for _, compact, whole in MADE_BY_BOOK[:4]]
+    for call, wanted in calls:
+        for it in (call, with_fingerprint(call, fingerprint)):
             if book:
-                same(says("SELECT uca_expand('\\x0A');", fails=True), "ERROR:  uca: the bytes are rejected: NoCompactKey", "no compact key")
-                same(says("SELECT uca_compact('\\x1C');", fails=True), "ERROR:  uca: the bytes are rejected: OtherKey", "no key")
-            says("CREATE TABLE words(word text); CREATE INDEX by_key ON words(uca_key(word)); INSERT INTO words VALUES ('a'), ('Á'), ('ab'), ('A-'), ('Abc'), ('b'), ('ch');")
-            for low, high, found in (("range_low('A', 1)", "range_high('A', 1)", "a A- Á"), ("range_low('A', 2)", "range_high('A', 2)", "a A-"), ("prefix_low('Ab')", "prefix_high('Ab')", "ab Abc")):
-                where = f"uca_key(word) >= uca_{low} AND uca_key(word) < uca_{high}"
-                same(says(f"SELECT string_agg(word, ' ' ORDER BY uca_key(word)) FROM words WHERE {where};"), f"{found}\n", where)
-                plan = says(f"SET enable_seqscan = off; SET enable_bitmapscan = off; EXPLAIN (costs off) SELECT word FROM words WHERE {where};")
-                if not plan.startswith("Index Scan using by_key on words\n  Index Cond: "):
-                    raise AssertionError(f"a query without its index: {where}: {plan}")
-            for levels, goes_in, error in ((1, "('a'), ('b'), ('ab')", "('Á')"), (2, "('a'), ('á'), ('b')", "('A')")):
-                made = f"CREATE TABLE one{levels}(word text); CREATE UNIQUE INDEX ON one{levels}(uca_key(word, {levels})); INSERT INTO one{levels} VALUES {goes_in};"
-                says(made)
-                if "duplicate key value violates unique constraint" not in says(f"INSERT INTO one{levels} VALUES {error};", fails=True):
-                    raise AssertionError(f"a second text of the same {levels} levels")
+                same(says(f"SELECT upper(encode({it}, 'hex'));"), f"{wanted}\n", it)
+            else:
+                same(says(f"SELECT {it};", fails=True), NO_SERVER_BOOK, f"{it} without a book")
+    for call, kind in (("uca_expand('\\x0A')", "NoCompactKey"), ("uca_expand('')", "NoCompactKey"), ("uca_compact('\\x1C')", "OtherKey")):
+        same(says(f"SELECT {call};", fails=True), f"ERROR:  uca: the bytes are rejected: {kind}" if book else NO_SERVER_BOOK, call)
+
+
+def postgresql_arguments(says, fingerprint):
+    """What the functions make of NULL, of other fingerprints and numbers, and of texts that are rejected."""
+    calls = ["uca_key({})", "uca_key({}, 1)", "uca_key('a', NULL::integer)", "uca_range_low({}, 1)", "uca_range_high({}, 1)", "uca_range_low('a', NULL)", "uca_range_high('a', NULL)"]
+    calls = [it.format("NULL") for it in (*calls, "uca_prefix_low({})", "uca_prefix_high({})", "uca_expand({})", "uca_compact({})")]
+    named = [with_fingerprint(it, fingerprint) for it in calls]
+    same(says("".join(f"SELECT {it} IS NULL;" for it in calls + named)), "t\n" * 22, "what is made of NULL")
+    for it in named:
+        for wrong, error in ((f"'{OTHER}'", OTHERS_NAMED), ("NULL", "ERROR:  uca: the fingerprint is NULL")):
+            same(says(f"SELECT {it.replace(repr(fingerprint), wrong)};", fails=True), error, f"{it} by {wrong}")
+    for call in ("uca_key('a', {})", "uca_range_low('a', {})", "uca_range_high('a', {})"):
+        for levels in (0, 3, -1):
+            for it in (call.format(levels), with_fingerprint(call.format(levels), fingerprint)):
+                same(says(f"SELECT {it};", fails=True), f"ERROR:  uca: the number of levels is {levels}, and not 1 or 2", it)
+    same(says(f"SELECT uca_key({RUN_OF_65}, 1);", fails=True), "ERROR:  uca: the text is rejected: LongRun", "letters of a text that is rejected")
+    same(says(f"SELECT uca_prefix_low({LONG});", fails=True), "ERROR:  uca: the text is rejected: TooLong", "the beginning of a text of 180 MB")
+
+
+def postgresql_lookups(says):
+    """Ranges find texts by an index, and a unique index takes no second text of the same levels."""
+    says(f"CREATE TABLE words(word text); CREATE INDEX by_key ON words(uca_key(word)); INSERT INTO words VALUES {LOOKED_THROUGH};")
+    for ends, found in LOOKUPS:
+        where = f"uca_key(word) >= {ends.format('low')} AND uca_key(word) < {ends.format('high')}"
+        same(says(f"SELECT string_agg(word, ' ' ORDER BY uca_key(word)) FROM words WHERE {where};"), f"{found}\n", where)
+        plan = says(f"SET enable_seqscan = off; SET enable_bitmapscan = off; EXPLAIN (costs off) SELECT word FROM words WHERE {where};")
+        if not plan.startswith("Index Scan using by_key on words\n  Index Cond: "):
+            raise AssertionError(f"a query without its index: {where}: {plan}")
+    for levels, goes_in, error in UNIQUES:
+        says(f"CREATE TABLE one{levels}(word text); CREATE UNIQUE INDEX ON one{levels}(uca_key(word, {levels})); INSERT INTO one{levels} VALUES {goes_in};")
+        if "duplicate key value violates unique constraint" not in says(f"INSERT INTO one{levels} VALUES {error};", fails=True):
+            raise AssertionError(f"a second text of the same {levels} levels")
 
 
 def postgresql_books(work):
@@ -1384,7 +1404,8 @@ def main():
         sys.exit(f"there is no {ARCHIVE}: run `tools/build.py uca_c` first")
     checks = [("make", make), ("valgrind", valgrind), ("sanitizers", sanitizers), ("header in C++", header), ("exported names", exports),
               ("installation", installed), ("stored run", stored_run), ("docs/BINDINGS.md", page), ("keys", keys_like(program)), ("Python", python), ("Python under valgrind", python_valgrind), ("wheel", wheel), ("sort", sorted_like(program)), ("SQLite", sqlite),
-              ("SQLite's loads", sqlite_loads), ("SQLite's files", sqlite_files), ("SQLite's compact keys", sqlite_compact), ("SQLite's books", sqlite_books), ("SQLite's schemas", sqlite_schemas), ("SQLite's restores", sqlite_restore),
+              ("SQLite's loads", sqlite_loads), ("SQLite's files", sqlite_files), ("SQLite's compact keys", sqlite_compact), ("SQLite's arguments", sqlite_arguments),
+              ("SQLite's books", sqlite_books), ("SQLite's lookups", sqlite_lookups), ("SQLite's schemas", sqlite_schemas), ("SQLite's restores", sqlite_restore),
               ("SQLite's attached databases", sqlite_attached), ("SQLite's threads", sqlite_threads), ("SQLite's memory", sqlite_memory), ("SQLite on the page", sqlite_page), ("SQLite's orders", sqlite_like(program)),
               ("PostgreSQL", postgresql), ("PostgreSQL's settings", postgresql_settings), ("PostgreSQL's dumps", postgresql_dumps),
               ("PostgreSQL's replication", postgresql_replication), ("PostgreSQL's changes", postgresql_changes), ("PostgreSQL's roles", postgresql_roles),
