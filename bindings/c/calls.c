@@ -313,6 +313,184 @@ static void check_fingerprints(void)
     CHECK(has_no_fingerprint("", DATA, 0, 2, UCA_ARGUMENT, 0, UCA_NO_ERROR));
 }
 
+/* 1C47 and 1C60 have cells of their own, and so has 0209 at level 4. */
+static const char BOOK[] = "@book 1\n1 1C47\n1 1C48\n1 1C60\n1 1C61\n1 2000\n4 0209\n4 020A\n";
+
+static uca_status opened_compact(uca_collator *collator, const char *table, const char *data, const char *book, uint32_t weighting, uint32_t depth,
+                                 uca_error *error)
+{
+    *error = (uca_error){7, 7};
+    return uca_open_compact(collator, (const uint8_t *)table, strlen(table), (const uint8_t *)data, strlen(data), (const uint8_t *)book,
+                            strlen(book), weighting, depth, error);
+}
+
+static void check_open_compact(void)
+{
+    uca_collator it = UCA_CLOSED_COLLATOR;
+    uca_error error;
+    CHECK(opened_compact(&it, TABLE, DATA, "@book 1\n1 1C48\n1 1C47\n", 0, 0, &error) == UCA_BOOK && error.line == 3 && error.kind == UCA_KIND_ORDER);
+    CHECK(opened_compact(&it, TABLE, DATA, "", 0, 0, &error) == UCA_BOOK && error.line == 1 && error.kind == UCA_KIND_ORDER);
+    CHECK(opened_compact(&it, TABLE, DATA, "@book 1\n1 1c47\n", 0, 0, &error) == UCA_BOOK && error.line == 2 && error.kind == UCA_KIND_WEIGHT);
+    CHECK(opened_compact(&it, TABLE, "x\n", "", 0, 0, &error) == UCA_DATA && error.line == 1 && error.kind == UCA_KIND_ORDER);
+    CHECK(opened_compact(&it, "", "x\n", "", 0, 0, &error) == UCA_TABLE && error.line == 1);
+    CHECK(opened_compact(&it, TABLE, DATA, BOOK, 3, 0, &error) == UCA_ARGUMENT && error.line == 0 && error.kind == UCA_NO_ERROR);
+    CHECK(opened_compact(&it, TABLE, DATA, BOOK, 0, 2, &error) == UCA_ARGUMENT && !it.is_open);
+    CHECK(opened_compact(&it, TABLE, DATA, BOOK, UCA_NON_IGNORABLE, UCA_WEIGHTS, &error) == UCA_OK && it.is_open && error.line == 0);
+    CHECK(opened_compact(&it, "", "", "", 9, 9, &error) == UCA_ALREADY_OPEN && error.line == 0 && error.kind == UCA_NO_ERROR);
+    CHECK(opened(&it, TABLE, DATA, 0, 0, &error) == UCA_ALREADY_OPEN);
+    CHECK(IS_KEY(&it, "a", "\x08\x02"));
+    uca_close(&it);
+    CHECK(!it.is_open);
+    CHECK(opened(&it, TABLE, DATA, UCA_NON_IGNORABLE, UCA_WEIGHTS, &error) == UCA_OK);
+    CHECK(IS_KEY(&it, "a", "\x1C\x47\0\0\0\x20\0\0\0\x02"));
+    uca_close(&it);
+}
+
+/* What a call with bytes gives: these bytes, and nothing after them. */
+typedef uint32_t call(uca_collator *, const uint8_t *, size_t, uint8_t *, size_t, size_t *);
+
+static bool makes(call *made, uca_collator *collator, const uint8_t *bytes, size_t length, const char *made_bytes, size_t made_length)
+{
+    uint8_t out[ROOM];
+    size_t needed = 77;
+    memset(out, 0xEE, ROOM);
+    bool small = made(collator, bytes, length, out, made_length - 1, &needed) == UCA_SMALL && needed == made_length && out[0] == 0xEE;
+    return small && made(collator, bytes, length, out, ROOM, &needed) == UCA_OK && needed == made_length && memcmp(out, made_bytes, needed) == 0
+           && out[needed] == 0xEE;
+}
+
+#define MAKES(made, collator, bytes, made_bytes) makes(made, collator, BYTES(bytes), made_bytes, sizeof(made_bytes) - 1)
+
+static bool makes_none(call *made, uca_collator *collator, const uint8_t *bytes, size_t length, uint32_t status)
+{
+    uint8_t out[ROOM];
+    size_t needed = 77;
+    memset(out, 0xEE, ROOM);
+    return made(collator, bytes, length, out, ROOM, &needed) == status && needed == 0 && out[0] == 0xEE;
+}
+
+#define MAKES_NONE(made, collator, bytes, status) makes_none(made, collator, BYTES(bytes), status)
+
+static void check_compact_keys(void)
+{
+    uca_collator it = UCA_CLOSED_COLLATOR;
+    uca_comparison found = {7, 7};
+    uca_error error;
+    CHECK(opened_compact(&it, TABLE, DATA, BOOK, UCA_NON_IGNORABLE, UCA_WEIGHTS, &error) == UCA_OK);
+    CHECK(MAKES(uca_key, &it, "", "\x02"));
+    CHECK(MAKES(uca_key, &it, "a", "\x08\x02"));
+    CHECK(MAKES(uca_key, &it, "ab", "\x08\x0A\x02"));
+    CHECK(MAKES(uca_key, &it, "A\xCC\x81", "\x08\x04\x63\x67\x02\x65\x02"));
+    CHECK(MAKES(uca_key, &it, "\xC3\x81", "\x08\x04\x63\x67\x02\x65\x02"));
+    CHECK(MAKES_NONE(uca_key, &it, "a\xFF", UCA_UTF8));
+    CHECK(uca_compare(&it, BYTES("a"), BYTES("A"), &found) == UCA_OK && found.order == -1 && found.level == 3);
+    CHECK(is_order(&it, BYTES("b"), BYTES("a\xFF"), -1));
+    CHECK(MAKES(uca_compact, &it, "\x1C\x47\0\0\0\x20\0\0\0\x02", "\x08\x02"));
+    CHECK(MAKES(uca_compact, &it, "\x1C\x5F\0\0\0\x20\0\0\0\x02", "\x09\x17\x02"));
+    CHECK(MAKES_NONE(uca_compact, &it, "", UCA_NO_KEY));
+    CHECK(MAKES_NONE(uca_compact, &it, "\x1C\x47\0\0\0\x20\0\0\0", UCA_NO_KEY));
+    CHECK(MAKES_NONE(uca_compact, &it, "\x1C\x47\0\0\0\x20", UCA_NO_KEY));
+    CHECK(MAKES_NONE(uca_compact, &it, "\x1C\x47\0\0\0\x20\0\0\0\x02\0\0\xFF\xFF", UCA_NO_KEY));
+    CHECK(MAKES(uca_expand, &it, "\x08\x02", "\x1C\x47\0\0\0\x20\0\0\0\x02"));
+    CHECK(MAKES(uca_expand, &it, "\x08\x04\x63\x67\x02\x65\x02", "\x1C\x47\0\0\0\x20\0\x24\0\0\0\x08\0\x02"));
+    CHECK(MAKES_NONE(uca_expand, &it, "", UCA_NO_KEY));
+    CHECK(MAKES_NONE(uca_expand, &it, "\x08", UCA_NO_KEY));
+    CHECK(MAKES_NONE(uca_expand, &it, "\x08\x02\0", UCA_NO_KEY));
+    CHECK(MAKES_NONE(uca_expand, &it, "\x09\x18\x02", UCA_NO_KEY));
+    CHECK(MAKES_NONE(uca_expand, &it, "\x08\x04\x05", UCA_NO_KEY));
+    uca_close(&it);
+    CHECK(MAKES_NONE(uca_compact, &it, "\0\0\0\0", UCA_CLOSED));
+    CHECK(MAKES_NONE(uca_expand, &it, "\x02", UCA_CLOSED));
+    CHECK(opened(&it, TABLE, DATA, UCA_NON_IGNORABLE, UCA_WEIGHTS, &error) == UCA_OK);
+    CHECK(MAKES_NONE(uca_compact, &it, "\0\0\0\0", UCA_NO_BOOK));
+    CHECK(MAKES_NONE(uca_expand, &it, "\x02", UCA_NO_BOOK));
+    uca_close(&it);
+    CHECK(opened_compact(&it, TABLE, DATA, BOOK, UCA_SHIFTED, UCA_WEIGHTS, &error) == UCA_OK);
+    CHECK(MAKES(uca_key, &it, "", "\x03"));
+    CHECK(MAKES(uca_key, &it, "a", "\x0A\x03"));
+    CHECK(MAKES(uca_key, &it, "a b", "\x0A\x0C\x02\x03\x01\x02"));
+    CHECK(MAKES(uca_expand, &it, "\x0A\x0C\x02\x03\x01\x02", "\x1C\x47\x1C\x60\0\0\0\x20\0\x20\0\0\0\x02\0\x02\0\0\xFF\xFF\x02\x09\xFF\xFF"));
+    CHECK(MAKES_NONE(uca_expand, &it, "\x0A\x02", UCA_NO_KEY));
+    uca_close(&it);
+    CHECK(opened_compact(&it, TABLE, DATA, BOOK, UCA_NON_IGNORABLE, UCA_IDENTICAL, &error) == UCA_OK);
+    CHECK(MAKES(uca_key, &it, "a\xCC\x81", "\x08\x04\x63\x67\x01\x61\xCC\x81"));
+    CHECK(MAKES(uca_expand, &it, "\x02\xC3\xA9", "\0\0\0\0\0\0\0\0\xE9"));
+    CHECK(MAKES_NONE(uca_expand, &it, "\x02\xC3", UCA_NO_KEY));
+    CHECK(MAKES_NONE(uca_compact, &it, "\0\0\0\0\0\0\0\xD8\0", UCA_NO_KEY));
+    uca_close(&it);
+}
+
+/* Both ends of a range by a text. */
+static bool is_range(uca_collator *collator, const uint8_t *text, size_t length, uint32_t range, const char *low, size_t low_length, const char *high,
+                     size_t high_length)
+{
+    uint8_t out[ROOM];
+    size_t needed = 77;
+    memset(out, 0xEE, ROOM);
+    bool small = uca_range(collator, text, length, range, UCA_HIGH, out, high_length - 1, &needed) == UCA_SMALL && needed == high_length && out[0] == 0xEE;
+    bool has_low = uca_range(collator, text, length, range, UCA_LOW, out, ROOM, &needed) == UCA_OK && needed == low_length
+                   && memcmp(out, low, low_length) == 0 && out[needed] == 0xEE;
+    bool has_high = uca_range(collator, text, length, range, UCA_HIGH, out, ROOM, &needed) == UCA_OK && needed == high_length
+                    && memcmp(out, high, high_length) == 0;
+    return small && has_low && has_high;
+}
+
+#define IS_RANGE(collator, text, range, low, high) is_range(collator, BYTES(text), range, low, sizeof(low) - 1, high, sizeof(high) - 1)
+
+static bool has_no_range(uca_collator *collator, const uint8_t *text, size_t length, uint32_t range, uint32_t end, uint32_t status)
+{
+    uint8_t out[ROOM];
+    size_t needed = 77;
+    out[0] = 0xEE;
+    return uca_range(collator, text, length, range, end, out, ROOM, &needed) == status && needed == 0 && out[0] == 0xEE;
+}
+
+static void check_ranges(void)
+{
+    uca_collator it = UCA_CLOSED_COLLATOR;
+    uca_error error;
+    CHECK(has_no_range(&it, BYTES("a"), UCA_SAME_LETTERS, UCA_LOW, UCA_CLOSED));
+    CHECK(opened(&it, TABLE, DATA, UCA_NON_IGNORABLE, UCA_WEIGHTS, &error) == UCA_OK);
+    CHECK(IS_RANGE(&it, "A\xCC\x81", UCA_SAME_LETTERS, "\x1C\x47", "\x1C\x47\0\x01"));
+    CHECK(IS_RANGE(&it, "ab", UCA_SAME_LETTERS, "\x1C\x47\x1C\x60", "\x1C\x47\x1C\x60\0\x01"));
+    CHECK(IS_RANGE(&it, "A\xCC\x81", UCA_SAME_ACCENTS, "\x1C\x47\0\0\0\x20\0\x24", "\x1C\x47\0\0\0\x20\0\x24\0\x01"));
+    CHECK(IS_RANGE(&it, "", UCA_SAME_ACCENTS, "\0\0", "\0\0\0\x01"));
+    CHECK(IS_RANGE(&it, "a", UCA_BEGINS, "\x1C\x47", "\x1C\x47\xFF\xFF"));
+    CHECK(has_no_range(&it, BYTES("a"), 0, UCA_LOW, UCA_ARGUMENT));
+    CHECK(has_no_range(&it, BYTES("a"), 4, UCA_LOW, UCA_ARGUMENT));
+    CHECK(has_no_range(&it, BYTES("\xFF"), UCA_BEGINS, 2, UCA_ARGUMENT));
+    CHECK(has_no_range(&it, BYTES("\xFF"), UCA_BEGINS, UCA_HIGH, UCA_UTF8));
+    uca_close(&it);
+    CHECK(opened_compact(&it, TABLE, DATA, BOOK, UCA_NON_IGNORABLE, UCA_WEIGHTS, &error) == UCA_OK);
+    CHECK(IS_RANGE(&it, "A\xCC\x81", UCA_SAME_LETTERS, "\x08\0", "\x08\x05"));
+    CHECK(IS_RANGE(&it, "", UCA_SAME_LETTERS, "\0", "\x05"));
+    CHECK(IS_RANGE(&it, "ab", UCA_BEGINS, "\x08\x0A", "\x08\x0A\xFF"));
+    CHECK(has_no_range(&it, BYTES("a"), UCA_SAME_ACCENTS, UCA_LOW, UCA_ARGUMENT));
+    uca_close(&it);
+    CHECK(opened_compact(&it, TABLE, DATA, BOOK, UCA_SHIFTED, UCA_IDENTICAL, &error) == UCA_OK);
+    CHECK(IS_RANGE(&it, "a", UCA_SAME_LETTERS, "\x0A\0", "\x0A\x07"));
+    uca_close(&it);
+}
+
+/* What sha256sum prints of the text that uca.h states, with the digits of 00 to 1F and what it prints of BOOK. */
+static const char COMPACT_SUM[] = "5f4e6171f90223e54bbb31bef0780e2412e228c2b70fa64017f173e556674a45";
+
+static void check_compact_fingerprint(void)
+{
+    uint8_t keys[32], out[33];
+    char digits[65];
+    memset(out, 0xEE, sizeof out);
+    for (size_t i = 0; i < 32; i++) {
+        keys[i] = (uint8_t)i;
+    }
+    uca_compact_fingerprint(keys, BYTES(BOOK), out);
+    CHECK(out[32] == 0xEE);
+    for (size_t i = 0; i < 32; i++) {
+        snprintf(digits + 2 * i, 3, "%02x", out[i]);
+    }
+    CHECK(strcmp(digits, COMPACT_SUM) == 0);
+}
+
 int main(void)
 {
     uca_collator it = UCA_CLOSED_COLLATOR;
@@ -330,6 +508,10 @@ int main(void)
     check_lock(&it);
     check_moved(&it);
     check_identical();
+    check_open_compact();
+    check_compact_keys();
+    check_ranges();
+    check_compact_fingerprint();
     printf("%d passed, %d failed\n", passed, failed);
     return failed != 0;
 }

@@ -83,6 +83,40 @@ static bool has_fingerprint(void)
     return status == UCA_OK;
 }
 
+static const char BOOK[] = "@book 1\n1 1C47\n1 1C48\n";
+static const uint8_t COMPACT_KEY[] = {8, 4, 99, 103, 1};
+
+/* Whether bytes are made: these. Else memory ran out, and nothing is written. */
+static bool is_made(uint32_t status, const uint8_t *out, size_t needed, const uint8_t *bytes, size_t length)
+{
+    CHECK(status == UCA_OK ? needed == length && memcmp(out, bytes, length) == 0 : can_fail() && status == UCA_MEMORY && needed == 0 && out[0] == 0xEE);
+    return status == UCA_OK;
+}
+
+/* Opens with a book, makes a key, both forms of it, and an end of a range. Returns whether nothing failed. */
+static bool use_compact(uca_collator *it)
+{
+    uca_error error = {7, 7};
+    if (!it->is_open) {
+        uint32_t status = uca_open_compact(it, BYTES(TABLE), BYTES(DATA), BYTES(BOOK), UCA_NON_IGNORABLE, UCA_WEIGHTS, &error);
+        CHECK(status == UCA_OK ? it->is_open
+                               : can_fail() && !it->is_open && (is_memory(status, &error) || (status == UCA_BOOK && error.kind == UCA_KIND_MEMORY)));
+        if (status != UCA_OK) {
+            return false;
+        }
+    }
+    uint8_t key[64] = {0xEE}, compact[64] = {0xEE}, whole[64] = {0xEE}, low[64] = {0xEE};
+    size_t needed = 7;
+    uint32_t status = uca_key(it, BYTES("a\xCC\x81"), key, sizeof key, &needed);
+    bool is_key = is_made(status, key, needed, COMPACT_KEY, sizeof COMPACT_KEY);
+    status = uca_compact(it, KEY, sizeof KEY, compact, sizeof compact, &needed);
+    bool is_compact = is_made(status, compact, needed, COMPACT_KEY, sizeof COMPACT_KEY);
+    status = uca_expand(it, COMPACT_KEY, sizeof COMPACT_KEY, whole, sizeof whole, &needed);
+    bool is_whole = is_made(status, whole, needed, KEY, sizeof KEY);
+    status = uca_range(it, BYTES("a\xCC\x81"), UCA_SAME_LETTERS, UCA_LOW, low, sizeof low, &needed);
+    return is_made(status, low, needed, (const uint8_t[]){8, 0}, 2) && is_key && is_compact && is_whole;
+}
+
 /* Makes a fingerprint, opens, makes a key and compares. Returns whether nothing failed. Each status is OK, or says that memory ran out. */
 static bool use(uca_collator *it)
 {
@@ -110,29 +144,37 @@ static bool use(uca_collator *it)
 }
 
 /* A use in which these allocations fail, and then one, of the same collator, in which none does. */
-static void run(long first, long last)
+static void run(bool uses(uca_collator *), long first, long last)
 {
     uca_collator it = UCA_CLOSED_COLLATOR;
     asked = 0;
     first_failing = first;
     last_failing = last;
-    use(&it);
+    uses(&it);
     first_failing = last_failing = 0;
-    CHECK(use(&it));
+    CHECK(uses(&it));
     uca_close(&it);
     CHECK(held == 0);
 }
 
-int main(void)
+/* Each allocation of this use fails in turn. Returns how many there are. */
+static long run_all(bool uses(uca_collator *))
 {
     uca_collator it = UCA_CLOSED_COLLATOR;
-    CHECK(use(&it));
+    asked = 0;
+    CHECK(uses(&it));
     uca_close(&it);
     long count = asked;
     for (long n = 1; n <= count; n++) {
-        run(n, n);
-        run(n, count + 1000);
+        run(uses, n, n);
+        run(uses, n, count + 1000);
     }
-    printf("%ld runs, %ld checks failed\n", 2 * count, failed);
-    return failed != 0 || count == 0;
+    return count;
+}
+
+int main(void)
+{
+    long count = run_all(use), compact_count = run_all(use_compact);
+    printf("%ld runs, %ld checks failed\n", 2 * (count + compact_count), failed);
+    return failed != 0 || count == 0 || compact_count == 0;
 }

@@ -64,7 +64,7 @@ typedef enum uca_depth {
 /* Which keys a range has. "The same letters" means that level 1 is the same, as for `cafe`, `Cafe` and `café`. */
 typedef enum uca_range_of {
     UCA_SAME_LETTERS = 1, /* the keys with the letters of the text: level 1 is the same */
-    UCA_SAME_ACCENTS = 2, /* the keys with the letters and the accents of the text: levels 1 and 2 are the same */
+    UCA_SAME_ACCENTS = 2, /* the keys with the letters and the accents of the text: levels 1 and 2 are the same. For whole keys alone */
     UCA_BEGINS = 3        /* the keys whose level 1 begins with the letters of the text */
 } uca_range_of;
 
@@ -179,7 +179,7 @@ uint32_t uca_expand(uca_collator *collator, const uint8_t *compact, size_t lengt
 
    UCA_OK: the first `*needed` bytes of `out` are the end, and those after them are as before.
    UCA_SMALL: the end has `*needed` bytes, and `room` is less.
-   UCA_ARGUMENT: the range or the end is none of those. `*needed` is 0.
+   UCA_ARGUMENT: the range or the end is none of those, or the range is UCA_SAME_ACCENTS and the collator has a book. `*needed` is 0.
    UCA_CLOSED, UCA_UTF8, UCA_TOO_LONG, UCA_LONG_RUN, UCA_MEMORY: `*needed` is 0.
    Unless the status is UCA_OK, `out` is as before. */
 uint32_t uca_range(uca_collator *collator, const uint8_t *text, size_t length, uint32_t range, uint32_t end, uint8_t *out,

@@ -1,5 +1,6 @@
 -- What an open handle owns, put together and taken apart.
 use Rattle.std.proofs.Common.{◌≡◌, ℕ, List, [], ◌∷◌, ◌++◌, refl, subst}
+use Rattle.std.specs.Prelude.{None}
 use mathlib.Core.Bool.{Bool, true, false}
 use seplogic.Ra.Ura.{Ura}
 use mir.Raw.{raw as bare}
@@ -56,11 +57,14 @@ module _ {M : Type 1} {𝓤 : Ura M} {𝓛 : Logic 𝓤} {K : Type 0} {Γ : List
 -- a value that stands for none, in a handle that owns nothing
 abbrev pub nobody : X E
 nobody = record {
-  lookup = record { keys = record { root = record { pages = []; numbers = [] }; nodes = [] }; rows = [] };
-  ranges = [];
-  data_file = record { classes = []; core = []; other = [] };
-  settings = record { weighting = Shifted; depth = Weights };
-  key = [];
+  collator = record {
+    lookup = record { keys = record { root = record { pages = []; numbers = [] }; nodes = [] }; rows = [] };
+    ranges = [];
+    data_file = record { classes = []; core = []; other = [] };
+    settings = record { weighting = Shifted; depth = Weights };
+    key = [];
+  };
+  book = None;
 }
 
 module _ {M : Type 1} {𝓤 : Ura M} {𝓛 : Logic 𝓤} {K : Type 0} {Γ : List (Item 𝓤)} {G : Goal 𝓤 𝓛.H} where

@@ -1,5 +1,8 @@
+pub mod CompactCalls
 pub mod Numbers
+pub mod OpenCollators
 pub mod Opened
+pub mod RangeCalls
 pub mod Results
 pub mod Statuses
 pub mod inside

@@ -1,16 +1,18 @@
 -- What the status of opening says of the caller's bytes and numbers.
-use Rattle.std.specs.Prelude.{◌≡◌, ◌⊎◌, ℕ, List, Option, Some, None}
+use Rattle.std.specs.Prelude.{◌≡◌, ◌⊎◌, ℕ, List, Option, Some, None, ⊥}
 use Rattle.uca_weights.specs.declared.Depth.{Depth}
 use Rattle.uca_weights.specs.declared.Weighting.{Weighting}
 use Rattle.uca_values.specs.Content.{TableContent, Properties}
 use Rattle.uca_values.specs.declared.faults.FaultKind.TheVariants.{Read, Memory}
 use Rattle.uca_values.specs.declared.faults.TableFault.{TableFault}
 use Rattle.uca_order.specs.Keyings.{Keying}
+use Rattle.uca_books.specs.Books.{BookContent}
+use Rattle.uca_books.specs.BookTexts as books
 use Rattle.uca_owned.specs.Opening.{HasFingerprint, MeanFiles, Opens, IsOpenCause}
 use Rattle.uca_owned.specs.declared.faults.OpenFault.{OpenFault}
 use Rattle.uca_owned.specs.declared.faults.OpenFault.TheVariants as faults
 use Rattle.uca_c.specs.Numbers.{weighting_of, depth_of, kind_number}
-use Rattle.uca_c.specs.declared.statuses.TheConstants.{ARGUMENT, TABLE, DATA, MEMORY}
+use Rattle.uca_c.specs.declared.statuses.TheConstants.{ARGUMENT, TABLE, DATA, MEMORY, BOOK}
 
 -- the numbers ask for a weighting and a depth, and the bytes mean a table and a data file: texts are keyed by these
 pub record OpensBy (weighting depth : ℕ) (table_bytes data_bytes : List ℕ) (k : Keying) : Type 0 where
@@ -62,3 +64,24 @@ pub record Asks (weighting depth : ℕ) (table_bytes data_bytes : List ℕ) (ask
 -- nothing is rejected: an allocation failed, or a read
 abbrev pub IsStopStatus : ℕ → ℕ → Type 0
 IsStopStatus status kind = (status ≡ MEMORY) ⊎ (((status ≡ TABLE) ⊎ (status ≡ DATA)) × ((kind ≡ kind_number Read) ⊎ (kind ≡ kind_number Memory)))
+
+-- ---- With a book
+
+-- the bytes mean this book
+abbrev pub HasBook : List ℕ → Option BookContent → Type 0
+HasBook bytes None = ⊥
+HasBook bytes (Some book) = books.Means bytes book
+
+-- why the bytes of a book are rejected, whatever is left of them
+abbrev pub RejectsBook : List ℕ → TableFault → Type 0
+RejectsBook bytes fault = (left : Option (List ℕ)) × books.Refuses bytes left fault
+
+-- why nothing was opened: a table or a data file, or else a book
+abbrev pub IsCompactOpenStatus : ℕ → ℕ → List ℕ → List ℕ → List ℕ → ℕ → ℕ → ℕ → Type 0
+IsCompactOpenStatus weighting depth table_bytes data_bytes book_bytes line kind status =
+    IsOpenStatus weighting depth table_bytes data_bytes line kind status
+    ⊎ ((status ≡ BOOK) × ((k : Keying) × OpensBy weighting depth table_bytes data_bytes k) × IsFileError (RejectsBook book_bytes) line kind)
+
+-- nothing is rejected, and no book either
+abbrev pub IsCompactStopStatus : ℕ → ℕ → Type 0
+IsCompactStopStatus status kind = IsStopStatus status kind ⊎ ((status ≡ BOOK) × ((kind ≡ kind_number Read) ⊎ (kind ≡ kind_number Memory)))

@@ -1,15 +1,15 @@
 //! The calls that C makes. Their clauses hold for every argument: a wrong one is a status.
 
-ghost use Rattle.std.specs.Prelude.{◌≡◌, ◌≢◌, ◌↔◌, ◌⊎◌, true, false, pos, Option};
+ghost use Rattle.std.specs.Prelude.{◌≡◌, ◌≢◌, ◌↔◌, ◌⊎◌, true, false, pos, Option, None};
 ghost use Rattle.uca_weights.specs.declared.Depth.{Depth};
 ghost use Rattle.uca_weights.specs.declared.Weighting.{Weighting};
 ghost use Rattle.uca_values.specs.Content.{TableContent, Properties};
 ghost use Rattle.uca_order.specs.Levels.{lexicographic};
 ghost use Rattle.uca_order.specs.StoredKeys.{stored_level};
-ghost use Rattle.uca_order.specs.Keyings.{keying, key_of_bytes, bytes_compared};
+ghost use Rattle.uca_order.specs.Keyings.{keying, bytes_compared};
 ghost use Rattle.uca_owned.specs.Opening.{fingerprint_by};
-ghost use Rattle.uca_owned.specs.Owned.{keying_in};
 ghost use Rattle.uca_c.specs.Numbers.{order_number};
+ghost use Rattle.uca_c.specs.OpenCollators.{keying_at, key_by};
 ghost use Rattle.uca_c.specs.Opened.{Asks, FingerprintsBy, OpensBy, IsNoFileError, IsOpenStatus, IsStopStatus};
 ghost use Rattle.uca_c.specs.Results.{WritesKey, IsTooSmall, IsComparison, IsOrderNumber};
 ghost use Rattle.uca_c.specs.Statuses.{IsKeyStatus, IsCompareStatus};
@@ -18,7 +18,7 @@ use crate::numbers::number_of_order;
 use crate::slot::{Slot, put, take};
 use crate::statuses::{ALREADY_OPEN, CLOSED, MEMORY, OK, SMALL};
 use crate::structs::{Comparison, FileError};
-use crate::work;
+use crate::{opening, work};
 use std::alloc::Global;
 
 /// The number of this interface.
@@ -57,12 +57,13 @@ pub extern "C" fn uca_open(
     error: &mut FileError,
 ) -> u32
     ensures already { (result ≡ ALREADY_OPEN) ↔ (collator.old.full ≡ true) }
-    ensures ok { result ≡ OK → OpensBy weighting depth table.now data_file.now (keying_in collator.new.handle.kept) }
+    ensures ok { result ≡ OK → OpensBy weighting depth table.now data_file.now (keying_at collator.new.handle.kept) }
+    ensures book { result ≡ OK → collator.new.handle.kept.book ≡ None }
     ensures open { result ≡ OK → collator.new.full ≡ true }
     ensures same { result ≢ OK → collator.new ≡ collator.old }
     ensures only { (asked : Option Weighting) (at : Depth) (meant : TableContent) (properties : Properties) → collator.old.full ≡ false →
         Asks weighting depth table.now data_file.now asked at meant properties →
-        ((result ≡ OK) × (keying_in collator.new.handle.kept ≡ keying asked at meant properties)) ⊎ IsStopStatus result error.new.kind }
+        ((result ≡ OK) × (keying_at collator.new.handle.kept ≡ keying asked at meant properties)) ⊎ IsStopStatus result error.new.kind }
     ensures no_error { (result ≡ OK) ⊎ (result ≡ ALREADY_OPEN) → IsNoFileError error.new.line error.new.kind }
     ensures rejected { result ≢ OK → result ≢ ALREADY_OPEN →
         IsOpenStatus weighting depth table.now data_file.now error.new.line error.new.kind result }
@@ -71,7 +72,7 @@ pub extern "C" fn uca_open(
         *error = FileError { line: 0, kind: 0 };
         return ALREADY_OPEN;
     }
-    match work::open(alloc, table, data_file, weighting, depth, error) {
+    match opening::open(alloc, table, data_file, weighting, depth, error) {
         Ok(opened) => {
             put(collator, opened);
             OK
@@ -90,13 +91,14 @@ pub extern "C" fn uca_key(
     needed: &mut usize,
 ) -> u32
     ensures closed { (result ≡ CLOSED) ↔ (collator.old.full ≡ false) }
-    ensures ok { result ≡ OK → WritesKey (key_of_bytes (keying_in collator.old.handle.kept) text.now) out.old out.new needed.new }
-    ensures small { result ≡ SMALL → IsTooSmall (key_of_bytes (keying_in collator.old.handle.kept) text.now) out.old needed.new }
-    ensures rejected { collator.old.full ≡ true → IsKeyStatus (keying_in collator.old.handle.kept).collation.properties text.now result }
+    ensures ok { result ≡ OK → WritesKey (key_by (keying_at collator.old.handle.kept) collator.old.handle.kept.book text.now) out.old out.new needed.new }
+    ensures small { result ≡ SMALL → IsTooSmall (key_by (keying_at collator.old.handle.kept) collator.old.handle.kept.book text.now) out.old needed.new }
+    ensures rejected { collator.old.full ≡ true → IsKeyStatus (keying_at collator.old.handle.kept).collation.properties text.now result }
     ensures unwritten { result ≢ OK → out.new ≡ out.old }
     ensures none { result ≢ OK → result ≢ SMALL → needed.new ≡ 0 }
     ensures full { collator.new.full ≡ collator.old.full }
-    ensures keying { collator.old.full ≡ true → keying_in collator.new.handle.kept ≡ keying_in collator.old.handle.kept }
+    ensures keying { collator.old.full ≡ true → keying_at collator.new.handle.kept ≡ keying_at collator.old.handle.kept }
+    ensures book { collator.old.full ≡ true → collator.new.handle.kept.book ≡ collator.old.handle.kept.book }
 {
     if !collator.full {
         *needed = 0;
@@ -118,13 +120,14 @@ pub extern "C" fn uca_compare(
     comparison: &mut Comparison,
 ) -> u32
     ensures closed { (result ≡ CLOSED) ↔ (collator.old.full ≡ false) }
-    ensures ok { result ≡ OK → IsComparison (bytes_compared (keying_in collator.old.handle.kept) left.now right.now)
+    ensures ok { result ≡ OK → IsComparison (bytes_compared (keying_at collator.old.handle.kept) left.now right.now)
         comparison.new.order comparison.new.level }
     ensures rejected { collator.old.full ≡ true →
-        IsCompareStatus (keying_in collator.old.handle.kept).collation.properties left.now right.now result }
+        IsCompareStatus (keying_at collator.old.handle.kept).collation.properties left.now right.now result }
     ensures none { result ≢ OK → (comparison.new.order ≡ pos 0) × (comparison.new.level ≡ 0) }
     ensures full { collator.new.full ≡ collator.old.full }
-    ensures keying { collator.old.full ≡ true → keying_in collator.new.handle.kept ≡ keying_in collator.old.handle.kept }
+    ensures keying { collator.old.full ≡ true → keying_at collator.new.handle.kept ≡ keying_at collator.old.handle.kept }
+    ensures book { collator.old.full ≡ true → collator.new.handle.kept.book ≡ collator.old.handle.kept.book }
 {
     if !collator.full {
         *comparison = Comparison { order: 0, level: 0 };
@@ -146,11 +149,12 @@ pub extern "C" fn uca_order(
     order: &mut i32,
 ) -> u32
     ensures closed { (result ≡ CLOSED) ↔ (collator.old.full ≡ false) }
-    ensures ok { result ≡ OK → IsOrderNumber (keying_in collator.old.handle.kept) left.now right.now order.new }
+    ensures ok { result ≡ OK → IsOrderNumber (keying_at collator.old.handle.kept) left.now right.now order.new }
     ensures statuses { collator.old.full ≡ true → (result ≡ OK) ⊎ (result ≡ MEMORY) }
     ensures none { result ≢ OK → order.new ≡ pos 0 }
     ensures full { collator.new.full ≡ collator.old.full }
-    ensures keying { collator.old.full ≡ true → keying_in collator.new.handle.kept ≡ keying_in collator.old.handle.kept }
+    ensures keying { collator.old.full ≡ true → keying_at collator.new.handle.kept ≡ keying_at collator.old.handle.kept }
+    ensures book { collator.old.full ≡ true → collator.new.handle.kept.book ≡ collator.old.handle.kept.book }
 {
     if !collator.full {
         *order = 0;
@@ -199,7 +203,7 @@ pub extern "C" fn uca_fingerprint(
     ensures no_error { result ≡ OK → IsNoFileError error.new.line error.new.kind }
     ensures rejected { result ≢ OK → IsOpenStatus weighting depth table.now data_file.now error.new.line error.new.kind result }
 {
-    match work::fingerprint(alloc, table, data_file, weighting, depth, error) {
+    match opening::fingerprint(alloc, table, data_file, weighting, depth, error) {
         Ok(sum) => {
             *out = sum;
             OK

@@ -1,14 +1,14 @@
 //! What C has: a collator in memory of its own, or nothing.
 
 ghost use Rattle.std.specs.Prelude.{◌≡◌, true, false};
-ghost use Rattle.uca_owned.specs.Owned.{OwnedState};
+ghost use Rattle.uca_c.specs.OpenCollators.{OpenState};
 ghost use Rattle.uca_c.specs.inside.Handles.{handle_owns, collator_coded};
 
+use crate::open_collator::OpenCollator;
 use crate::parts::Parts;
 use std::alloc::Global;
 use std::marker::Model;
 use std::ptr;
-use uca_owned::OwnedCollator;
 
 /// In C `struct { void *inside; bool is_kept; }`. Where `full` is false it owns nothing, and the pointer may be any. So a
 /// struct of zeros is a handle with nothing inside.
@@ -18,7 +18,7 @@ pub struct Handle {
     ptr: *mut u8,
     alloc: Global,
     pub(crate) full: bool,
-    pub ghost kept: { OwnedState } by { collator_coded },
+    pub ghost kept: { OpenState } by { collator_coded },
 }
 
 impl Model for Handle {
@@ -37,7 +37,7 @@ impl Handle {
         }
     }
 
-    pub(crate) fn of_parts(parts: Parts<OwnedCollator, Global>) -> Handle
+    pub(crate) fn of_parts(parts: Parts<OpenCollator, Global>) -> Handle
         ensures { (result.full ≡ true) × (result.kept ≡ parts.value) }
     {
         let Parts { ptr, alloc } = parts;
@@ -48,7 +48,7 @@ impl Handle {
         }
     }
 
-    pub(crate) fn into_parts(self) -> Parts<OwnedCollator, Global>
+    pub(crate) fn into_parts(self) -> Parts<OpenCollator, Global>
         requires { self.full ≡ true }
         ensures { result.value ≡ self.kept }
     {
@@ -58,7 +58,7 @@ impl Handle {
             full: _,
         } = self;
         Parts {
-            ptr: ptr as *mut OwnedCollator,
+            ptr: ptr as *mut OpenCollator,
             alloc,
         }
     }

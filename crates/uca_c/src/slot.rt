@@ -3,10 +3,10 @@
 ghost use Rattle.std.specs.Prelude.{◌≡◌, true, false};
 
 use crate::handle::Handle;
+use crate::open_collator::OpenCollator;
 use crate::parts::Parts;
 use std::alloc::Global;
 use std::mem;
-use uca_owned::OwnedCollator;
 
 /// In C `struct uca_collator`: a handle, and whether there is a collator in it.
 #[repr(C)]
@@ -27,7 +27,7 @@ fn closed(alloc: Global) -> Slot
 }
 
 // The collator of an open slot, which is closed then.
-pub fn take(alloc: Global, slot: &mut Slot) -> Box<OwnedCollator>
+pub fn take(alloc: Global, slot: &mut Slot) -> Box<OpenCollator>
     requires { slot.old.full ≡ true }
     ensures value { result.value ≡ slot.old.handle.kept }
     ensures closed { slot.new.full ≡ false }
@@ -40,7 +40,7 @@ pub fn take(alloc: Global, slot: &mut Slot) -> Box<OwnedCollator>
 }
 
 // Puts a collator into a slot, which is open then.
-pub fn put(slot: &mut Slot, collator: Box<OwnedCollator>)
+pub fn put(slot: &mut Slot, collator: Box<OpenCollator>)
     ensures value { slot.new.handle.kept ≡ collator.value }
     ensures open { slot.new.full ≡ true }
 {

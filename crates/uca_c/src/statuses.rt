@@ -36,8 +36,17 @@ pub const TOO_LONG: u32 = 8;
 /// A text has too many non-starters in a row.
 pub const LONG_RUN: u32 = 9;
 
-/// The caller's memory has no room for the key.
+/// The caller's memory has no room for what is written.
 pub const SMALL: u32 = 10;
+
+/// The book is rejected.
+pub const BOOK: u32 = 11;
+
+/// The collator has no book.
+pub const NO_BOOK: u32 = 12;
+
+/// The bytes are no key, or no compact key.
+pub const NO_KEY: u32 = 13;
 
 // The status of a text that is rejected.
 pub fn status_of_text(fault: KeyFault) -> u32

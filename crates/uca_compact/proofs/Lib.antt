@@ -7,6 +7,7 @@ pub mod LevelsBack
 pub mod PointOrder
 pub mod Forms
 pub mod TextOrder
+pub mod TextKeys
 pub mod OnlyCells
 pub mod OnlyLevels
 pub mod OnlyKeys

@@ -1,11 +1,13 @@
 //! `KeyCompacter`: stored keys become compact keys.
 
 ghost use Rattle.std.specs.Prelude.{◌≡◌, IfOk, [], if◌then◌else◌, None, Some, option_map};
+ghost use Rattle.std.specs.Bool.{MatchBool};
 ghost use Rattle.uca_weights.specs.declared.Weighting.TheVariants.{NonIgnorable, Shifted};
 ghost use Rattle.uca_compact.specs.CompactKeys.{compact_key};
-ghost use Rattle.uca_compact.specs.StoredParts.{stored_parts};
+ghost use Rattle.uca_compact.specs.StoredParts.{stored_parts, IsCompactOf, IsOfNoKey};
 
 use crate::buffers::Levels;
+use crate::expander::expand;
 use crate::stored::{next_level, push_points_after, read_weights};
 use crate::written_levels::{push_four, push_three};
 use std::alloc::{AllocError, Allocator, Global};
@@ -13,7 +15,7 @@ use std::marker::Model;
 use uca_books::Book;
 use uca_weights::{Depth, Settings, Weighting};
 
-/// Makes compact keys of stored keys. It needs no text and no table.
+/// Makes compact keys of stored keys, and stored keys of these again. It needs no text and no table.
 #[derive(Drop)]
 pub struct KeyCompacter<A: Allocator = Global> {
     book: Book<A>,
@@ -43,6 +45,13 @@ impl<A: Allocator + Copy> KeyCompacter<A> {
 }
 
 impl<A: Allocator> KeyCompacter<A> {
+    /// The book.
+    pub fn book(&self) -> &Book<A>
+        ensures { result.now ≡ self.now.book }
+    {
+        &self.book
+    }
+
     /// Writes the compact key of a stored key over the bytes that were there, and returns `true`. The memory is used
     /// again.
     ///
@@ -79,6 +88,28 @@ impl<A: Allocator> KeyCompacter<A> {
                 compact,
             ),
         }
+    }
+
+    /// Writes the stored key of a compact key over the bytes that were there, and returns `true`, as
+    /// [`KeyExpander::write_key`](crate::KeyExpander::write_key) does. So a program that needs both ways reads its book once.
+    ///
+    /// It returns `false` if the bytes are the compact key of no stored key under the book and the settings. What was
+    /// written is then unspecified.
+    ///
+    /// # Errors
+    ///
+    /// An allocation failed. The bytes are then unspecified.
+    pub fn write_key<B: Allocator>(
+        &mut self,
+        compact: &[u8],
+        key: &mut Vec<u8, B>,
+    ) -> Result<bool, AllocError>
+        ensures same { self.new ≡ self.old }
+        ensures key { IfOk result (λ found. MatchBool found
+            (IsCompactOf self.old.settings.depth self.old.settings.weighting self.old.book key.new.items compact.now)
+            (IsOfNoKey self.old.settings.depth self.old.settings.weighting self.old.book compact.now)) }
+    {
+        expand(compact, self.settings, &self.book, &mut self.levels, key)
     }
 }
 

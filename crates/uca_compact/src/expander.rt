@@ -64,23 +64,26 @@ impl<A: Allocator> KeyExpander<A> {
             (IsCompactOf self.old.settings.depth self.old.settings.weighting self.old.book key.new.items compact.now)
             (IsOfNoKey self.old.settings.depth self.old.settings.weighting self.old.book compact.now)) }
     {
-        key.clear();
-        match self.settings.weighting {
-            Weighting::NonIgnorable => expand_three(
-                compact,
-                self.settings.depth,
-                &self.book,
-                &mut self.levels,
-                key,
-            ),
-            Weighting::Shifted => expand_four(
-                compact,
-                self.settings.depth,
-                &self.book,
-                &mut self.levels,
-                key,
-            ),
-        }
+        expand(compact, self.settings, &self.book, &mut self.levels, key)
+    }
+}
+
+// Writes the key of a compact key over the bytes that were there.
+pub(crate) fn expand<A: Allocator, B: Allocator>(
+    compact: &[u8],
+    settings: Settings,
+    book: &Book<A>,
+    levels: &mut Levels<A>,
+    key: &mut Vec<u8, B>,
+) -> Result<bool, AllocError>
+    ensures { IfOk result (λ found. MatchBool found
+        (IsCompactOf settings.depth settings.weighting book.now key.new.items compact.now)
+        (IsOfNoKey settings.depth settings.weighting book.now compact.now)) }
+{
+    key.clear();
+    match settings.weighting {
+        Weighting::NonIgnorable => expand_three(compact, settings.depth, book, levels, key),
+        Weighting::Shifted => expand_four(compact, settings.depth, book, levels, key),
     }
 }
 

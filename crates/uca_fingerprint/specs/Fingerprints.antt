@@ -38,3 +38,14 @@ fingerprint_text settings table_sum data_sum =
 -- the fingerprint of settings, and the bytes of a table and of a data file
 abbrev pub fingerprint : Settings → List ℕ → List ℕ → List ℕ
 fingerprint settings table_bytes data_bytes = sha256 (fingerprint_text settings (sha256 table_bytes) (sha256 data_bytes))
+
+-- what compact keys are made by, in three lines: the fingerprint of their whole keys, and the SHA-256 of the bytes of the book
+unfoldable pub compact_fingerprint_text : List ℕ → List ℕ → List ℕ
+compact_fingerprint_text keys_sum book_sum =
+    value_line (codes "uca compact keys ") (codes "1")
+    ++ value_line (codes "keys ") (encode_lower keys_sum)
+    ++ value_line (codes "book ") (encode_lower book_sum)
+
+-- the fingerprint of compact keys, by that of their whole keys and the bytes of the book
+abbrev pub compact_fingerprint : List ℕ → List ℕ → List ℕ
+compact_fingerprint keys_sum book_bytes = sha256 (compact_fingerprint_text keys_sum (sha256 book_bytes))

@@ -4,7 +4,13 @@ ghost use Rattle.std.specs.Prelude.{◌≡◌, ℕ, List, ◌++◌};
 ghost use Rattle.hex.specs.Hex.{encode_lower};
 ghost use Rattle.sha2.specs.Hashers.{Holds256};
 ghost use Rattle.sha2.specs.Sha256.{sha256};
-ghost use Rattle.uca_fingerprint.specs.Fingerprints.{fingerprint, fingerprint_text, value_line};
+ghost use Rattle.uca_fingerprint.specs.Fingerprints.{
+  compact_fingerprint,
+  compact_fingerprint_text,
+  fingerprint,
+  fingerprint_text,
+  value_line,
+};
 
 use crate::texts::{depth_name, edition};
 use hex::encode_to_slice;
@@ -68,4 +74,29 @@ pub fn fingerprint(settings: Settings, table: &[u8], data_file: &[u8]) -> [u8; 3
     ensures { result ≡ fingerprint settings table.now data_file.now }
 {
     fingerprint_of_sums(settings, &sum(table), &sum(data_file))
+}
+
+/// The fingerprint of compact keys, by that of their whole keys and the SHA-256 of the book file: the SHA-256 of a text in
+/// three lines.
+///
+/// ```text
+/// uca compact keys 1
+/// keys 64 lower-case hexadecimal digits
+/// book 64 lower-case hexadecimal digits
+/// ```
+pub fn compact_fingerprint_of_sums(keys: &[u8; 32], book: &[u8; 32]) -> [u8; 32]
+    ensures { result ≡ sha256 (compact_fingerprint_text keys.now book.now) }
+{
+    let mut hasher = Sha256::new();
+    add_line(&mut hasher, "uca compact keys ", b"1");
+    add_line(&mut hasher, "keys ", &digits(keys));
+    add_line(&mut hasher, "book ", &digits(book));
+    hasher.finalize()
+}
+
+/// The fingerprint of compact keys, by that of their whole keys and the bytes of the book file.
+pub fn compact_fingerprint(keys: &[u8; 32], book: &[u8]) -> [u8; 32]
+    ensures { result ≡ compact_fingerprint keys.now book.now }
+{
+    compact_fingerprint_of_sums(keys, &sum(book))
 }

@@ -1,10 +1,10 @@
-//! The header of key lines: a first line that says what made the keys.
+//! The headers of key lines and of lines of compact keys: a first line that says what made the keys.
 
-ghost use Rattle.std.specs.Prelude.{◌≡◌, ◌≢◌, ◌+◌, ◌≤◌, ◌∷◌, [], ◌++◌, ℕ, List, MatchOption, length};
+ghost use Rattle.std.specs.Prelude.{◌≡◌, ◌≢◌, ◌+◌, ◌≤◌, ◌∷◌, [], ◌++◌, ℕ, List, MatchOption, codes, length};
 ghost use Rattle.hex.specs.Hex.{IsBytes, encode_lower};
 ghost use Rattle.uca_weights.specs.WeightingText.{weighting_text};
 ghost use Rattle.uca_fingerprint.specs.Fingerprints.{depth_text};
-ghost use Rattle.uca_fingerprint.specs.KeyHeaders.{key_header};
+ghost use Rattle.uca_fingerprint.specs.KeyHeaders.{compact_header, key_header};
 
 use crate::fingerprints::digits;
 use crate::texts::depth_name;
@@ -13,7 +13,8 @@ use hex::FromHex;
 use std::marker::Model;
 use uca_weights::{Depth, Settings, Weighting};
 
-/// The header of key lines, without its LF: `#uca keys 1 shifted weights` and the digits of a fingerprint. It takes no memory.
+/// A header of key lines: `#uca keys 1 shifted weights` and the digits of a fingerprint. That of lines of compact keys has
+/// `#uca compact 1` there. It takes no memory.
 #[derive(Drop)]
 pub struct KeyHeader {
     line: ArrayVec<u8, 128>,
@@ -28,20 +29,13 @@ impl Model for KeyHeader {
 }
 
 impl KeyHeader {
-    /// The header of keys that were made under these settings. The fingerprint is that of the settings and the files.
+    /// The header of keys that were made under these settings, without its LF. The fingerprint is that of the settings and
+    /// the files.
     pub fn new(settings: Settings, fingerprint: &[u8; 32]) -> KeyHeader
         ensures line { result ≡ key_header settings fingerprint.now }
         ensures short { length result ≤ 127 }
     {
-        KeyHeader {
-            line: ArrayVec::new(),
-        }
-        .then(b"#uca keys 1 ")
-        .then(name_of(settings.weighting))
-        .then(b" ")
-        .then(depth_of(settings.depth))
-        .then(b" ")
-        .then(&digits(fingerprint))
+        KeyHeader::with_kind(b"#uca keys 1 ", settings, fingerprint)
     }
 
     /// The header that `new` makes, with an LF at its end.
@@ -51,12 +45,51 @@ impl KeyHeader {
         KeyHeader::new(settings, fingerprint).then(b"\n")
     }
 
+    /// The header of compact keys, without its LF. The settings are those of their whole keys, and the fingerprint is that
+    /// of these and of the book (`compact_fingerprint`).
+    pub fn compact(settings: Settings, fingerprint: &[u8; 32]) -> KeyHeader
+        ensures line { result ≡ compact_header settings fingerprint.now }
+        ensures short { length result ≤ 127 }
+    {
+        KeyHeader::with_kind(b"#uca compact 1 ", settings, fingerprint)
+    }
+
+    /// The header that `compact` makes, with an LF at its end.
+    pub fn compact_ended(settings: Settings, fingerprint: &[u8; 32]) -> KeyHeader
+        ensures { result ≡ compact_header settings fingerprint.now ++ 10 ∷ [] }
+    {
+        KeyHeader::compact(settings, fingerprint).then(b"\n")
+    }
+
     /// The bytes of the header.
     pub fn as_bytes(&self) -> &[u8]
         ensures line { result.now ≡ self.now }
         ensures short { length result.now ≤ 128 }
     {
         self.line.as_slice()
+    }
+
+    // The header that begins with these bytes, which say the kind of the keys.
+    fn with_kind(kind: &[u8], settings: Settings, fingerprint: &[u8; 32]) -> KeyHeader
+        requires { length kind.now ≤ 39 }
+        ensures line { result
+            ≡ kind.now
+            ++ weighting_text settings.weighting
+            ++ codes " "
+            ++ depth_text settings.depth
+            ++ codes " "
+            ++ encode_lower fingerprint.now }
+        ensures short { length result ≤ 127 }
+    {
+        KeyHeader {
+            line: ArrayVec::new(),
+        }
+        .then(kind)
+        .then(name_of(settings.weighting))
+        .then(b" ")
+        .then(depth_of(settings.depth))
+        .then(b" ")
+        .then(&digits(fingerprint))
     }
 
     // The header with more bytes at its end.

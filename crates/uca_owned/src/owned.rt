@@ -1,5 +1,8 @@
 //! `OwnedCollator`: what a collator owns.
 
+ghost use Rattle.std.specs.Prelude.{◌≡◌};
+ghost use Rattle.uca_owned.specs.Owned.{keying_in};
+
 use std::alloc::Global;
 use std::marker::Model;
 use uca_key_writer::KeyMemory;
@@ -39,4 +42,13 @@ impl Model for OwnedCollator {
     } };
 
     ghost invariant = { λ c. IsKept (owned_collation c.collation) c.settings c.keys c.plain };
+}
+
+impl OwnedCollator {
+    /// The weighting and the depth of its keys.
+    pub fn settings(&self) -> Settings
+        ensures { result ≡ (keying_in self.now).settings }
+    {
+        self.settings
+    }
 }

@@ -1,0 +1,56 @@
+//! What an open collator of C's has.
+
+ghost use Rattle.std.specs.Prelude.{◌≡◌, None, Some};
+ghost use Rattle.uca_c.specs.OpenCollators.{keying_at};
+
+use std::alloc::Global;
+use std::marker::Model;
+use uca_books::Book;
+use uca_compact::KeyCompacter;
+use uca_owned::OwnedCollator;
+
+/// A collator, the book of its compact keys if it has one, and memory for what a call makes.
+#[derive(Drop)]
+pub struct OpenCollator {
+    pub(crate) collator: OwnedCollator,
+    // it has the book
+    pub(crate) compacter: Option<KeyCompacter>,
+    // the bytes that a call makes
+    pub(crate) made: Vec<u8>,
+}
+
+impl Model for OpenCollator {
+    ghost use Rattle.std.specs.Prelude.{◌≡◌, IfSome, option_map};
+    ghost use Rattle.uca_c.specs.OpenCollators.{OpenState};
+
+    ghost Value = { OpenState };
+
+    ghost view = { λ c. record { collator = c.collator; book = option_map (λ made_by. made_by.book) c.compacter } };
+
+    ghost invariant = { λ c. IfSome c.compacter (λ made_by. made_by.settings ≡ c.collator.settings) };
+}
+
+impl OpenCollator {
+    // One whose keys are whole.
+    pub(crate) fn new(alloc: Global, collator: OwnedCollator) -> OpenCollator
+        ensures { result ≡ record { collator = collator; book = None } }
+    {
+        OpenCollator {
+            collator,
+            compacter: None,
+            made: Vec::new(alloc),
+        }
+    }
+
+    // One whose keys are compact, by this book.
+    pub(crate) fn with_book(alloc: Global, collator: OwnedCollator, book: Book) -> OpenCollator
+        ensures { result ≡ record { collator = collator; book = Some book } }
+    {
+        let settings = collator.settings();
+        OpenCollator {
+            collator,
+            compacter: Some(KeyCompacter::new(alloc, book, settings)),
+            made: Vec::new(alloc),
+        }
+    }
+}

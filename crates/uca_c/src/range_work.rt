@@ -1,0 +1,148 @@
+//! The ends of the ranges of keys that a lookup by a text scans.
+
+ghost use Rattle.std.specs.Prelude.{◌≡◌, ◌≢◌, ◌↔◌, ◌⊎◌, ◌∷◌, [], Some, None, Option, IfOk, OnOk, option_map};
+ghost use Rattle.uca_order.specs.Depths.{ReadText};
+ghost use Rattle.uca_compact.specs.Forms.{AreWeights};
+ghost use Rattle.uca_c.specs.CompactCalls.{IsOneTooSmall, WritesOne};
+ghost use Rattle.uca_c.specs.OpenCollators.{keying_at};
+ghost use Rattle.uca_c.specs.RangeCalls.{letters_in, whole_end, compact_end, end_by, AsksNoEnd, IsEndOf};
+ghost use Rattle.uca_c.specs.Statuses.{IsKeyStatus};
+ghost use Rattle.uca_c.specs.inside.TextKeys.{IsKeyOf, IsTextKey};
+
+use crate::numbers::{End, RangeOf, asked_end, asked_range};
+use crate::open_collator::OpenCollator;
+use crate::statuses::{ARGUMENT, MEMORY, OK, SMALL, status_of_text};
+use crate::work::copy_out;
+use std::alloc::{AllocError, Global};
+use uca_books::Book;
+use uca_lookups::{
+    read_letters, write_compact_letters_range, write_letters_range,
+    write_same_compact_letters_range, write_same_letters_range, write_same_levels_range,
+};
+use uca_weights::{Settings, Weighting};
+
+// Writes both ends of a range of whole keys, by the key of a text and its letters.
+fn whole_range(
+    settings: Settings,
+    range: RangeOf,
+    key: &[u8],
+    letters: &[u16],
+    low: &mut Vec<u8>,
+    high: &mut Vec<u8>,
+) -> Result<(), AllocError>
+    requires text { IsTextKey settings key.now }
+    requires letters { (t : ReadText) → IsKeyOf settings t key.now → letters.now ≡ letters_in settings.weighting t }
+    ensures low { (t : ReadText) → IsKeyOf settings t key.now → OnOk result (low.new.items ≡ whole_end range End.Low settings.weighting t) }
+    ensures high { (t : ReadText) → IsKeyOf settings t key.now → OnOk result (high.new.items ≡ whole_end range End.High settings.weighting t) }
+{
+    match range {
+        RangeOf::SameLetters => write_same_letters_range(letters, low, high),
+        RangeOf::SameAccents => {
+            let found = write_same_levels_range(key, 2, low, high)?;
+            prove!(found);
+            Ok(())
+        }
+        RangeOf::Begins => write_letters_range(letters, low, high),
+    }
+}
+
+// Writes both ends of a range of compact keys, by the letters of a text.
+fn compact_range(
+    book: &Book,
+    weighting: Weighting,
+    range: RangeOf,
+    letters: &[u16],
+    low: &mut Vec<u8>,
+    high: &mut Vec<u8>,
+) -> Result<(), AllocError>
+    requires weights { AreWeights letters.now }
+    requires range { range ≢ RangeOf.SameAccents }
+    ensures low { (t : ReadText) → letters.now ≡ letters_in weighting t → OnOk result (low.new.items ≡ compact_end book.now range End.Low weighting t) }
+    ensures high { (t : ReadText) → letters.now ≡ letters_in weighting t → OnOk result (high.new.items ≡ compact_end book.now range End.High weighting t) }
+{
+    match range {
+        RangeOf::SameLetters => {
+            write_same_compact_letters_range(book, weighting, letters, low, high)
+        }
+        RangeOf::SameAccents => Ok(()),
+        RangeOf::Begins => write_compact_letters_range(book, weighting, letters, low, high),
+    }
+}
+
+// An end of a range, by the key of a text.
+fn end_bytes(
+    alloc: Global,
+    settings: Settings,
+    book: Option<&Book>,
+    key: &[u8],
+    range: RangeOf,
+    end: End,
+) -> Result<Vec<u8>, AllocError>
+    requires text { IsTextKey settings key.now }
+    requires range { book ≢ None → range ≢ RangeOf.SameAccents }
+    ensures { (t : ReadText) → IsKeyOf settings t key.now →
+        IfOk result (λ bytes. bytes.items ≡ end_by (option_map (λ b. b.now) book) range end settings.weighting t) }
+{
+    let mut letters = Vec::new(alloc);
+    let mut low = Vec::new(alloc);
+    let mut high = Vec::new(alloc);
+    let found = read_letters(key, &mut letters)?;
+    prove!(found);
+    match book {
+        None => whole_range(settings, range, key, &letters, &mut low, &mut high)?,
+        Some(book) => {
+            compact_range(
+                book,
+                settings.weighting,
+                range,
+                &letters,
+                &mut low,
+                &mut high,
+            )?
+        }
+    }
+    match end {
+        End::Low => Ok(low),
+        End::High => Ok(high),
+    }
+}
+
+// Writes an end of a range where it has room, and how many bytes it has.
+pub fn write_end(
+    alloc: Global,
+    collator: &mut OpenCollator,
+    text: &[u8],
+    range: u32,
+    end: u32,
+    out: &mut [u8],
+    needed: &mut usize,
+) -> u32
+    ensures argument { (result ≡ ARGUMENT) ↔ AsksNoEnd collator.old.book range end }
+    ensures ok { result ≡ OK → WritesOne (IsEndOf (keying_at collator.old) collator.old.book range end text.now) out.old out.new needed.new }
+    ensures small { result ≡ SMALL → IsOneTooSmall (IsEndOf (keying_at collator.old) collator.old.book range end text.now) out.old needed.new }
+    ensures rejected { result ≢ ARGUMENT → IsKeyStatus (keying_at collator.old).collation.properties text.now result }
+    ensures unwritten { result ≢ OK → out.new ≡ out.old }
+    ensures none { result ≢ OK → result ≢ SMALL → needed.new ≡ 0 }
+    ensures keying { keying_at collator.new ≡ keying_at collator.old }
+    ensures book { collator.new.book ≡ collator.old.book }
+{
+    *needed = 0;
+    let Some(range) = asked_range(collator.compacter.is_some(), range) else {
+        return ARGUMENT;
+    };
+    let Some(end) = asked_end(end) else {
+        return ARGUMENT;
+    };
+    if let Err(fault) = collator.collator.make_key(text) {
+        return status_of_text(fault);
+    }
+    let settings = collator.collator.settings();
+    let book = match &collator.compacter {
+        None => None,
+        Some(compacter) => Some(compacter.book()),
+    };
+    match end_bytes(alloc, settings, book, collator.collator.key(), range, end) {
+        Ok(bytes) => copy_out(&bytes, out, needed),
+        Err(_) => MEMORY,
+    }
+}
