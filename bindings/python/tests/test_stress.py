@@ -28,7 +28,7 @@ class Wanted:
         self.texts, self.book = texts, book
         with uca.Collator(TABLE, DATA, book=book) as alone:
             self.keys = {it: alone.key(it) for it in texts}
-            self.ranges = {it: alone.range(it, 2) for it in texts}
+            self.ranges = {it: alone.range(it) for it in texts}
             self.comparisons = {(left, right): alone.compare(left, right) for left in texts for right in texts}
 
     def is_same(self, collator, chosen):
@@ -36,7 +36,7 @@ class Wanted:
         left, right = chosen.choice(self.texts), chosen.choice(self.texts)
         if self.book and collator.compact(collator.expand(self.keys[right])) != self.keys[right]:
             return False
-        return (collator.key(left), collator.compare(left, right), collator.range(right, 2)) == (self.keys[left], self.comparisons[left, right], self.ranges[right])
+        return (collator.key(left), collator.compare(left, right), collator.range(right)) == (self.keys[left], self.comparisons[left, right], self.ranges[right])
 
 
 SHORT = Wanted(["a", "b", "A", "\u00e1", "a b", "", "ab", "ba"])

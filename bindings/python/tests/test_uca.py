@@ -279,7 +279,7 @@ class CompactKeys(unittest.TestCase):
         self.assertRaises(uca.FileError, uca.Collator, TABLE, DATA, book=b"", fingerprint=kept)
 
 
-#: both ends of ranges: of the keys with the same letters, the same letters and accents, and the same letters at the beginning
+#: both ends of ranges: of the keys with the same letters (1), the same letters and accents (2), and the same letters at the beginning (None)
 WHOLE_RANGES = [
     ("a", 1, "1C47", "1C47 0001"),
     ("\u00c1", 1, "1C47", "1C47 0001"),
@@ -293,8 +293,6 @@ COMPACT_RANGES = [
     ("a", 1, "0A 00", "0A 07"),
     ("\u00c1", 1, "0A 00", "0A 07"),
     ("", 1, "00", "07"),
-    ("a", 2, "0A 01", "0A 06"),
-    ("\u00c1", 2, "0A 06 8B 8F 00", "0A 06 8B 8F 05"),
     ("ab", None, "0A 0C", "0A 0C FF"),
     ("", None, "", "FF"),
 ]
@@ -323,17 +321,13 @@ class Ranges(unittest.TestCase):
 
     def test_texts_that_are_found(self):
         texts = ["", " ", "a", "A", "\u00e1", "\u00c1", "a ", "ab", "Ab", "\u00e1b", "abb", "b", "ba", "\u4e00", "a\u4e00"]
-        for collator, _ in self.collators():
-            for text, found in [
-                (("a", 1), ["a", "A", "\u00e1", "\u00c1", "a "]),
-                (("a", 2), ["a", "A", "a "]),
-                (("\u00c1", 2), ["\u00e1", "\u00c1"]),
-                (("", 1), ["", " "]),
-                (("\u00c1b", 1), ["ab", "Ab", "\u00e1b"]),
-            ]:
-                low, high = collator.range(*text)
+        letters = [("a", ["a", "A", "\u00e1", "\u00c1", "a "]), ("", ["", " "]), ("\u00c1b", ["ab", "Ab", "\u00e1b"])]
+        accents = [("a", ["a", "A", "a "]), ("\u00c1", ["\u00e1", "\u00c1"])]
+        for collator, ranges in self.collators():
+            for text, found, levels in [*((*it, 1) for it in letters), *((*it, 2) for it in accents if ranges is WHOLE_RANGES)]:
+                low, high = collator.range(text, levels)
                 self.assertEqual([it for it in texts if low <= collator.key(it) < high], found)
-                self.assertEqual([it for it in texts if collator.key(it, text[1]) == collator.key(*text)], found)
+                self.assertEqual([it for it in texts if collator.key(it, levels) == collator.key(text, levels)], found)
             for text, found in [("ab", ["ab", "Ab", "\u00e1b", "abb"]), ("b", ["b", "ba"]), ("", texts), ("\u4e00", ["\u4e00"])]:
                 low, high = collator.prefix_range(text)
                 self.assertEqual([it for it in texts if low <= collator.key(it) < high], found)
@@ -346,6 +340,13 @@ class Ranges(unittest.TestCase):
                 for levels in ("1", 1.0, b"1"):
                     self.assertRaises(TypeError, call, "a", levels)
             self.assertRaises(TypeError, collator.range, "a", None)
+
+    def test_two_levels_with_a_book(self):
+        with uca.Collator(TABLE, DATA, book=BOOK) as collator:
+            for call in (collator.key, collator.range):
+                with self.assertRaises(ValueError) as caught:
+                    call("a", 2)
+                self.assertEqual(str(caught.exception), "levels is 1 where there is a book")
 
 
 class Values(unittest.TestCase):
@@ -492,7 +493,7 @@ class Sharing(unittest.TestCase):
 
     def test_calls_between_all_steps_with_a_book(self):
         def made(collator, text):
-            return collator.key(text), collator.range(text, 2), collator.expand(collator.key(text))
+            return collator.key(text), collator.range(text), collator.expand(collator.key(text))
 
         texts = ["\u00e1" * length for length in range(0, 1000, 97)]
         with uca.Collator(TABLE, DATA, book=BOOK) as alone:
