@@ -31,6 +31,23 @@ CREATE FUNCTION uca_key(text) RETURNS bytea AS 'MODULE_PATHNAME', 'uca_key_of_te
 -- The same for rejected texts too: a byte 0 and the key, or a byte 1 and the text. So rejected texts come after all others.
 CREATE FUNCTION uca_any_key(text) RETURNS bytea AS 'MODULE_PATHNAME', 'uca_any_key_of_text' LANGUAGE C IMMUTABLE STRICT PARALLEL SAFE COST 20;
 
+-- The key through 1 or 2 levels. Two are equal exactly if the texts have the same letters, or the same letters and accents. Where the
+-- server has a book, 2 levels are an error, also of the next functions.
+CREATE FUNCTION uca_key(text, levels integer) RETURNS bytea AS 'MODULE_PATHNAME', 'uca_range_low_of_text'
+LANGUAGE C IMMUTABLE STRICT PARALLEL SAFE COST 20;
+
+-- The range of the keys with the same letters, or the same letters and accents: from the low end up to, and without, the high end.
+CREATE FUNCTION uca_range_low(text, levels integer) RETURNS bytea AS 'MODULE_PATHNAME', 'uca_range_low_of_text'
+LANGUAGE C IMMUTABLE STRICT PARALLEL SAFE COST 20;
+CREATE FUNCTION uca_range_high(text, levels integer) RETURNS bytea AS 'MODULE_PATHNAME', 'uca_range_high_of_text'
+LANGUAGE C IMMUTABLE STRICT PARALLEL SAFE COST 20;
+
+-- The range of the keys whose level 1 begins with the letters of the text.
+CREATE FUNCTION uca_prefix_low(text) RETURNS bytea AS 'MODULE_PATHNAME', 'uca_prefix_low_of_text'
+LANGUAGE C IMMUTABLE STRICT PARALLEL SAFE COST 20;
+CREATE FUNCTION uca_prefix_high(text) RETURNS bytea AS 'MODULE_PATHNAME', 'uca_prefix_high_of_text'
+LANGUAGE C IMMUTABLE STRICT PARALLEL SAFE COST 20;
+
 -- The whole key of a compact key, and the compact key of a whole one. Bytes that are none are an error, and so is a server without a book.
 CREATE FUNCTION uca_expand(bytea) RETURNS bytea AS 'MODULE_PATHNAME', 'uca_expand_key' LANGUAGE C IMMUTABLE STRICT PARALLEL SAFE COST 20;
 CREATE FUNCTION uca_compact(bytea) RETURNS bytea AS 'MODULE_PATHNAME', 'uca_compact_key' LANGUAGE C IMMUTABLE STRICT PARALLEL SAFE COST 20;
@@ -39,6 +56,16 @@ CREATE FUNCTION uca_compact(bytea) RETURNS bytea AS 'MODULE_PATHNAME', 'uca_comp
 CREATE FUNCTION uca_key(text, fingerprint text) RETURNS bytea AS 'MODULE_PATHNAME', 'uca_key_by_fingerprint'
 LANGUAGE C IMMUTABLE PARALLEL SAFE COST 20;
 CREATE FUNCTION uca_any_key(text, fingerprint text) RETURNS bytea AS 'MODULE_PATHNAME', 'uca_any_key_by_fingerprint'
+LANGUAGE C IMMUTABLE PARALLEL SAFE COST 20;
+CREATE FUNCTION uca_key(text, fingerprint text, levels integer) RETURNS bytea AS 'MODULE_PATHNAME', 'uca_range_low_by_fingerprint'
+LANGUAGE C IMMUTABLE PARALLEL SAFE COST 20;
+CREATE FUNCTION uca_range_low(text, fingerprint text, levels integer) RETURNS bytea AS 'MODULE_PATHNAME', 'uca_range_low_by_fingerprint'
+LANGUAGE C IMMUTABLE PARALLEL SAFE COST 20;
+CREATE FUNCTION uca_range_high(text, fingerprint text, levels integer) RETURNS bytea AS 'MODULE_PATHNAME', 'uca_range_high_by_fingerprint'
+LANGUAGE C IMMUTABLE PARALLEL SAFE COST 20;
+CREATE FUNCTION uca_prefix_low(text, fingerprint text) RETURNS bytea AS 'MODULE_PATHNAME', 'uca_prefix_low_by_fingerprint'
+LANGUAGE C IMMUTABLE PARALLEL SAFE COST 20;
+CREATE FUNCTION uca_prefix_high(text, fingerprint text) RETURNS bytea AS 'MODULE_PATHNAME', 'uca_prefix_high_by_fingerprint'
 LANGUAGE C IMMUTABLE PARALLEL SAFE COST 20;
 CREATE FUNCTION uca_expand(bytea, fingerprint text) RETURNS bytea AS 'MODULE_PATHNAME', 'uca_expand_by_fingerprint'
 LANGUAGE C IMMUTABLE PARALLEL SAFE COST 20;
@@ -52,7 +79,7 @@ CREATE FUNCTION uca_dependents(OUT kind text, OUT object text, OUT statement tex
 SET search_path = pg_catalog, pg_temp AS $$
     WITH RECURSIVE start AS (
         SELECT oid FROM pg_proc
-        WHERE prosrc ~* '\muca_(key|any_key|expand|compact)\M' AND prosrc !~ '[0-9a-f]{64}'
+        WHERE prosrc ~* '\muca_(key|any_key|range_low|range_high|prefix_low|prefix_high|expand|compact)\M' AND prosrc !~ '[0-9a-f]{64}'
         UNION
         SELECT p.oid FROM pg_extension e JOIN pg_depend d ON d.refclassid = 'pg_extension'::regclass AND d.refobjid = e.oid AND d.deptype = 'e'
             JOIN pg_proc p ON d.classid = 'pg_proc'::regclass AND d.objid = p.oid

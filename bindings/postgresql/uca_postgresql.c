@@ -346,13 +346,24 @@ static bytea *new_value(size_t room)
 }
 
 /* What a value is made of: a text, or a key. */
-typedef enum { KEY, COMPACT_KEY, EXPANDED_KEY } Made;
+typedef enum { KEY, RANGE, COMPACT_KEY, EXPANDED_KEY } Made;
 
-static uint32 try_make(Made asked, const uint8 *bytes, size_t length, uint8 *out, size_t room, size_t *needed)
+/* What is made. The range and its end are those of uca_range. */
+typedef struct {
+    Made made;
+    uint32 range, end;
+} Request;
+
+static const Request WHOLE = {KEY, 0, 0}, PREFIX_LOW = {RANGE, UCA_BEGINS, UCA_LOW}, PREFIX_HIGH = {RANGE, UCA_BEGINS, UCA_HIGH};
+static const Request COMPACT = {COMPACT_KEY, 0, 0}, EXPANDED = {EXPANDED_KEY, 0, 0};
+
+static uint32 try_make(Request asked, const uint8 *bytes, size_t length, uint8 *out, size_t room, size_t *needed)
 {
-    switch (asked) {
+    switch (asked.made) {
     case KEY:
         return uca_key(&collator, bytes, length, out, room, needed);
+    case RANGE:
+        return uca_range(&collator, bytes, length, asked.range, asked.end, out, room, needed);
     case COMPACT_KEY:
         return uca_compact(&collator, bytes, length, out, room, needed);
     case EXPANDED_KEY:
@@ -362,13 +373,13 @@ static uint32 try_make(Made asked, const uint8 *bytes, size_t length, uint8 *out
 }
 
 /* Writes what is asked for after so many bytes of a new value, and returns its status. */
-static uint32 write_value(Made asked, const struct varlena *given, size_t before, bytea **value)
+static uint32 write_value(Request asked, const struct varlena *given, size_t before, bytea **value)
 {
     const uint8 *bytes = (const uint8 *) VARDATA_ANY(given);
     size_t length = VARSIZE_ANY_EXHDR(given), room = Min(6 * length + SPARE, MOST_VALUE - before), needed = 0;
     uint32 status;
 
-    if (length > MOST_TEXT && asked == KEY)
+    if (length > MOST_TEXT && (asked.made == KEY || asked.made == RANGE))
         return UCA_TOO_LONG;
     *value = new_value(before + room);
     status = try_make(asked, bytes, length, (uint8 *) VARDATA(*value) + before, room, &needed);
@@ -384,20 +395,22 @@ static uint32 write_value(Made asked, const struct varlena *given, size_t before
     return status;
 }
 
-static void value_error(Made asked, uint32 status)
+static void value_error(Request asked, uint32 status)
 {
     if (status == UCA_NO_BOOK)
         ereport(ERROR, (errcode(ERRCODE_OBJECT_NOT_IN_PREREQUISITE_STATE), errmsg("uca: the server has no book, so its keys are whole"),
                         errhint("Name a book in uca.book_file, and start the server again.")));
+    if (status == UCA_ARGUMENT)
+        ereport(ERROR, (errcode(ERRCODE_INVALID_PARAMETER_VALUE), errmsg("uca: the server has a book, so the number of levels is 1")));
     if (status == UCA_NO_KEY)
         ereport(ERROR, (errcode(ERRCODE_INVALID_BINARY_REPRESENTATION),
-                        errmsg("uca: the bytes are rejected: %s", asked == EXPANDED_KEY ? "NoCompactKey" : "OtherKey")));
+                        errmsg("uca: the bytes are rejected: %s", asked.made == EXPANDED_KEY ? "NoCompactKey" : "OtherKey")));
     ereport(ERROR, (errcode(ERRCODE_INVALID_TEXT_REPRESENTATION),
                     errmsg("uca: the text is rejected: %s", status == UCA_UTF8 ? "Utf8" : status == UCA_TOO_LONG ? "TooLong" : "LongRun")));
 }
 
 /* What is asked for of the first argument. */
-static Datum value_of(FunctionCallInfo fcinfo, Made asked)
+static Datum value_of(FunctionCallInfo fcinfo, Request asked)
 {
     struct varlena *given = PG_DETOAST_DATUM_PACKED(PG_GETARG_DATUM(0));
     bytea *value;
@@ -415,7 +428,7 @@ static Datum any_key_of(FunctionCallInfo fcinfo)
     size_t length = VARSIZE_ANY_EXHDR(given);
     bytea *value;
 
-    if (write_value(KEY, given, 1, &value) == UCA_OK)
+    if (write_value(WHOLE, given, 1, &value) == UCA_OK)
         *VARDATA(value) = 0;
     else {
         value = new_value(1 + length);
@@ -427,20 +440,45 @@ static Datum any_key_of(FunctionCallInfo fcinfo)
     PG_RETURN_BYTEA_P(value);
 }
 
+/* An end of the range of keys with the first levels of a text. This argument is how many. */
+static Request levels_request(FunctionCallInfo fcinfo, int argument, uint32 end)
+{
+    int32 levels = PG_GETARG_INT32(argument);
+    Request asked = {RANGE, levels == 1 ? UCA_SAME_LETTERS : UCA_SAME_ACCENTS, end};
+
+    if (levels != 1 && levels != 2)
+        ereport(ERROR, (errcode(ERRCODE_INVALID_PARAMETER_VALUE), errmsg("uca: the number of levels is %d, and not 1 or 2", levels)));
+    return asked;
+}
+
 /* By the files of the database. The function is STRICT. */
-static Datum value_by_files(FunctionCallInfo fcinfo, Made asked)
+static Datum value_by_files(FunctionCallInfo fcinfo, Request asked)
 {
     need_files(fcinfo->flinfo->fn_oid);
     return value_of(fcinfo, asked);
 }
 
+static Datum levels_by_files(FunctionCallInfo fcinfo, uint32 end)
+{
+    need_files(fcinfo->flinfo->fn_oid);
+    return value_of(fcinfo, levels_request(fcinfo, 1, end));
+}
+
 /* By the files that the fingerprint names. A fingerprint that is NULL is an error, and another argument that is NULL makes NULL. */
-static Datum value_by_fingerprint(FunctionCallInfo fcinfo, Made asked)
+static Datum value_by_fingerprint(FunctionCallInfo fcinfo, Request asked)
 {
     need_fingerprint(fcinfo);
     if (PG_ARGISNULL(0))
         PG_RETURN_NULL();
     return value_of(fcinfo, asked);
+}
+
+static Datum levels_by_fingerprint(FunctionCallInfo fcinfo, uint32 end)
+{
+    need_fingerprint(fcinfo);
+    if (PG_ARGISNULL(0) || PG_ARGISNULL(2))
+        PG_RETURN_NULL();
+    return value_of(fcinfo, levels_request(fcinfo, 2, end));
 }
 
 #define FUNCTION(name, value)   \
@@ -451,15 +489,29 @@ static Datum value_by_fingerprint(FunctionCallInfo fcinfo, Made asked)
     }
 
 /* uca_key(text) and uca_key(text, fingerprint) return bytea: the sort key. A text that is rejected is an error. */
-FUNCTION(uca_key_of_text, value_by_files(fcinfo, KEY))
-FUNCTION(uca_key_by_fingerprint, value_by_fingerprint(fcinfo, KEY))
+FUNCTION(uca_key_of_text, value_by_files(fcinfo, WHOLE))
+FUNCTION(uca_key_by_fingerprint, value_by_fingerprint(fcinfo, WHOLE))
+
+/* uca_range_low(text, levels) and uca_range_high(text, levels) return bytea: both ends of the keys with as many first levels as the text
+   has. uca_key(text, levels) is the low end. A fingerprint may come before the levels. */
+FUNCTION(uca_range_low_of_text, levels_by_files(fcinfo, UCA_LOW))
+FUNCTION(uca_range_high_of_text, levels_by_files(fcinfo, UCA_HIGH))
+FUNCTION(uca_range_low_by_fingerprint, levels_by_fingerprint(fcinfo, UCA_LOW))
+FUNCTION(uca_range_high_by_fingerprint, levels_by_fingerprint(fcinfo, UCA_HIGH))
+
+/* uca_prefix_low(text) and uca_prefix_high(text) return bytea: both ends of the keys whose level 1 begins with the letters of the text. A
+   fingerprint may come after the text. */
+FUNCTION(uca_prefix_low_of_text, value_by_files(fcinfo, PREFIX_LOW))
+FUNCTION(uca_prefix_high_of_text, value_by_files(fcinfo, PREFIX_HIGH))
+FUNCTION(uca_prefix_low_by_fingerprint, value_by_fingerprint(fcinfo, PREFIX_LOW))
+FUNCTION(uca_prefix_high_by_fingerprint, value_by_fingerprint(fcinfo, PREFIX_HIGH))
 
 /* uca_expand(bytea) returns bytea: the whole key of a compact key. uca_compact(bytea) makes that compact again. A fingerprint may come
    after the key. */
-FUNCTION(uca_expand_key, value_by_files(fcinfo, EXPANDED_KEY))
-FUNCTION(uca_compact_key, value_by_files(fcinfo, COMPACT_KEY))
-FUNCTION(uca_expand_by_fingerprint, value_by_fingerprint(fcinfo, EXPANDED_KEY))
-FUNCTION(uca_compact_by_fingerprint, value_by_fingerprint(fcinfo, COMPACT_KEY))
+FUNCTION(uca_expand_key, value_by_files(fcinfo, EXPANDED))
+FUNCTION(uca_compact_key, value_by_files(fcinfo, COMPACT))
+FUNCTION(uca_expand_by_fingerprint, value_by_fingerprint(fcinfo, EXPANDED))
+FUNCTION(uca_compact_by_fingerprint, value_by_fingerprint(fcinfo, COMPACT))
 
 /* uca_any_key(text) and uca_any_key(text, fingerprint) return bytea: a byte 0 and the sort key, or a byte 1 and the bytes of a text that is
    rejected. */

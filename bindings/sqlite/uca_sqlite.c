@@ -8,9 +8,15 @@
    is as if it were not there. Where a fingerprint is given, the files and settings have to have it. 'unchecked' is none. Say the
    fingerprint is e7f5..:
 
-     uca_key(text, 'e7f5..')     the sort key, a blob; NULL for NULL; an error for a blob and for a text that is rejected
-     uca_expand(key, 'e7f5..')   the whole key of a compact key; uca_compact(key, 'e7f5..') makes that compact again
-     COLLATE uca_e7f5..          the order of uca_order: texts in their order, and after them all that is no text or is rejected, by its bytes
+     uca_key(text, 'e7f5..')                  the sort key, a blob; NULL for NULL; an error for a blob and for a text that is rejected
+     uca_key(text, 'e7f5..', levels)          the key through 1 or 2 levels: of letters, or of letters and accents; 1 with a book
+     uca_range_low(text, 'e7f5..', levels)    where the keys begin whose first levels are those of the text, as many as for uca_key
+     uca_range_high(text, 'e7f5..', levels)   where they end: these keys are from the low end up to, and without, the high end
+     uca_prefix_low(text, 'e7f5..')           where the keys begin whose level 1 begins with the letters of the text
+     uca_prefix_high(text, 'e7f5..')          where they end
+     uca_expand(key, 'e7f5..')                the whole key of a compact key; uca_compact(key, 'e7f5..') makes that compact again
+     COLLATE uca_e7f5..                       the order of uca_order: texts in their order, and after them all that is no text or is
+                                              rejected, by its bytes
 
    Each use says by which files. So an index, a generated column or a CHECK keeps the fingerprint in the schema, and where these
    files are not loaded, it is an error. No name means "the files that are loaded". A connection may load several, and keeps all.
@@ -72,11 +78,12 @@ typedef struct files {
 } files;
 
 /* What a function makes of its first argument. */
-typedef enum made { KEY, COMPACT_KEY, EXPANDED_KEY } made;
+typedef enum made { KEY, RANGE, COMPACT_KEY, EXPANDED_KEY } made;
 
 typedef struct request {
     const char *name; /* of the function */
     made made;
+    uint32_t range, end; /* those of uca_range */
 } request;
 
 static void let_go(void *data)
@@ -218,6 +225,8 @@ static void status_error(sqlite3_context *context, const request *asked, const l
         give_error(context, sqlite3_mprintf("%s: %s", asked->name, asked->made == EXPANDED_KEY ? "NoCompactKey" : "OtherKey"));
     } else if (status == UCA_NO_BOOK) {
         give_error(context, sqlite3_mprintf("%s: the files of fingerprint %s have no book", asked->name, it->fingerprint));
+    } else if (status == UCA_ARGUMENT) {
+        give_error(context, sqlite3_mprintf("%s: the files of fingerprint %s have a book, so the number of levels is 1", asked->name, it->fingerprint));
     } else {
         sqlite3_result_error_nomem(context);
     }
@@ -231,6 +240,7 @@ static uint32_t try_make(loaded *it, const request *asked, const uint8_t *bytes,
     pthread_mutex_lock(&here->lock);
     switch (asked->made) {
     case KEY: status = uca_key(collator, bytes, length, here->key, here->room, needed); break;
+    case RANGE: status = uca_range(collator, bytes, length, asked->range, asked->end, here->key, here->room, needed); break;
     case COMPACT_KEY: status = uca_compact(collator, bytes, length, here->key, here->room, needed); break;
     case EXPANDED_KEY: status = uca_expand(collator, bytes, length, here->key, here->room, needed); break;
     }
@@ -283,22 +293,60 @@ static void make(sqlite3_context *context, sqlite3_value *value, sqlite3_value *
     make_of_bytes(context, it, asked, bytes_at(bytes), length);
 }
 
+/* Returns an end of the range of keys with the first levels of a text. The last value is how many. */
+static void make_levels(sqlite3_context *context, sqlite3_value **values, const char *name, uint32_t end)
+{
+    sqlite3_int64 levels = sqlite3_value_type(values[2]) == SQLITE_INTEGER ? sqlite3_value_int64(values[2]) : 0;
+    if (levels == 1 || levels == 2) {
+        make(context, values[0], values[1], &(request){name, RANGE, levels == 1 ? UCA_SAME_LETTERS : UCA_SAME_ACCENTS, end});
+    } else {
+        give_error(context, sqlite3_mprintf("%s: the third argument is not 1 or 2, as a number of levels is", name));
+    }
+}
+
 static void make_key(sqlite3_context *context, int count, sqlite3_value **values)
 {
+    if (count == 3) {
+        make_levels(context, values, "uca_key", UCA_LOW);
+    } else {
+        make(context, values[0], values[1], &(request){"uca_key", KEY, 0, 0});
+    }
+}
+
+static void make_range_low(sqlite3_context *context, int count, sqlite3_value **values)
+{
     (void)count;
-    make(context, values[0], values[1], &(request){"uca_key", KEY});
+    make_levels(context, values, "uca_range_low", UCA_LOW);
+}
+
+static void make_range_high(sqlite3_context *context, int count, sqlite3_value **values)
+{
+    (void)count;
+    make_levels(context, values, "uca_range_high", UCA_HIGH);
+}
+
+static void make_prefix_low(sqlite3_context *context, int count, sqlite3_value **values)
+{
+    (void)count;
+    make(context, values[0], values[1], &(request){"uca_prefix_low", RANGE, UCA_BEGINS, UCA_LOW});
+}
+
+static void make_prefix_high(sqlite3_context *context, int count, sqlite3_value **values)
+{
+    (void)count;
+    make(context, values[0], values[1], &(request){"uca_prefix_high", RANGE, UCA_BEGINS, UCA_HIGH});
 }
 
 static void make_compact(sqlite3_context *context, int count, sqlite3_value **values)
 {
     (void)count;
-    make(context, values[0], values[1], &(request){"uca_compact", COMPACT_KEY});
+    make(context, values[0], values[1], &(request){"uca_compact", COMPACT_KEY, 0, 0});
 }
 
 static void make_expanded(sqlite3_context *context, int count, sqlite3_value **values)
 {
     (void)count;
-    make(context, values[0], values[1], &(request){"uca_expand", EXPANDED_KEY});
+    make(context, values[0], values[1], &(request){"uca_expand", EXPANDED_KEY, 0, 0});
 }
 
 /* Reads the bytes of an open file of this size, and returns NULL, or why not. There is room for one byte more. */
@@ -519,6 +567,11 @@ static const struct {
     void (*call)(sqlite3_context *context, int count, sqlite3_value **values);
 } FUNCTIONS[] = {
     {"uca_key", 2, KEY_FLAGS, make_key},
+    {"uca_key", 3, KEY_FLAGS, make_key},
+    {"uca_range_low", 3, KEY_FLAGS, make_range_low},
+    {"uca_range_high", 3, KEY_FLAGS, make_range_high},
+    {"uca_prefix_low", 2, KEY_FLAGS, make_prefix_low},
+    {"uca_prefix_high", 2, KEY_FLAGS, make_prefix_high},
     {"uca_compact", 2, KEY_FLAGS, make_compact},
     {"uca_expand", 2, KEY_FLAGS, make_expanded},
     {"uca_load", -1, LOAD_FLAGS, load},

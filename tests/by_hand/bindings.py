@@ -15,7 +15,7 @@ First prove and build the static library: `tools/build.py uca_c`. Then this scri
 - statements, dumps and replication of PostgreSQL with its extension, which is installed to a copy of the server's programs in a temporary folder. Each server
   has a folder of its own, listens on a Unix socket there, and is stopped afterwards;
 - all four over Unicode's table, and over that table tailored for Danish: 100,000 words of nine languages have the keys of `uca keys` and the order of `uca sort`.
-  Compact keys are those of `uca compact`. The sizes of indexes are printed.
+  Compact keys are those of `uca compact`. Ranges of keys find exactly the words that a search through all keys finds. The sizes of indexes are printed.
 
 It needs Debian's packages of NEEDS, and some checks those of WANTS. What needs a command, a program or a file that is not here is not run, and a line says so. The last line is `N passed, M failed`, and how many were not run if there are any.
 """
@@ -49,16 +49,22 @@ SETTINGS = [[], ["non-ignorable"], ["shifted"], ["non-ignorable", "identical"], 
 # Programs over the lines of standard input. The arguments are a table, a data file, a weighting, a depth, a fingerprint and a book; empty ones are none.
 COLLATOR = """
 import sys, uca
-table, data, weighting, depth, fingerprint, book = sys.argv[1:]
+table, data, weighting, depth, fingerprint, book, *texts = sys.argv[1:]
 collator = uca.Collator(table, data, weighting or None, depth == "identical", book=book or None, fingerprint=fingerprint)
 lines = sys.stdin.buffer.read().removesuffix(b"\\n").split(b"\\n")
 """
 SORTER = COLLATOR + """
 sys.stdout.buffer.write(b"".join(it + b"\\n" for it in sorted(lines, key=collator.key)))
 """
-PRINTER = COLLATOR + """
-for it in lines:
-    print(collator.key(it).hex().upper())
+# Prints all keys, and then what lookups by some texts find.
+LOOKER = COLLATOR + """
+keys = [collator.key(it) for it in lines]
+for it in keys:
+    print(it.hex().upper())
+for text in texts:
+    ranges = [collator.prefix_range(text), collator.range(text, levels=1)] + ([] if book else [collator.range(text, levels=2)])
+    for low, high in ranges:
+        print(" ".join(str(number) for number, key in enumerate(keys, 1) if low <= key < high))
 """
 
 
@@ -231,7 +237,7 @@ def python_valgrind(work):
     # Not of leaks and undefined values, since CPython itself has both when it ends.
     words = ["valgrind", "-q", "--error-exitcode=9", "--leak-check=no", "--undef-value-errors=no", "--fair-sched=yes", sys.executable]
     environment = {**python_environment(), "PYTHONMALLOC": "malloc", "UCA_STRESS_SECONDS": "4"}
-    run([*words, "-m", "unittest", "test_uca.Keys", "test_uca.CompactKeys", "test_uca.Values", "test_uca.Sharing", "test_stress"], env=environment, cwd=f"{PYTHON}/tests")
+    run([*words, "-m", "unittest", "test_uca.Keys", "test_uca.CompactKeys", "test_uca.Ranges", "test_uca.Values", "test_uca.Sharing", "test_stress"], env=environment, cwd=f"{PYTHON}/tests")
 
 
 def python_with_wheel():
@@ -433,12 +439,22 @@ THREE = "INSERT INTO words(word) VALUES ('bz'), ('bh'), ('b');"
 IN_ORDER = f"SELECT group_concat(word, ' ') FROM (SELECT word FROM words ORDER BY uca_key(word, '{USED}'));"
 
 
-# Calls without a fingerprint, and what they make by the small book and without one: hexadecimal digits.
+# Calls without a fingerprint, and what they make by the small book and without one: hexadecimal digits. By a book there are no ranges of two levels.
 MADE_BY_BOOK = [
     ("uca_key('')", "03", "000000000000"),
     ("uca_key('a')", "0A03", "1C4700000020000000020000FFFF"),
     ("uca_key('Á')", "0A068B8F04A505", "1C470000002000240000000800020000FFFFFFFF"),
     ("uca_key('b a')", "0C0A02030102", "1C601C470000002000200000000200020000FFFF0209FFFF"),
+    ("uca_key('Á', 1)", "0A00", "1C47"),
+    ("uca_key('Á', 2)", None, "1C47000000200024"),
+    ("uca_range_low('Á', 1)", "0A00", "1C47"),
+    ("uca_range_high('Á', 1)", "0A07", "1C470001"),
+    ("uca_range_low('Á', 2)", None, "1C47000000200024"),
+    ("uca_range_high('Á', 2)", None, "1C470000002000240001"),
+    ("uca_prefix_low('b Á')", "0C0A", "1C601C47"),
+    ("uca_prefix_high('b Á')", "0C0AFF", "1C601C47FFFF"),
+    ("uca_prefix_low('')", "", ""),
+    ("uca_prefix_high('')", "FF", "FFFF"),
 ]
 
 
@@ -447,17 +463,22 @@ def with_fingerprint(call, fingerprint):
     return re.sub(r"^(\w+\((?:CAST\([^()]*\)|[^,()]*))", lambda it: f"{it[1]}, '{fingerprint}'", call)
 
 
-WITH_BOOK = "CREATE TABLE words(word TEXT, key BLOB AS (uca_key(word, '{0}')) STORED, again BLOB AS (uca_expand(key, '{0}')) VIRTUAL);"
+WITH_BOOK = "CREATE TABLE words(word TEXT, key BLOB AS (uca_key(word, '{0}')) STORED, letters BLOB AS (uca_key(word, '{0}', 1)) VIRTUAL);"
+UNIQUE = "CREATE TABLE words(word TEXT); CREATE UNIQUE INDEX i ON words(uca_key(word, '{0}', {1}));"
 
 
 def sqlite_compact(work):
-    """Keys by a book, and whole keys of these."""
+    """Keys by a book, keys through some levels, and ranges."""
     small = small_book(work)
     fingerprint, load = fingerprint_of(TABLE, DATA, book=small), sqlite_load(book=small)
     for call, compact, whole in MADE_BY_BOOK:
-        statement = f"SELECT hex({with_fingerprint(call, fingerprint)}), hex({with_fingerprint(call, USED)});"
-        same(sqlite_says(work, statement, load=load + sqlite_load()), f"{compact}|{whole}\n", call)
-    for _, compact, whole in MADE_BY_BOOK:
+        named, of_whole = (with_fingerprint(call, it) for it in (fingerprint, USED))
+        if compact is None:
+            error = f"{call.partition('(')[0]}: the files of fingerprint {fingerprint} have a book, so the number of levels is 1"
+            sqlite_fails(work, error, f"SELECT {named};", load=load)
+            named = "NULL"
+        same(sqlite_says(work, f"SELECT hex({named}), hex({of_whole});", load=load + sqlite_load()), f"{compact or ''}|{whole}\n", call)
+    for _, compact, whole in MADE_BY_BOOK[:4]:
         statement = f"SELECT hex(uca_expand(x'{compact}', '{fingerprint}')), hex(uca_compact(x'{whole}', '{fingerprint}'));"
         same(sqlite_says(work, statement, load=load), f"{whole}|{compact}\n", statement)
     for name in ("uca_expand", "uca_compact"):
@@ -465,21 +486,38 @@ def sqlite_compact(work):
 
 
 def sqlite_arguments(work):
-    """What the functions make of NULL, of other types and fingerprints, and of bytes that are rejected."""
+    """What the functions make of NULL, of other types, fingerprints and numbers, and of bytes that are rejected."""
     small = small_book(work)
     fingerprint, load = fingerprint_of(TABLE, DATA, book=small), sqlite_load(book=small)
-    for name in ("uca_key", "uca_expand", "uca_compact"):
+    for it in ("uca_key", "uca_key {}, 1", "uca_range_low {}, 1", "uca_range_high {}, 1", "uca_prefix_low", "uca_prefix_high", "uca_expand", "uca_compact"):
+        name, _, more = it.partition(" {}")
         takes_key = name in ("uca_expand", "uca_compact")
-        same(sqlite_says(work, f"SELECT {name}(NULL, '{fingerprint}') IS NULL;", load=load), "1\n", f"{name} of NULL")
+        same(sqlite_says(work, f"SELECT {name}(NULL, '{fingerprint}'{more}) IS NULL;", load=load), "1\n", f"{name} of NULL")
         given, other, error = ("x'0A03'", "'0A03'", "no blob, so it is no key") if takes_key else ("'a'", "x'61'", "a blob, not a text")
-        sqlite_fails(work, f"{name}: the first argument is {error}", f"SELECT {name}({other}, '{fingerprint}');", load=load)
+        sqlite_fails(work, f"{name}: the first argument is {error}", f"SELECT {name}({other}, '{fingerprint}'{more});", load=load)
         not_loaded = f"{name}: the files of fingerprint {OTHER} are not loaded; loaded: {fingerprint}"
         for wrong, error in ((OTHER, not_loaded), ("", f"{name}: the second argument {NO_FINGERPRINT}")):
             for value in (given, "NULL"):
-                sqlite_fails(work, error, f"SELECT {name}({value}, '{wrong}');", load=load)
+                sqlite_fails(work, error, f"SELECT {name}({value}, '{wrong}'{more});", load=load)
+    for name in ("uca_key", "uca_range_low", "uca_range_high"):
+        for levels in ("0", "3", "-1", "NULL", "'1'", "1.0", "4294967297"):
+            sqlite_fails(work, f"{name}: the third argument is not 1 or 2", f"SELECT {name}('a', '{fingerprint}', {levels});", load=load)
     for call, error in (("uca_expand(x'0A')", "NoCompactKey"), ("uca_expand(x'')", "NoCompactKey"), ("uca_compact(x'1C')", "OtherKey"), ("uca_compact(x'')", "OtherKey"),
-                        ("uca_key(CAST(x'FF' AS TEXT))", "Utf8")):
+                        ("uca_prefix_low(CAST(x'FF' AS TEXT))", "Utf8"), ("uca_range_high(CAST(x'FF' AS TEXT), 1)", "Utf8"), ("uca_key(CAST(x'FF' AS TEXT), 1)", "Utf8")):
         sqlite_fails(work, f"{call.partition('(')[0]}: {error}", f"SELECT {with_fingerprint(call, fingerprint)};", load=load)
+
+
+# Texts of an index on keys, and what some ranges have of them, in order.
+LOOKED_THROUGH = "('a'), ('Á'), ('ab'), ('A-'), ('Abc'), ('b'), ('ch')"
+LOOKUPS = [("uca_range_{}('A', 1)", "a A- Á"), ("uca_prefix_{}('Ab')", "ab Abc"), ("uca_prefix_{}('c')", ""), ("uca_prefix_{}('')", "a A- Á ab Abc b ch"),
+           ("uca_range_{}('A', 2)", "a A-")]
+# Texts that go into a unique index on keys through so many levels, and one that does not.
+UNIQUES = [(1, "('a'), ('b'), ('ab')", "('Á')"), (2, "('a'), ('á'), ('b')", "('A')")]
+
+
+def without_book(them, book):
+    """All of them, or all but the last one, which is of two levels, where there is a book."""
+    return them[:-1] if book else them
 
 
 def sqlite_books(work):
@@ -487,7 +525,7 @@ def sqlite_books(work):
     small, load_it = small_book(work), sqlite_load(book=BOOK)
     in_order = IN_ORDER.replace(USED, COMPACT)
     database, restored = f"{work}/book.db", f"{work}/book-restored.db"
-    sqlite_says(work, WITH_BOOK.format(COMPACT), "CREATE INDEX i ON words(key); CREATE INDEX l ON words(again);", THREE, load=load_it, database=database)
+    sqlite_says(work, WITH_BOOK.format(COMPACT), "CREATE INDEX i ON words(key); CREATE INDEX l ON words(letters);", THREE, load=load_it, database=database)
     dump = sqlite_says(work, ".dump", load=load_it, database=database)
     for load, loaded in ((sqlite_load(book=small), fingerprint_of(TABLE, DATA, book=small)), (sqlite_load(), USED)):
         error = f"uca_key: the files of fingerprint {COMPACT} are not loaded; loaded: {loaded}"
@@ -496,6 +534,23 @@ def sqlite_books(work):
         sqlite_fails(work, error, dump, load=load, database=restored)
         os.remove(restored)
     same(sqlite_says(work, dump, in_order, "PRAGMA integrity_check;", load=load_it, database=restored), "b bh bz\nok\n", "a dump of compact keys")
+
+
+def sqlite_lookups(work):
+    """Ranges find texts by an index, and a unique index takes no second text of the same levels, by whole keys and by compact ones."""
+    for book, used in ((None, USED), (BOOK, COMPACT)):
+        load, key = sqlite_load(book=book), f"uca_key(word, '{used}')"
+        for levels, goes_in, error in without_book(UNIQUES, book):
+            made = [UNIQUE.format(used, levels), f"INSERT INTO words VALUES {goes_in};"]
+            sqlite_says(work, *made, load=load)
+            sqlite_fails(work, "UNIQUE constraint failed", *made, f"INSERT INTO words VALUES {error};", load=load)
+        made = [f"CREATE TABLE words(word TEXT); CREATE INDEX i ON words({key});", f"INSERT INTO words VALUES {LOOKED_THROUGH};"]
+        for ends, found in without_book(LOOKUPS, book):
+            low, high = (with_fingerprint(ends.format(it), used) for it in ("low", "high"))
+            query = f"SELECT group_concat(word, ' ') FROM (SELECT word FROM words WHERE {key} >= {low} AND {key} < {high} ORDER BY {key});"
+            same(sqlite_says(work, *made, query, load=load), f"{found}\n", query)
+            if "SEARCH words USING INDEX i (<expr>>? AND <expr><?)" not in sqlite_says(work, *made, f"EXPLAIN QUERY PLAN {query}", load=load):
+                raise AssertionError(f"a query without its index: {query}")
 
 
 NEW_TABLE = f"""
@@ -1066,15 +1121,21 @@ def postgresql_columns(work):
 KEPT_BY_BOOK = """
 CREATE TABLE words(word text, key bytea GENERATED ALWAYS AS (uca_key(word)) STORED);
 INSERT INTO words VALUES ('b'), ('bh'), ('bz'), ('c');
+CREATE UNIQUE INDEX by_letters ON words(uca_key(word, 1));
+CREATE INDEX by_range ON words(uca_range_low(word, 1)) WHERE uca_range_high(word, 1) > '\\x00';
+CREATE INDEX by_prefix ON words(uca_prefix_low(word), uca_prefix_high(word));
 CREATE INDEX by_whole ON words(uca_expand(uca_key(word)));
 CREATE TABLE copies AS SELECT word, uca_key(word) AS key FROM words;
 CREATE TABLE wholes AS SELECT uca_expand(key) AS key FROM words;
 CREATE INDEX by_compact ON wholes(uca_compact(key));
-CREATE FUNCTION whole(text) RETURNS bytea LANGUAGE sql IMMUTABLE AS 'SELECT public.uca_expand(public.uca_key($1))';
-CREATE INDEX by_function ON copies(whole(word));
+CREATE FUNCTION letters(text) RETURNS bytea LANGUAGE sql IMMUTABLE AS 'SELECT public.uca_range_low($1, 1)';
+CREATE INDEX by_function ON copies(letters(word));
 """
 DEPENDENTS_BY_BOOK = """index|public.by_compact
 index|public.by_function
+index|public.by_letters
+index|public.by_prefix
+index|public.by_range
 index|public.by_whole
 generated column|public.words.key
 """
@@ -1082,21 +1143,26 @@ NO_SERVER_BOOK = "ERROR:  uca: the server has no book, so its keys are whole"
 
 
 def postgresql_compact(work):
-    """Keys by a book, and whole keys of these; and whole keys where there is no book."""
+    """Keys by a book, keys through some levels, and ranges; and the same by whole keys."""
     for book in (small_book(work), None):
         with postgresql_server(work, book=book) as (_, says, _):
             fingerprint = fingerprint_of(TABLE, DATA, book=book)
             same(says("SELECT uca_fingerprint(); SELECT fingerprint FROM uca_files;"), f"{fingerprint}\n" * 2, "the fingerprint")
-            statements = [f"SELECT upper(encode({call}, 'hex')), {call} = {with_fingerprint(call, fingerprint)};" for call, _, _ in MADE_BY_BOOK]
-            same(says("".join(statements)), "".join(f"{compact if book else whole}|t\n" for _, compact, whole in MADE_BY_BOOK), f"keys by {book}")
+            made = [(call, compact if book else whole) for call, compact, whole in MADE_BY_BOOK if compact or not book]
+            statements = [f"SELECT upper(encode({call}, 'hex')), {call} = {with_fingerprint(call, fingerprint)};" for call, _ in made]
+            same(says("".join(statements)), "".join(f"{wanted}|t\n" for _, wanted in made), f"keys by {book}")
+            for call in (it[0] for it in MADE_BY_BOOK if it[1] is None and book):
+                for it in (call, with_fingerprint(call, fingerprint)):
+                    same(says(f"SELECT {it};", fails=True), "ERROR:  uca: the server has a book, so the number of levels is 1", it)
             same(says("SELECT uca_any_key('Áb') = '\\x00' || uca_key('Áb');"), "t\n", f"any key by {book}")
             postgresql_expand(says, fingerprint, book)
             postgresql_arguments(says, fingerprint)
+            postgresql_lookups(says, book)
 
 
 def postgresql_expand(says, fingerprint, book):
     """From compact keys to whole ones and back, or an error where the server has no book."""
-    calls = [(f"uca_expand('\\x{compact}')", whole) for _, compact, whole in MADE_BY_BOOK] + [(f"uca_compact('\\x{whole}')", compact) for _, compact, whole in MADE_BY_BOOK]
+    calls = [(f"uca_expand('\\x{compact}')", whole) for _, compact, whole in MADE_BY_BOOK[:4]] + [(f"uca_compact('\\x{whole}')", compact) for _, compact, whole in MADE_BY_BOOK[:4]]
     for call, wanted in calls:
         for it in (call, with_fingerprint(call, fingerprint)):
             if book:
@@ -1108,13 +1174,35 @@ def postgresql_expand(says, fingerprint, book):
 
 
 def postgresql_arguments(says, fingerprint):
-    """What the functions make of NULL and of other fingerprints."""
-    calls = ["uca_key(NULL)", "uca_any_key(NULL)", "uca_expand(NULL)", "uca_compact(NULL)"]
+    """What the functions make of NULL, of other fingerprints and numbers, and of texts that are rejected."""
+    calls = ["uca_key({})", "uca_key({}, 1)", "uca_key('a', NULL::integer)", "uca_range_low({}, 1)", "uca_range_high({}, 1)", "uca_range_low('a', NULL)", "uca_range_high('a', NULL)"]
+    calls = [it.format("NULL") for it in (*calls, "uca_prefix_low({})", "uca_prefix_high({})", "uca_expand({})", "uca_compact({})")]
     named = [with_fingerprint(it, fingerprint) for it in calls]
-    same(says("".join(f"SELECT {it} IS NULL;" for it in calls + named)), "t\n" * 8, "what is made of NULL")
+    same(says("".join(f"SELECT {it} IS NULL;" for it in calls + named)), "t\n" * 22, "what is made of NULL")
     for it in named:
         for wrong, error in ((f"'{OTHER}'", OTHERS_NAMED), ("NULL", "ERROR:  uca: the fingerprint is NULL")):
             same(says(f"SELECT {it.replace(repr(fingerprint), wrong)};", fails=True), error, f"{it} by {wrong}")
+    for call in ("uca_key('a', {})", "uca_range_low('a', {})", "uca_range_high('a', {})"):
+        for levels in (0, 3, -1):
+            for it in (call.format(levels), with_fingerprint(call.format(levels), fingerprint)):
+                same(says(f"SELECT {it};", fails=True), f"ERROR:  uca: the number of levels is {levels}, and not 1 or 2", it)
+    same(says(f"SELECT uca_key({RUN_OF_65}, 1);", fails=True), "ERROR:  uca: the text is rejected: LongRun", "letters of a text that is rejected")
+    same(says(f"SELECT uca_prefix_low({LONG});", fails=True), "ERROR:  uca: the text is rejected: TooLong", "the beginning of a text of 180 MB")
+
+
+def postgresql_lookups(says, book):
+    """Ranges find texts by an index, and a unique index takes no second text of the same levels."""
+    says(f"CREATE TABLE words(word text); CREATE INDEX by_key ON words(uca_key(word)); INSERT INTO words VALUES {LOOKED_THROUGH};")
+    for ends, found in without_book(LOOKUPS, book):
+        where = f"uca_key(word) >= {ends.format('low')} AND uca_key(word) < {ends.format('high')}"
+        same(says(f"SELECT string_agg(word, ' ' ORDER BY uca_key(word)) FROM words WHERE {where};"), f"{found}\n", where)
+        plan = says(f"SET enable_seqscan = off; SET enable_bitmapscan = off; EXPLAIN (costs off) SELECT word FROM words WHERE {where};")
+        if not plan.startswith("Index Scan using by_key on words\n  Index Cond: "):
+            raise AssertionError(f"a query without its index: {where}: {plan}")
+    for levels, goes_in, error in without_book(UNIQUES, book):
+        says(f"CREATE TABLE one{levels}(word text); CREATE UNIQUE INDEX ON one{levels}(uca_key(word, {levels})); INSERT INTO one{levels} VALUES {goes_in};")
+        if "duplicate key value violates unique constraint" not in says(f"INSERT INTO one{levels} VALUES {error};", fails=True):
+            raise AssertionError(f"a second text of the same {levels} levels")
 
 
 def postgresql_books(work):
@@ -1132,7 +1220,8 @@ def postgresql_books(work):
         dump = run([f"{server.programs}/pg_dump", "-h", server.folder, "-U", "postgres", "postgres"])
         same(restored(server, "again", "psql", "-X", given=dump), "", "a restore under the same book")
         same(says("SELECT count(*) FROM words WHERE key = uca_key(word);", database="again"), "4\n", "its keys")
-        uses = ["uca_key('a')", "uca_any_key('a')", "uca_expand('\\x03')", "uca_compact('\\x000000000000')"]
+        uses = ["uca_key('a')", "uca_key('a', 1)", "uca_any_key('a')", "uca_range_low('a', 1)", "uca_range_high('a', 1)", "uca_prefix_low('a')", "uca_prefix_high('a')"]
+        uses += ["uca_expand('\\x03')", "uca_compact('\\x000000000000')"]
         for number, other in enumerate((settings.replace("/book.txt", "/small.book"), re.sub("uca.book_file.*\n", "", settings))):
             server.restart(other)
             for it in uses:
@@ -1144,8 +1233,9 @@ def postgresql_books(work):
                 same(says(f"SELECT {it};", fails=True, database=f"restored{number}"), OTHER_FILES, f"{it} after a restore with another book")
         server.restart(settings.replace("/book.txt", "/small.book"))
         same(says("SELECT uca_use_files();", fails=True), KEYS_ARE_KEPT, "uca_use_files() with another book")
-        same(says("SELECT uca_use_files(again => true);"), "4\n", "statements that were run")
+        same(says("SELECT uca_use_files(again => true);"), "7\n", "statements that were run")
         same(says("SELECT count(*) FROM words WHERE key = uca_key(word); SELECT count(*) FROM copies WHERE key = uca_key(word);"), "4\n0\n", "the keys after them")
+        same(says("SET enable_seqscan = off; SELECT word FROM words WHERE uca_key(word, 1) = uca_key('b-', 1);"), "b\n", "a lookup by letters after them")
         for file, error in (("none", "the file of uca.book_file cannot be read: No such file or directory"), ("", "uca.book_file does not name a regular file"), ("data.txt", "book line 1: Order")):
             server.restart(settings.replace("/book.txt", f"/{file}"))
             same(says("SELECT uca_key('a');", fails=True), f"ERROR:  uca: {error}", f"the book {file}")
@@ -1215,37 +1305,76 @@ def unicode_files(work, program):
     return f"{work}/data.txt", [f"{work}/table.txt", f"{work}/tailored.txt"]
 
 
+def levels_of(key):
+    """Levels 1 and 2 of a key that `uca keys` prints, as digits."""
+    groups = key.split(" ")
+    first = groups.index("0000")
+    second = groups.index("0000", first + 1)
+    return "".join(groups[:first]), "".join(groups[first + 1 : second])
+
+
+def looked_up(program, files, words, keys):
+    """What lookups by some texts have to find, by a search through all keys. Each text has three lists of the numbers of words. These words begin with
+    its letters, have the same letters, or have the same letters and accents."""
+    chosen = random.Random(2)
+    texts = sorted({*(it[: chosen.randint(1, 6)] for it in chosen.sample(words, 60)), *chosen.sample(words, 20), "cafe", "e", "x-y"})
+    its = [levels_of(it) for it in run([program, "keys", *files], input="".join(f"{it}\n" for it in texts).encode()).decode().splitlines()]
+    begin, same_letters, same_accents = ({it: [] for it in kind} for kind in ((it[0] for it in its), (it[0] for it in its), its))
+    for number, (letters, accents) in enumerate(map(levels_of, keys.decode().splitlines()), 1):
+        for length in range(0, len(letters) + 4, 4):
+            if letters[:length] in begin and length <= len(letters):
+                begin[letters[:length]].append(number)
+        if letters in same_letters:
+            same_letters[letters].append(number)
+        if (letters, accents) in same_accents:
+            same_accents[letters, accents].append(number)
+    return [(text, (begin[both[0]], same_letters[both[0]], same_accents[both])) for text, both in zip(texts, its)]
+
+
+def found_lines(lookups, book):
+    """One line for each list of numbers."""
+    return "".join(" ".join(map(str, numbers)) + "\n" for _, lists in lookups for numbers in without_book(lists, book))
+
+
 def over_unicode(program, tried):
     """One of the four over Unicode's table and over a tailored one, with 100,000 words, by whole keys and by compact ones."""
 
     def check(work):
         data, tables = unicode_files(work, program)
-        text = "".join(it + "\n" for it in words(100_000)).encode()
+        its_words = words(100_000)
+        text = "".join(it + "\n" for it in its_words).encode()
         with open(f"{work}/words.txt", "wb") as it:
             it.write(text)
         for table in tables:
             files = ["--weighting", "shifted", table, data]
             keys, order = (run([program, command, *files], input=text) for command in ("keys", "sort"))
+            lookups = looked_up(program, files, its_words, keys)
             for book, its_keys in ((None, keys.replace(b" ", b"")), (BOOK, compacted(program, keys, BOOK))):
-                tried(work, table, data, book, its_keys.decode(), order.decode())
+                tried(work, table, data, book, its_keys.decode(), order.decode(), lookups)
 
     return check
 
 
-def c_words(work, table, data, book, keys, order):
+def c_words(work, table, data, book, keys, order, lookups):
     if not book:
         found = run([f"{C}/out/keys", table, data, "shifted"], input=content(f"{work}/words.txt"))
         same(found.decode().replace(" ", ""), keys, f"keys over {table}")
 
 
-def python_words(work, table, data, book, keys, order):
+def python_words(work, table, data, book, keys, order, lookups):
     arguments = [table, data, "shifted", "weights", fingerprint_of(table, data, book=book), book or ""]
     given = {"input": content(f"{work}/words.txt"), "env": python_environment()}
     same(run([sys.executable, "-c", SORTER, *arguments], **given).decode(), order, f"order over {table} by {book}")
-    same(run([sys.executable, "-c", PRINTER, *arguments], **given).decode(), keys, f"keys over {table} by {book}")
+    found = run([sys.executable, "-c", LOOKER, *arguments, *(text for text, _ in lookups)], **given).decode()
+    same(found, keys + found_lines(lookups, book), f"keys and lookups over {table} by {book}")
 
 
-def sqlite_words(work, table, data, book, keys, order):
+def quoted(text):
+    """The text in a statement of SQL."""
+    return "'" + text.replace("'", "''") + "'"
+
+
+def sqlite_words(work, table, data, book, keys, order, lookups):
     load, fingerprint = sqlite_load(table, data, book=book), fingerprint_of(table, data, book=book)
     key, database = f"uca_key(word, '{fingerprint}')", f"{tempfile.mkdtemp(dir=work)}/words.db"
     made = ["CREATE TABLE words(word TEXT);", ".mode tabs", f".import {work}/words.txt words", ".mode list", f"CREATE INDEX by_key ON words({key});"]
@@ -1253,16 +1382,33 @@ def sqlite_words(work, table, data, book, keys, order):
     for after in (f"{key}, rowid", f"word COLLATE uca_{fingerprint}, rowid"):
         same(sqlite_says(work, f"SELECT word FROM words ORDER BY {after};", load=load, database=database), order, f"order by {after} over {table}")
     same(sqlite_says(work, f"SELECT hex({key}) FROM words ORDER BY rowid;", load=load, database=database), keys, f"keys over {table}")
+    queries = []
+    for text, _ in lookups:
+        for ends in without_book(["uca_prefix_{}({}, '{}')", "uca_range_{}({}, '{}', 1)", "uca_range_{}({}, '{}', 2)"], book):
+            low, high = (ends.format(it, quoted(text), fingerprint) for it in ("low", "high"))
+            queries.append(f"SELECT coalesce(group_concat(n, ' '), '') FROM (SELECT rowid AS n FROM words WHERE {key} >= {low} AND {key} < {high} ORDER BY rowid);")
+    same(sqlite_says(work, "".join(queries), load=load, database=database), found_lines(lookups, book), f"lookups over {table} by {book}")
+    unique = f"CREATE TABLE one(word TEXT); CREATE UNIQUE INDEX by_letters ON one(uca_key(word, '{fingerprint}', 1)); INSERT INTO one VALUES ('Café');"
+    sqlite_fails(work, "UNIQUE constraint failed: index 'by_letters'", unique, "INSERT INTO one VALUES ('CAFÉ');", load=load)
     size = sqlite_says(work, "SELECT sum(pgsize) FROM dbstat WHERE name = 'by_key';", load=load, database=database).strip()
     print(f"SQLite, {os.path.basename(table)}: an index on {'compact' if book else 'whole'} keys of 100,000 words has {size} bytes")
 
 
-def postgresql_words(work, table, data, book, keys, order):
+def postgresql_words(work, table, data, book, keys, order, lookups):
     with postgresql_server(work, table, data, book) as (_, says, _):
         says(f"CREATE TABLE words(id serial, word text); COPY words(word) FROM STDIN;\n{content(f'{work}/words.txt').decode()}\\.\n"
              "CREATE INDEX by_key_and_id ON words(uca_key(word), id); CREATE INDEX by_key ON words(uca_key(word));")
         same(says("SELECT word FROM words ORDER BY uca_key(word), id;"), order, f"order over {table}")
         same(says("SELECT upper(encode(uca_key(word), 'hex')) FROM words ORDER BY id;"), keys, f"keys over {table}")
+        queries = []
+        for text, _ in lookups:
+            for ends in without_book(["uca_prefix_{}({})", "uca_range_{}({}, 1)", "uca_range_{}({}, 2)"], book):
+                low, high = (ends.format(it, quoted(text)) for it in ("low", "high"))
+                queries.append(f"SELECT coalesce(string_agg(id::text, ' ' ORDER BY id), '') FROM words WHERE uca_key(word) >= {low} AND uca_key(word) < {high};")
+        same(says("SET enable_seqscan = off;" + "".join(queries)), found_lines(lookups, book), f"lookups over {table} by {book}")
+        unique = "CREATE TABLE one(word text); CREATE UNIQUE INDEX by_letters ON one(uca_key(word, 1)); INSERT INTO one VALUES ('Café'); INSERT INTO one VALUES ('CAFÉ');"
+        if "duplicate key value violates unique constraint" not in says(unique, fails=True):
+            raise AssertionError(f"CAFÉ beside Café over {table} by {book}")
         size = says("SELECT pg_relation_size('by_key');").strip()
         print(f"PostgreSQL, {os.path.basename(table)}: an index on {'compact' if book else 'whole'} keys of 100,000 words has {size} bytes")
 
@@ -1276,7 +1422,7 @@ def main():
     checks = [("make", make), ("valgrind", valgrind), ("sanitizers", sanitizers), ("header in C++", header), ("exported names", exports),
               ("installation", installed), ("stored run", stored_run), ("docs/BINDINGS.md", page), ("keys", keys_like(program)), ("Python", python), ("Python under valgrind", python_valgrind), ("wheel", wheel), ("sort", sorted_like(program)), ("SQLite", sqlite),
               ("SQLite's loads", sqlite_loads), ("SQLite's files", sqlite_files), ("SQLite's compact keys", sqlite_compact), ("SQLite's arguments", sqlite_arguments),
-              ("SQLite's books", sqlite_books), ("SQLite's schemas", sqlite_schemas), ("SQLite's restores", sqlite_restore),
+              ("SQLite's books", sqlite_books), ("SQLite's lookups", sqlite_lookups), ("SQLite's schemas", sqlite_schemas), ("SQLite's restores", sqlite_restore),
               ("SQLite's attached databases", sqlite_attached), ("SQLite's threads", sqlite_threads), ("SQLite's memory", sqlite_memory), ("SQLite on the page", sqlite_page), ("SQLite's orders", sqlite_like(program)),
               ("PostgreSQL", postgresql), ("PostgreSQL's settings", postgresql_settings), ("PostgreSQL's dumps", postgresql_dumps),
               ("PostgreSQL's replication", postgresql_replication), ("PostgreSQL's changes", postgresql_changes), ("PostgreSQL's roles", postgresql_roles),

@@ -22,20 +22,21 @@ THREADS = 8
 
 
 class Wanted:
-    """The keys and comparisons of some texts, by a collator of its own."""
+    """The keys, ranges and comparisons of some texts, by a collator of its own."""
 
     def __init__(self, texts, book=None):
         self.texts, self.book = texts, book
         with uca.Collator(TABLE, DATA, book=book) as alone:
             self.keys = {it: alone.key(it) for it in texts}
+            self.ranges = {it: alone.range(it) for it in texts}
             self.comparisons = {(left, right): alone.compare(left, right) for left in texts for right in texts}
 
     def is_same(self, collator, chosen):
-        """One key and one comparison of chosen texts, and with a book the whole key of a compact one."""
+        """One key, one comparison and one range of chosen texts, and with a book the whole key of a compact one."""
         left, right = chosen.choice(self.texts), chosen.choice(self.texts)
         if self.book and collator.compact(collator.expand(self.keys[right])) != self.keys[right]:
             return False
-        return collator.key(left) == self.keys[left] and collator.compare(left, right) == self.comparisons[left, right]
+        return (collator.key(left), collator.compare(left, right), collator.range(right)) == (self.keys[left], self.comparisons[left, right], self.ranges[right])
 
 
 SHORT = Wanted(["a", "b", "A", "\u00e1", "a b", "", "ab", "ba"])

@@ -208,9 +208,11 @@ class CompactKeys(unittest.TestCase):
 
     def test_rejected_texts(self):
         for text, kind in [(b"\xff", "Utf8"), ("a" + "\u0301" * 65, "LongRun"), ("a" * 1048577, "TooLong")]:
-            with self.assertRaises(uca.TextError) as caught:
-                self.collator.key(text)
-            self.assertEqual(caught.exception.kind, kind)
+            calls = [lambda: self.collator.key(text), lambda: self.collator.key(text, 1), lambda: self.collator.range(text), lambda: self.collator.prefix_range(text)]
+            for call in calls:
+                with self.assertRaises(uca.TextError) as caught:
+                    call()
+                self.assertEqual(caught.exception.kind, kind)
 
     def test_bytes_that_are_no_keys(self):
         for call, given, kind in [
@@ -238,7 +240,7 @@ class CompactKeys(unittest.TestCase):
 
     def test_closed(self):
         self.collator.close()
-        for call in (self.collator.key, self.collator.expand, self.collator.compact):
+        for call in (self.collator.key, self.collator.range, self.collator.prefix_range, self.collator.expand, self.collator.compact):
             self.assertRaises(uca.ClosedError, call, b"a")
 
     def test_rejected_books(self):
@@ -275,6 +277,76 @@ class CompactKeys(unittest.TestCase):
         self.assertRaises(uca.FingerprintError, uca.Collator, TABLE, DATA, "non-ignorable", book=BOOK, fingerprint=kept)
         self.assertRaises(uca.FingerprintError, uca.Collator, TABLE, DATA, book=BOOK, fingerprint=whole)
         self.assertRaises(uca.FileError, uca.Collator, TABLE, DATA, book=b"", fingerprint=kept)
+
+
+#: both ends of ranges: of the keys with the same letters (1), the same letters and accents (2), and the same letters at the beginning (None)
+WHOLE_RANGES = [
+    ("a", 1, "1C47", "1C47 0001"),
+    ("\u00c1", 1, "1C47", "1C47 0001"),
+    ("", 1, "", "0001"),
+    ("a", 2, "1C47 0000 0020", "1C47 0000 0020 0001"),
+    ("\u00c1", 2, "1C47 0000 0020 0024", "1C47 0000 0020 0024 0001"),
+    ("ab", None, "1C47 1C60", "1C47 1C60 FFFF"),
+    ("", None, "", "FFFF"),
+]
+COMPACT_RANGES = [
+    ("a", 1, "0A 00", "0A 07"),
+    ("\u00c1", 1, "0A 00", "0A 07"),
+    ("", 1, "00", "07"),
+    ("ab", None, "0A 0C", "0A 0C FF"),
+    ("", None, "", "FF"),
+]
+
+
+class Ranges(unittest.TestCase):
+    """Ranges of keys, and keys through some levels."""
+
+    def collators(self):
+        for book, ranges in ((None, WHOLE_RANGES), (BOOK, COMPACT_RANGES)):
+            with uca.Collator(TABLE, DATA, "shifted", book=book) as collator:
+                yield collator, ranges
+
+    def test_values(self):
+        for collator, ranges in self.collators():
+            for text, levels, low, high in ranges:
+                ends = hexadecimal(low), hexadecimal(high)
+                if levels is None:
+                    self.assertEqual(collator.prefix_range(text), ends)
+                else:
+                    self.assertEqual(collator.range(text, levels), ends)
+                    self.assertEqual(collator.range(text, levels=levels).high, ends[1])
+                    self.assertEqual(collator.key(text, levels), ends[0])
+                    self.assertEqual(collator.key(text, levels=levels), ends[0])
+            self.assertEqual(collator.range("a"), collator.range("a", 1))
+
+    def test_texts_that_are_found(self):
+        texts = ["", " ", "a", "A", "\u00e1", "\u00c1", "a ", "ab", "Ab", "\u00e1b", "abb", "b", "ba", "\u4e00", "a\u4e00"]
+        letters = [("a", ["a", "A", "\u00e1", "\u00c1", "a "]), ("", ["", " "]), ("\u00c1b", ["ab", "Ab", "\u00e1b"])]
+        accents = [("a", ["a", "A", "a "]), ("\u00c1", ["\u00e1", "\u00c1"])]
+        for collator, ranges in self.collators():
+            for text, found, levels in [*((*it, 1) for it in letters), *((*it, 2) for it in accents if ranges is WHOLE_RANGES)]:
+                low, high = collator.range(text, levels)
+                self.assertEqual([it for it in texts if low <= collator.key(it) < high], found)
+                self.assertEqual([it for it in texts if collator.key(it, levels) == collator.key(text, levels)], found)
+            for text, found in [("ab", ["ab", "Ab", "\u00e1b", "abb"]), ("b", ["b", "ba"]), ("", texts), ("\u4e00", ["\u4e00"])]:
+                low, high = collator.prefix_range(text)
+                self.assertEqual([it for it in texts if low <= collator.key(it) < high], found)
+
+    def test_other_levels(self):
+        for collator, _ in self.collators():
+            for call in (collator.key, collator.range):
+                for levels in (0, 3, -1, 2**64):
+                    self.assertRaises(ValueError, call, "a", levels)
+                for levels in ("1", 1.0, b"1"):
+                    self.assertRaises(TypeError, call, "a", levels)
+            self.assertRaises(TypeError, collator.range, "a", None)
+
+    def test_two_levels_with_a_book(self):
+        with uca.Collator(TABLE, DATA, book=BOOK) as collator:
+            for call in (collator.key, collator.range):
+                with self.assertRaises(ValueError) as caught:
+                    call("a", 2)
+                self.assertEqual(str(caught.exception), "levels is 1 where there is a book")
 
 
 class Values(unittest.TestCase):
@@ -421,7 +493,7 @@ class Sharing(unittest.TestCase):
 
     def test_calls_between_all_steps_with_a_book(self):
         def made(collator, text):
-            return collator.key(text), collator.expand(collator.key(text))
+            return collator.key(text), collator.range(text), collator.expand(collator.key(text))
 
         texts = ["\u00e1" * length for length in range(0, 1000, 97)]
         with uca.Collator(TABLE, DATA, book=BOOK) as alone:
@@ -765,7 +837,7 @@ class Copies(unittest.TestCase):
     def check_failed(self, collator, error):
         """Each use of a copy that could not be opened raises the error, and another one each time."""
         uses = [lambda: collator.key("a"), lambda: collator.compare("a", "b"), lambda: collator.fingerprint, collator.__getstate__]
-        uses += [lambda: collator.expand(b""), lambda: collator.compact(b"")]
+        uses += [lambda: collator.range("a"), lambda: collator.prefix_range("a"), lambda: collator.expand(b""), lambda: collator.compact(b"")]
         uses += [lambda: pickle.dumps(collator), lambda: copy.copy(collator)]
         raised = []
         for use in uses + uses:
@@ -920,8 +992,8 @@ class Library(unittest.TestCase):
 
     def test_older(self):
         first = ["uca_abi", "uca_version", "uca_collator_size", "uca_open", "uca_key", "uca_compare", "uca_compare_keys", "uca_close"]
-        compact = ["uca_open_compact", "uca_compact_fingerprint", "uca_compact", "uca_expand"]
-        for calls, missing in [(first + compact, "uca_fingerprint"), *((["uca_fingerprint", *first, *compact[:it]], compact[it]) for it in range(4))]:
+        compact = ["uca_open_compact", "uca_compact_fingerprint", "uca_compact", "uca_expand", "uca_range"]
+        for calls, missing in [(first + compact, "uca_fingerprint"), *((["uca_fingerprint", *first, *compact[:it]], compact[it]) for it in range(5))]:
             with self.assertRaises(ImportError) as caught:
                 uca._declare(types.SimpleNamespace(**{it: lambda: None for it in calls}), "/old/libuca.so.1")
             for it in ("/old/libuca.so.1", missing, "older", "install"):

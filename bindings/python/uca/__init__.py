@@ -27,6 +27,7 @@ __all__ = [
     "ClosedError",
     "FileError",
     "FingerprintError",
+    "KeyRange",
     "NoBookError",
     "StoredKeyError",
     "TextError",
@@ -37,13 +38,16 @@ __all__ = [
 
 _ABI = 1
 
-_OK, _CLOSED, _TABLE, _DATA, _MEMORY, _SMALL, _BOOK, _NO_BOOK, _NO_KEY = 0, 1, 4, 5, 6, 10, 11, 12, 13
+_OK, _CLOSED, _ARGUMENT, _TABLE, _DATA, _MEMORY, _SMALL, _BOOK, _NO_BOOK, _NO_KEY = 0, 1, 3, 4, 5, 6, 10, 11, 12, 13
 _ROLES = {_TABLE: "table", _DATA: "data", _BOOK: "book"}
 _TEXT_ERRORS = {7: "Utf8", 8: "TooLong", 9: "LongRun"}
 _STORED_KEY_ERRORS = {"uca_compact": "OtherKey", "uca_expand": "NoCompactKey"}
 _KINDS = ["", "Line", "Order", "CodePoint", "Weight", "DuplicateKey", "Range", "Limit", "Read", "Memory"]
 _WEIGHTINGS = {None: 0, "non-ignorable": 1, "shifted": 2}
 _MEMORY_KIND = 9
+#: the range of keys whose level 1 begins with some letters; that of as many first levels has their number
+_BEGINS = 3
+_LOW, _HIGH = 0, 1
 
 _UNCHECKED = "unchecked"
 
@@ -137,6 +141,15 @@ class Comparison(NamedTuple):
     level: int
 
 
+class KeyRange(NamedTuple):
+    """A range of keys: those from ``low`` up to, and without, ``high``, as bytes compare."""
+
+    #: no key of the range is less
+    low: bytes
+    #: each key of the range is less
+    high: bytes
+
+
 class _Handle(ctypes.Structure):
     _fields_ = [("inside", ctypes.c_void_p), ("is_kept", ctypes.c_bool)]
 
@@ -200,6 +213,7 @@ def _declare(library: ctypes.PyDLL, path: str) -> None:
         "uca_key": ([collator, data, size, *written], number),
         "uca_compact": ([collator, data, size, *written], number),
         "uca_expand": ([collator, data, size, *written], number),
+        "uca_range": ([collator, data, size, number, number, *written], number),
         "uca_compare": ([collator, data, size, data, size, comparison], number),
         "uca_compare_keys": ([data, size, data, size, ctypes.c_uint8, comparison], None),
         "uca_close": ([collator], None),
@@ -232,7 +246,7 @@ def _take_turns(library: ctypes.PyDLL) -> None:
     """
     lock = threading.RLock()
     os.register_at_fork(before=lock.acquire, after_in_parent=lock.release, after_in_child=lock.release)
-    for name in ("uca_open", "uca_open_compact", "uca_key", "uca_compact", "uca_expand", "uca_compare", "uca_close"):
+    for name in ("uca_open", "uca_open_compact", "uca_key", "uca_compact", "uca_expand", "uca_range", "uca_compare", "uca_close"):
         setattr(library, name, _in_turn(getattr(library, name), lock))
 
 
@@ -338,11 +352,20 @@ def _raise(status: int, collator: _Collator, name: str) -> None:
         raise collator.new_error()
     if status == _MEMORY:
         raise MemoryError
+    if status == _ARGUMENT:
+        raise ValueError("levels is 1 where there is a book")
     if status == _NO_BOOK:
         raise NoBookError
     if status == _NO_KEY:
         raise StoredKeyError(_STORED_KEY_ERRORS[name])
     raise TextError(_TEXT_ERRORS[status])
+
+
+def _checked_levels(levels: int) -> int:
+    count = operator.index(levels)
+    if count not in (1, 2):
+        raise ValueError("levels is 1 or 2")
+    return count
 
 
 def compare_keys(left: Bytes, right: Bytes, levels: int) -> Comparison:
@@ -435,24 +458,51 @@ class Collator:
             elif name != "_collator":
                 vars(self)[name] = it
 
-    def _made(self, name: str, given: bytes) -> bytes:
-        """What the call of this name writes for these bytes."""
+    def _made(self, name: str, given: bytes, *numbers: int) -> bytes:
+        """What the call of this name writes for these bytes and numbers."""
         # The room is of this call alone: between any two steps another thread, or a handler of a signal, may make a key.
         call, out, needed = getattr(_library, name), _room_for(len(given)), ctypes.c_size_t()
-        status = call(self._collator, given, len(given), out, len(out), needed)
+        status = call(self._collator, given, len(given), *numbers, out, len(out), needed)
         if status == _SMALL:
             out = ctypes.create_string_buffer(needed.value)
-            status = call(self._collator, given, len(given), out, len(out), needed)
+            status = call(self._collator, given, len(given), *numbers, out, len(out), needed)
         if status != _OK:
             _raise(status, self._collator, name)
         return out[: needed.value]
 
-    def key(self, text: Text) -> bytes:
+    def key(self, text: Text, levels: Optional[int] = None) -> bytes:
         """The sort key of a text, which is compact if there is a book. Keys of one collator compare as bytes as their texts do.
+
+        With ``levels``, 1 or 2, it is the key through so many levels. Two of these are equal exactly if the texts have the same
+        letters (1), or the same letters and accents (2). They compare with each other, and not with other keys. With a book,
+        2 is a ValueError.
 
         Raises :class:`TextError`, :class:`ClosedError` and MemoryError.
         """
-        return self._made("uca_key", _encoded(text))
+        if levels is None:
+            return self._made("uca_key", _encoded(text))
+        return self._made("uca_range", _encoded(text), _checked_levels(levels), _LOW)
+
+    def range(self, text: Text, levels: int = 1) -> KeyRange:
+        """The range that has exactly the keys with the same letters as this text (1), or the same letters and accents (2).
+
+        With a book, 2 is a ValueError.
+
+        Raises :class:`TextError`, :class:`ClosedError` and MemoryError.
+        """
+        return self._ends(_encoded(text), _checked_levels(levels))
+
+    def prefix_range(self, text: Text) -> KeyRange:
+        """The range of the keys whose level 1 begins with the letters of this text.
+
+        Of whole keys, it has none in which the weight FFFF comes after these letters. No table has such a letter as a rule.
+
+        Raises :class:`TextError`, :class:`ClosedError` and MemoryError.
+        """
+        return self._ends(_encoded(text), _BEGINS)
+
+    def _ends(self, encoded: bytes, of: int) -> KeyRange:
+        return KeyRange(self._made("uca_range", encoded, of, _LOW), self._made("uca_range", encoded, of, _HIGH))
 
     def compact(self, key: Bytes) -> bytes:
         """The compact key of a whole key, by the book.
