@@ -15,7 +15,12 @@
      the forked child of a process with threads.
 
    Who owns what: memory that a pointer names stays the caller's. An open collator has memory of its own, which uca_close
-   gives back. uca_open keeps none of the bytes that it reads. */
+   gives back. uca_open and uca_open_compact keep none of the bytes that they read.
+
+   Keys are whole or compact. uca_key makes whole keys (UTS #10, section 7.3) where the collator was opened by uca_open, and
+   compact keys where it was opened by uca_open_compact. A compact key is the same key in fewer bytes, by a book: a small file that
+   says which weights have short codes (docs/FORMATS.md, "Book files"). Compact keys of one book compare as bytes as the whole keys
+   do. Keys of two books do not mix, and compact keys do not mix with whole ones. */
 #ifndef UCA_H
 #define UCA_H
 

@@ -10,10 +10,11 @@ use Rattle.uca_c.proofs.KeyTexts.{compact_by, is_key, key_status_by}
 use Rattle.uca_c.proofs.work.write_key.Goals as goal
 
 pub write_compact_key-requires : goal.write_compact_key-requires
-write_compact_key-requires c =
-    (text_of (keying_in c.collator.inside.collator) c.args.text.now,
-    is_key c.collator.inside.collator c.collator.inside.compacter c.in-Some.compacter c.args.text.now c.key-key.result.now c.in-Some.is c.collator.invariant
-    c.in_default.ensures.accepted.utf8 (c.key-key.ensures ∙ c.in_default.ensures.key))
+write_compact_key-requires c = (
+  text_of (keying_in c.collator.inside.collator) c.args.text.now,
+  is_key c.collator.inside.collator c.collator.inside.compacter c.in-Some.compacter c.args.text.now c.key-key.result.now c.in-Some.is c.collator.invariant
+      c.in_default.ensures.accepted.utf8 (c.key-key.ensures ∙ c.in_default.ensures.key),
+)
 
 pub returns-in-None-clause-ok : goal.returns-in-None-clause-ok
 returns-in-None-clause-ok c is_ok =
