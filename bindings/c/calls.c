@@ -420,58 +420,6 @@ static void check_compact_keys(void)
     uca_close(&it);
 }
 
-/* Both ends of a range by a text. */
-static bool is_range(uca_collator *collator, const uint8_t *text, size_t length, uint32_t range, const char *low, size_t low_length, const char *high,
-                     size_t high_length)
-{
-    uint8_t out[ROOM];
-    size_t needed = 77;
-    memset(out, 0xEE, ROOM);
-    bool small = uca_range(collator, text, length, range, UCA_HIGH, out, high_length - 1, &needed) == UCA_SMALL && needed == high_length && out[0] == 0xEE;
-    bool has_low = uca_range(collator, text, length, range, UCA_LOW, out, ROOM, &needed) == UCA_OK && needed == low_length
-                   && memcmp(out, low, low_length) == 0 && out[needed] == 0xEE;
-    bool has_high = uca_range(collator, text, length, range, UCA_HIGH, out, ROOM, &needed) == UCA_OK && needed == high_length
-                    && memcmp(out, high, high_length) == 0;
-    return small && has_low && has_high;
-}
-
-#define IS_RANGE(collator, text, range, low, high) is_range(collator, BYTES(text), range, low, sizeof(low) - 1, high, sizeof(high) - 1)
-
-static bool has_no_range(uca_collator *collator, const uint8_t *text, size_t length, uint32_t range, uint32_t end, uint32_t status)
-{
-    uint8_t out[ROOM];
-    size_t needed = 77;
-    out[0] = 0xEE;
-    return uca_range(collator, text, length, range, end, out, ROOM, &needed) == status && needed == 0 && out[0] == 0xEE;
-}
-
-static void check_ranges(void)
-{
-    uca_collator it = UCA_CLOSED_COLLATOR;
-    uca_error error;
-    CHECK(has_no_range(&it, BYTES("a"), UCA_SAME_LETTERS, UCA_LOW, UCA_CLOSED));
-    CHECK(opened(&it, TABLE, DATA, UCA_NON_IGNORABLE, UCA_WEIGHTS, &error) == UCA_OK);
-    CHECK(IS_RANGE(&it, "A\xCC\x81", UCA_SAME_LETTERS, "\x1C\x47", "\x1C\x47\0\x01"));
-    CHECK(IS_RANGE(&it, "ab", UCA_SAME_LETTERS, "\x1C\x47\x1C\x60", "\x1C\x47\x1C\x60\0\x01"));
-    CHECK(IS_RANGE(&it, "A\xCC\x81", UCA_SAME_ACCENTS, "\x1C\x47\0\0\0\x20\0\x24", "\x1C\x47\0\0\0\x20\0\x24\0\x01"));
-    CHECK(IS_RANGE(&it, "", UCA_SAME_ACCENTS, "\0\0", "\0\0\0\x01"));
-    CHECK(IS_RANGE(&it, "a", UCA_BEGINS, "\x1C\x47", "\x1C\x47\xFF\xFF"));
-    CHECK(has_no_range(&it, BYTES("a"), 0, UCA_LOW, UCA_ARGUMENT));
-    CHECK(has_no_range(&it, BYTES("a"), 4, UCA_LOW, UCA_ARGUMENT));
-    CHECK(has_no_range(&it, BYTES("\xFF"), UCA_BEGINS, 2, UCA_ARGUMENT));
-    CHECK(has_no_range(&it, BYTES("\xFF"), UCA_BEGINS, UCA_HIGH, UCA_UTF8));
-    uca_close(&it);
-    CHECK(opened_compact(&it, TABLE, DATA, BOOK, UCA_NON_IGNORABLE, UCA_WEIGHTS, &error) == UCA_OK);
-    CHECK(IS_RANGE(&it, "A\xCC\x81", UCA_SAME_LETTERS, "\x08\0", "\x08\x05"));
-    CHECK(IS_RANGE(&it, "", UCA_SAME_LETTERS, "\0", "\x05"));
-    CHECK(IS_RANGE(&it, "ab", UCA_BEGINS, "\x08\x0A", "\x08\x0A\xFF"));
-    CHECK(has_no_range(&it, BYTES("a"), UCA_SAME_ACCENTS, UCA_LOW, UCA_ARGUMENT));
-    uca_close(&it);
-    CHECK(opened_compact(&it, TABLE, DATA, BOOK, UCA_SHIFTED, UCA_IDENTICAL, &error) == UCA_OK);
-    CHECK(IS_RANGE(&it, "a", UCA_SAME_LETTERS, "\x0A\0", "\x0A\x07"));
-    uca_close(&it);
-}
-
 /* What sha256sum prints of the text that uca.h states, with the digits of 00 to 1F and what it prints of BOOK. */
 static const char COMPACT_SUM[] = "5f4e6171f90223e54bbb31bef0780e2412e228c2b70fa64017f173e556674a45";
 
@@ -510,7 +458,6 @@ int main(void)
     check_identical();
     check_open_compact();
     check_compact_keys();
-    check_ranges();
     check_compact_fingerprint();
     printf("%d passed, %d failed\n", passed, failed);
     return failed != 0;

@@ -15,7 +15,12 @@
      the forked child of a process with threads.
 
    Who owns what: memory that a pointer names stays the caller's. An open collator has memory of its own, which uca_close
-   gives back. uca_open keeps none of the bytes that it reads. */
+   gives back. uca_open and uca_open_compact keep none of the bytes that they read.
+
+   Keys are whole or compact. uca_key makes whole keys (UTS #10, section 7.3) where the collator was opened by uca_open, and
+   compact keys where it was opened by uca_open_compact. A compact key is the same key in fewer bytes, by a book: a small file that
+   says which weights have short codes (docs/FORMATS.md, "Book files"). Compact keys of one book compare as bytes as the whole keys
+   do. Keys of two books do not mix, and compact keys do not mix with whole ones. */
 #ifndef UCA_H
 #define UCA_H
 
@@ -60,19 +65,6 @@ typedef enum uca_depth {
     UCA_WEIGHTS = 0,  /* by the levels of weights */
     UCA_IDENTICAL = 1 /* by one more level, that of the code points: only canonically equivalent texts are equal */
 } uca_depth;
-
-/* Which keys a range has. "The same letters" means that level 1 is the same, as for `cafe`, `Cafe` and `café`. */
-typedef enum uca_range_of {
-    UCA_SAME_LETTERS = 1, /* the keys with the letters of the text: level 1 is the same */
-    UCA_SAME_ACCENTS = 2, /* the keys with the letters and the accents of the text: levels 1 and 2 are the same. For whole keys alone */
-    UCA_BEGINS = 3        /* the keys whose level 1 begins with the letters of the text */
-} uca_range_of;
-
-/* An end of a range. */
-typedef enum uca_end {
-    UCA_LOW = 0, /* no key of the range is less than this one */
-    UCA_HIGH = 1 /* all keys of the range are less than this one */
-} uca_end;
 
 /* Why a file is rejected. docs/FORMATS.md says what each kind means. */
 typedef enum uca_kind {
@@ -165,25 +157,6 @@ uint32_t uca_compact(uca_collator *collator, const uint8_t *key, size_t length, 
    UCA_CLOSED, UCA_NO_BOOK, UCA_MEMORY: `*needed` is 0.
    Unless the status is UCA_OK, `out` is as before. */
 uint32_t uca_expand(uca_collator *collator, const uint8_t *compact, size_t length, uint8_t *out, size_t room, size_t *needed);
-
-/* One end of the range of keys that a lookup by this text scans: all keys from the low end up to, and without, the high end.
-   `range` is a uca_range_of, and `end` is a uca_end. The keys are those that uca_key makes with this collator: compact ones where it
-   has a book, else whole ones.
-
-   For example, the range UCA_SAME_LETTERS of `cafe` has the keys of `cafe`, `Cafe` and `café`, and no key of `cafes`. The range
-   UCA_BEGINS of `caf` has all these, and that of `cafes`. Among whole keys, UCA_BEGINS has no key in which the weight FFFF comes
-   after the letters of the text.
-
-   The low end of UCA_SAME_LETTERS or UCA_SAME_ACCENTS can be kept as a key of its own: two texts have the same low end exactly if
-   they have the same letters, or the same letters and accents. So a unique index on it lets no second such text in.
-
-   UCA_OK: the first `*needed` bytes of `out` are the end, and those after them are as before.
-   UCA_SMALL: the end has `*needed` bytes, and `room` is less.
-   UCA_ARGUMENT: the range or the end is none of those, or the range is UCA_SAME_ACCENTS and the collator has a book. `*needed` is 0.
-   UCA_CLOSED, UCA_UTF8, UCA_TOO_LONG, UCA_LONG_RUN, UCA_MEMORY: `*needed` is 0.
-   Unless the status is UCA_OK, `out` is as before. */
-uint32_t uca_range(uca_collator *collator, const uint8_t *text, size_t length, uint32_t range, uint32_t end, uint8_t *out,
-                   size_t room, size_t *needed);
 
 /* Compares two texts without keys. It tells what uca_compare_keys tells of their whole keys. A book changes nothing here.
 

@@ -2,7 +2,6 @@
 use Rattle.std.proofs.Common.{◌≡◌, ◌∙◌, ℕ, List, Bool, true, false, Option, Some, None, option_map, if◌then◌else◌, chars, refl, ap, sym, subst}
 use Rattle.std.specs.Str.{IsUtf8, all_scalars}
 use Rattle.std.proofs.lemmas.Str.{scalars-chars}
-use Rattle.unicode_normalization.specs.Forms.{nfd}
 use Rattle.uca_weights.specs.declared.Settings.{Settings}
 use Rattle.uca_scalars.proofs.NfdScalars.{normal_scalars}
 use Rattle.uca_order.specs.Depths.{ReadText, key_at}

@@ -1,5 +1,5 @@
 -- What calls with a book write.
-use Rattle.std.specs.Prelude.{ℕ, List, Option, Some, None, ⊥}
+use Rattle.std.specs.Prelude.{ℕ, List, Option, Some, None}
 use Rattle.uca_order.specs.Keyings.{Keying}
 use Rattle.uca_books.specs.Books.{BookContent}
 use Rattle.uca_compact.specs.StoredParts.{IsCompactOf, IsOfNoKey}

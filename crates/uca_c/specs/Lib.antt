@@ -2,7 +2,6 @@ pub mod CompactCalls
 pub mod Numbers
 pub mod OpenCollators
 pub mod Opened
-pub mod RangeCalls
 pub mod Results
 pub mod Statuses
 pub mod inside

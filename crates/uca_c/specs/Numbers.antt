@@ -1,15 +1,11 @@
--- The numbers by which C says a weighting, a depth and a range, and gets kinds of errors and orders.
-use Rattle.std.specs.Prelude.{ℕ, ℤ, pos, negsuc, ◌==◌, if◌then◌else◌, Bool, Option, Some, None}
+-- The numbers by which C says a weighting and a depth, and gets kinds of errors and orders.
+use Rattle.std.specs.Prelude.{ℕ, ℤ, pos, negsuc, ◌==◌, if◌then◌else◌, Option, Some, None}
 use Rattle.std.specs.declared.cmp.Ordering.{Ordering}
 use Rattle.std.specs.declared.cmp.Ordering.TheVariants.{Less, Equal, Greater}
 use Rattle.uca_weights.specs.declared.Depth.{Depth}
 use Rattle.uca_weights.specs.declared.Depth.TheVariants.{Weights, Identical}
 use Rattle.uca_weights.specs.declared.Weighting.{Weighting}
 use Rattle.uca_weights.specs.declared.Weighting.TheVariants.{NonIgnorable, Shifted}
-use Rattle.uca_c.specs.declared.numbers.RangeOf.{RangeOf}
-use Rattle.uca_c.specs.declared.numbers.RangeOf.TheVariants.{SameLetters, SameAccents, Begins}
-use Rattle.uca_c.specs.declared.numbers.End.{End}
-use Rattle.uca_c.specs.declared.numbers.End.TheVariants.{Low, High}
 use Rattle.uca_values.specs.declared.faults.FaultKind.{FaultKind}
 use Rattle.uca_values.specs.declared.faults.FaultKind.TheVariants as kinds
 
@@ -19,13 +15,6 @@ weighting_of n = if n == 0 then Some None else if n == 1 then Some (Some NonIgno
 
 abbrev pub depth_of : ℕ → Option Depth
 depth_of n = if n == 0 then Some Weights else if n == 1 then Some Identical else None
-
--- the range that a number asks for; that of the same accents is one of whole keys alone
-abbrev pub range_of : (has_book : Bool) → ℕ → Option RangeOf
-range_of has_book n = if n == 1 then Some SameLetters else if n == 2 then (if has_book then None else Some SameAccents) else if n == 3 then Some Begins else None
-
-abbrev pub end_of : ℕ → Option End
-end_of n = if n == 0 then Some Low else if n == 1 then Some High else None
 
 abbrev pub kind_number : FaultKind → ℕ
 kind_number kinds.Line = 1

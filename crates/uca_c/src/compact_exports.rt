@@ -10,12 +10,10 @@ ghost use Rattle.uca_books.specs.Books.{BookContent};
 ghost use Rattle.uca_books.specs.BookTexts as books;
 ghost use Rattle.uca_c.specs.CompactCalls.{HasCompactKey, IsNoCompactKey, IsOneTooSmall, WritesOne};
 ghost use Rattle.uca_c.specs.OpenCollators.{keying_at};
-ghost use Rattle.uca_c.specs.RangeCalls.{AsksNoEnd, IsEndOf};
-ghost use Rattle.uca_c.specs.Statuses.{IsKeyStatus};
 ghost use Rattle.uca_c.specs.Opened.{Asks, OpensBy, HasBook, IsNoFileError, IsCompactOpenStatus, IsCompactStopStatus};
 
 use crate::slot::{Slot, put, take};
-use crate::statuses::{ALREADY_OPEN, ARGUMENT, CLOSED, MEMORY, NO_BOOK, NO_KEY, OK, SMALL};
+use crate::statuses::{ALREADY_OPEN, CLOSED, MEMORY, NO_BOOK, NO_KEY, OK, SMALL};
 use crate::structs::FileError;
 use crate::{compact_work, opening};
 use std::alloc::Global;
@@ -117,38 +115,6 @@ pub extern "C" fn uca_expand(
     }
     let mut opened = take(alloc, collator);
     let status = compact_work::write_whole(&mut opened, compact, out, needed);
-    put(collator, opened);
-    status
-}
-
-/// Writes an end of the range of keys that a lookup by a text scans at `out`.
-#[unsafe(no_mangle)]
-pub extern "C" fn uca_range(
-    alloc: Global,
-    collator: &mut Slot,
-    text: &[u8],
-    range: u32,
-    end: u32,
-    out: &mut [u8],
-    needed: &mut usize,
-) -> u32
-    ensures closed { (result ≡ CLOSED) ↔ (collator.old.full ≡ false) }
-    ensures argument { collator.old.full ≡ true → (result ≡ ARGUMENT) ↔ AsksNoEnd collator.old.handle.kept.book range end }
-    ensures ok { result ≡ OK → WritesOne (IsEndOf (keying_at collator.old.handle.kept) collator.old.handle.kept.book range end text.now) out.old out.new needed.new }
-    ensures small { result ≡ SMALL → IsOneTooSmall (IsEndOf (keying_at collator.old.handle.kept) collator.old.handle.kept.book range end text.now) out.old needed.new }
-    ensures rejected { collator.old.full ≡ true → result ≢ ARGUMENT → IsKeyStatus (keying_at collator.old.handle.kept).collation.properties text.now result }
-    ensures unwritten { result ≢ OK → out.new ≡ out.old }
-    ensures none { result ≢ OK → result ≢ SMALL → needed.new ≡ 0 }
-    ensures full { collator.new.full ≡ collator.old.full }
-    ensures keying { collator.old.full ≡ true → keying_at collator.new.handle.kept ≡ keying_at collator.old.handle.kept }
-    ensures book { collator.old.full ≡ true → collator.new.handle.kept.book ≡ collator.old.handle.kept.book }
-{
-    if !collator.full {
-        *needed = 0;
-        return CLOSED;
-    }
-    let mut opened = take(alloc, collator);
-    let status = range_work::write_end(alloc, &mut opened, text, range, end, out, needed);
     put(collator, opened);
     status
 }

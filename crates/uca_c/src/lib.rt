@@ -14,7 +14,6 @@ mod numbers;
 mod open_collator;
 mod opening;
 mod parts;
-mod range_work;
 mod slot;
 mod statuses;
 mod structs;

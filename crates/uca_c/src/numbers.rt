@@ -1,31 +1,11 @@
 //! What numbers of a caller mean, and which numbers a caller gets.
 
 ghost use Rattle.std.specs.Prelude.{◌≡◌};
-ghost use Rattle.uca_c.specs.Numbers.{weighting_of, depth_of, range_of, end_of, kind_number, order_number};
+ghost use Rattle.uca_c.specs.Numbers.{weighting_of, depth_of, kind_number, order_number};
 
 use std::cmp::Ordering;
 use uca_values::FaultKind;
 use uca_weights::{Depth, Weighting};
-
-/// Which keys a range has.
-#[derive(Clone, Copy, Debug, PartialEq, Eq)]
-pub enum RangeOf {
-    /// Those whose level 1 is the same.
-    SameLetters,
-    /// Those whose levels 1 and 2 are the same.
-    SameAccents,
-    /// Those whose level 1 begins with the letters.
-    Begins,
-}
-
-/// An end of a range.
-#[derive(Clone, Copy, Debug, PartialEq, Eq)]
-pub enum End {
-    /// The least key of the range is not less than it.
-    Low,
-    /// All keys of the range are less than it.
-    High,
-}
 
 // The weighting that is asked for: 0 asks for none. Other numbers have no meaning.
 pub fn asked_weighting(number: u32) -> Option<Option<Weighting>>
@@ -46,35 +26,6 @@ pub fn asked_depth(number: u32) -> Option<Depth>
     match number {
         0 => Some(Depth::Weights),
         1 => Some(Depth::Identical),
-        _ => None,
-    }
-}
-
-// The range that is asked for. Other numbers have no meaning, and that of the same accents has none where keys are compact.
-pub fn asked_range(has_book: bool, number: u32) -> Option<RangeOf>
-    ensures { result ≡ range_of has_book number }
-{
-    match number {
-        1 => Some(RangeOf::SameLetters),
-        2 => {
-            if has_book {
-                None
-            } else {
-                Some(RangeOf::SameAccents)
-            }
-        }
-        3 => Some(RangeOf::Begins),
-        _ => None,
-    }
-}
-
-// The end that is asked for. Other numbers have no meaning.
-pub fn asked_end(number: u32) -> Option<End>
-    ensures { result ≡ end_of number }
-{
-    match number {
-        0 => Some(End::Low),
-        1 => Some(End::High),
         _ => None,
     }
 }

@@ -4,6 +4,7 @@ ghost use Rattle.std.specs.Prelude.{◌≡◌, ◌≢◌, ◌⊎◌, pos, OnOk};
 ghost use Rattle.uca_order.specs.Depths.{ReadText};
 ghost use Rattle.uca_order.specs.Keyings.{bytes_compared};
 ghost use Rattle.uca_compact.specs.CompactKeys.{compact_key, text_parts};
+ghost use Rattle.uca_owned.specs.Owned.{keying_in};
 ghost use Rattle.uca_c.specs.OpenCollators.{keying_at, key_by};
 ghost use Rattle.uca_c.specs.inside.TextKeys.{IsKeyOf, IsTextKey};
 ghost use Rattle.uca_c.specs.Statuses.{IsKeyStatus, IsCompareStatus};
@@ -15,6 +16,7 @@ use crate::statuses::{MEMORY, OK, SMALL, status_of_text, status_of_texts};
 use crate::structs::Comparison;
 use std::alloc::AllocError;
 use uca_compact::KeyCompacter;
+use uca_owned::OwnedCollator;
 
 // Copies bytes to where they have room, and tells how many they are.
 pub(crate) fn copy_out(bytes: &[u8], out: &mut [u8], needed: &mut usize) -> u32
@@ -48,6 +50,30 @@ fn compact_into(
     Ok(())
 }
 
+// Writes the compact key of the key of a text where it has room, and how many bytes it has.
+fn write_compact_key(
+    compacter: &mut KeyCompacter,
+    key: &[u8],
+    made: &mut Vec<u8>,
+    out: &mut [u8],
+    needed: &mut usize,
+) -> u32
+    requires { IsTextKey compacter.old.settings key.now }
+    ensures same { compacter.new ≡ compacter.old }
+    ensures ok { let settings = compacter.old.settings in (t : ReadText) → IsKeyOf settings t key.now → result ≡ OK →
+        WritesKey (compact_key settings.depth settings.weighting compacter.old.book (text_parts settings.depth settings.weighting t)) out.old out.new needed.new }
+    ensures small { let settings = compacter.old.settings in (t : ReadText) → IsKeyOf settings t key.now → result ≡ SMALL →
+        IsTooSmall (compact_key settings.depth settings.weighting compacter.old.book (text_parts settings.depth settings.weighting t)) out.old needed.new }
+    ensures statuses { (result ≡ OK) ⊎ (result ≡ SMALL) ⊎ (result ≡ MEMORY) }
+    ensures unwritten { result ≢ OK → out.new ≡ out.old }
+    ensures none { result ≢ OK → result ≢ SMALL → needed.new ≡ needed.old }
+{
+    let Ok(()) = compact_into(compacter, key, made) else {
+        return MEMORY;
+    };
+    copy_out(made, out, needed)
+}
+
 // Writes the key of a text where it has room, and how many bytes it has.
 pub fn write_key(
     collator: &mut OpenCollator,
@@ -70,14 +96,36 @@ pub fn write_key(
     let key = collator.collator.key();
     match &mut collator.compacter {
         None => copy_out(key, out, needed),
-        Some(compacter) => match compact_into(compacter, key, &mut collator.made) {
-            Ok(()) => copy_out(&collator.made, out, needed),
-            Err(_) => MEMORY,
-        },
+        Some(compacter) => { write_compact_key(compacter, key, &mut collator.made, out, needed) }
     }
 }
 
 // Compares two texts.
+fn compare_texts(
+    collator: &mut OwnedCollator,
+    left: &[u8],
+    right: &[u8],
+    comparison: &mut Comparison,
+) -> u32
+    ensures ok { result ≡ OK → IsComparison (bytes_compared (keying_in collator.old) left.now right.now) comparison.new.order comparison.new.level }
+    ensures rejected { IsCompareStatus (keying_in collator.old).collation.properties left.now right.now result }
+    ensures none { result ≢ OK → (comparison.new.order ≡ pos 0) × (comparison.new.level ≡ 0) }
+    ensures keying { keying_in collator.new ≡ keying_in collator.old }
+{
+    *comparison = Comparison { order: 0, level: 0 };
+    match collator.compare(left, right) {
+        Ok((order, level)) => {
+            *comparison = Comparison {
+                order: number_of_order(order),
+                level: level.into(),
+            };
+            OK
+        }
+        Err(fault) => status_of_texts(fault),
+    }
+}
+
+// Compares two texts, whatever the book is.
 pub fn compare(
     collator: &mut OpenCollator,
     left: &[u8],
@@ -90,17 +138,7 @@ pub fn compare(
     ensures keying { keying_at collator.new ≡ keying_at collator.old }
     ensures book { collator.new.book ≡ collator.old.book }
 {
-    *comparison = Comparison { order: 0, level: 0 };
-    match collator.collator.compare(left, right) {
-        Ok((order, level)) => {
-            *comparison = Comparison {
-                order: number_of_order(order),
-                level: level.into(),
-            };
-            OK
-        }
-        Err(fault) => status_of_texts(fault),
-    }
+    compare_texts(&mut collator.collator, left, right, comparison)
 }
 
 // Orders two byte strings.

@@ -1,20 +1,77 @@
 -- The text of a line without an error is in Normalization Form D, within the limits, and of Unicode scalar values.
-use Rattle.std.proofs.Common.{◌≡◌, ℕ, ◌≤◌, Bool, true, false, List, [], ◌∷◌, length, chars, Option, Some, None, option_map, nat_lt, nat_le, refl}
-use Rattle.std.proofs.lemmas.Bool.{and_parts, ltb-false}
+use Rattle.std.proofs.Common.{◌≡◌, ℕ, ◌+◌, ◌-◌, ◌/◌, ◌%◌, ◌≤◌, Bool, true, false, List, [], ◌∷◌, length, flat_map, chars, Option, Some, None, option_map, nat_lt, nat_le, refl, sym, subst, inl, inr, arith}
+use Rattle.std.proofs.lemmas.Bool.{cases_Bool, cases_eq, cond-false, and_parts, and_from, ltb-false}
 use Rattle.std.proofs.lemmas.List.{length-map}
 use Rattle.std.proofs.lemmas.Str.{IsUtf8-from_is_utf8, scalars-chars}
 use Rattle.std.specs.Char.{IsScalar}
 use Rattle.std.specs.List.{list_all, AllByRecursion}
 use Rattle.std.specs.Str.{IsUtf8, is_utf8}
-use lib.Utf8.{scalar}
-use Rattle.unicode_normalization.specs.Forms.{nfd}
-use Rattle.uca_scalars.proofs.NfdScalars.{nfd_scalars}
+use lib.Utf8.{scalar, scalars, low_scalar}
+use Rattle.ucd_table.proofs.Computing.{tables}
+use Rattle.ucd_table.proofs.RangedFacts.{values_ok, Stepped-at_values}
+use Rattle.ucd_normal.specs.Decomposition.{or_itself, canonical_decomposition}
+use Rattle.ucd_normal.proofs.DecompositionLemmas.{canonical_decomposition_stepped}
+use Rattle.unicode_normalization.specs.Forms.{nfd, Nfd, normalize, decomposed}
+use Rattle.unicode_normalization.specs.Decompose.{decompose}
+use Rattle.unicode_normalization.specs.Hangul.{is_syllable, decompose_hangul}
+use Rattle.unicode_normalization.proofs.ComposeLemmas.{list_all-append}
+use Rattle.unicode_normalization.proofs.DecomposeLemmas.{decompose-syllable}
+use Rattle.unicode_normalization.proofs.HangulLemmas.{is_syllable-true, decompose_hangul-two, decompose_hangul-three}
+use Rattle.unicode_normalization.proofs.OrderLemmas.{list_all-canonical_order}
 use Rattle.uca_values.specs.Content.{Properties}
 use Rattle.uca_text.specs.Texts.{NfdText, nfd_text}
 use Rattle.uca_text.specs.Limits.{IsNormal}
 use Rattle.uca_run_parts.specs.declared.faults.InputKind.TheVariants.{Utf8, TooLong, LongRun, Limit}
 use Rattle.uca_run_parts.specs.Input.{first_long_run, text_cause, cause_of}
 use Rattle.uca_run_parts.proofs.LongRuns.{none_is_long}
+
+-- the mapping of a code point has only scalar values
+mapped_scalars : (c : ℕ) → list_all scalar (canonical_decomposition c) ≡ true
+unfolding tables values_ok canonical_decomposition_stepped
+mapped_scalars c = Stepped-at_values canonical_decomposition canonical_decomposition_stepped (λ v. list_all scalar v) refl c
+
+-- and so does the decomposition of a Hangul syllable
+syllable_scalars : (c : ℕ) → is_syllable c ≡ true → list_all scalar (decompose_hangul c) ≡ true
+syllable_scalars c h =
+    let range = is_syllable-true c h in
+    let l : scalar (0x1100 + (c - 0xAC00) / 588) ≡ true = low_scalar (0x1100 + (c - 0xAC00) / 588) (omega (arith, range)) in
+    let v : scalar (0x1161 + (c - 0xAC00) % 588 / 28) ≡ true = low_scalar (0x1161 + (c - 0xAC00) % 588 / 28) (omega (arith, range)) in
+    let t : scalar (0x11A7 + (c - 0xAC00) % 28) ≡ true = low_scalar (0x11A7 + (c - 0xAC00) % 28) (omega (arith, range)) in
+    elim (cases_eq ((c - 0xAC00) % 28) 0) [
+      | inl two ↦ subst (λ parts. list_all scalar parts ≡ true) (sym (decompose_hangul-two c two)) (and_from _ _ l (and_from _ _ v refl))
+      | inr three ↦ subst (λ parts. list_all scalar parts ≡ true) (sym (decompose_hangul-three c three)) (and_from _ _ l (and_from _ _ v (and_from _ _ t refl)))
+    ]
+
+-- a code point that has no mapping stays
+or_itself_scalars : (c : ℕ) (parts : List ℕ) → scalar c ≡ true → list_all scalar parts ≡ true → list_all scalar (or_itself c parts) ≡ true
+or_itself_scalars c [] own all = and_from _ _ own refl
+or_itself_scalars c (part ∷ parts) own all = all
+
+-- what is no syllable decomposes by the table
+decompose-mapping : (c : ℕ) → is_syllable c ≡ false → decompose Nfd c ≡ or_itself c (canonical_decomposition c)
+unfolding decompose
+decompose-mapping c other = cond-false _ _ _ other
+
+-- what a scalar value decomposes to
+decomposed_scalars : (c : ℕ) → scalar c ≡ true → list_all scalar (decompose Nfd c) ≡ true
+decomposed_scalars c own =
+    elim (cases_Bool (is_syllable c)) [
+      | inl syllable ↦ subst (λ parts. list_all scalar parts ≡ true) (sym (decompose-syllable Nfd c syllable)) (syllable_scalars c syllable)
+      | inr other ↦
+          subst (λ parts. list_all scalar parts ≡ true) (sym (decompose-mapping c other)) (or_itself_scalars c (canonical_decomposition c) own (mapped_scalars c))
+    ]
+
+-- and so each of several
+flat_scalars : (points : List ℕ) → scalars points ≡ true → list_all scalar (flat_map (decompose Nfd) points) ≡ true
+flat_scalars [] all = refl
+flat_scalars (c ∷ points) all =
+    let parts = and_parts (scalar c) (scalars points) all in
+    list_all-append scalar (decompose Nfd c) (flat_map (decompose Nfd) points) (decomposed_scalars c parts.0) (flat_scalars points parts.1)
+
+-- the code points of Normalization Form D are in canonical order
+nfd_scalars : (points : List ℕ) → scalars points ≡ true → list_all scalar (nfd points) ≡ true
+unfolding normalize decomposed
+nfd_scalars points all = list_all-canonical_order scalar (flat_map (decompose Nfd) points) (flat_scalars points all)
 
 each_scalar : (points : List ℕ) → list_all scalar points ≡ true → AllByRecursion IsScalar points
 each_scalar [] all = tt

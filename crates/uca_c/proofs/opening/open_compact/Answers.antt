@@ -1,0 +1,21 @@
+-- What is kept is what was opened, with the book that was read.
+use Rattle.std.proofs.Common.{◌≡◌, ◌∙◌, Some, ap, inl}
+use Rattle.uca_order.specs.Keyings.{keying}
+use Rattle.uca_c.specs.OpenCollators.{OpenState, keying_at}
+use Rattle.uca_c.specs.Opened.{IsCompactStopStatus}
+use Rattle.uca_c.proofs.Keeping.{kept_by}
+use Rattle.uca_c.proofs.opening.open_compact.Goals as goal
+
+pub returns-in-Err-clause-only : goal.returns-in-Err-clause-only
+returns-in-Err-clause-only c asked at meant properties content asks means = inl (c.in-Err.ensures.only asked at meant properties asks)
+
+pub returns-in-Ok-book_of-clause-only : goal.returns-in-Ok-book_of-clause-only
+returns-in-Ok-book_of-clause-only c asked at meant properties content asks means =
+    kept_by c.keep.result (λ kept. kept.value ≡ c.with_book.result)
+    (λ kept. (keying_at kept.value ≡ keying asked at meant properties) × (kept.value.book ≡ Some content))
+    (λ status. IsCompactStopStatus status c.open_texts.new.error.kind) c.keep.ensures
+    (λ kept same. (
+      ap keying_at (same ∙ c.with_book.ensures) ∙ c.in-Ok.ensures.only asked at meant properties asks,
+      ap (λ (s : OpenState). s.book) (same ∙ c.with_book.ensures) ∙ ap Some (c.in-Ok-book_of.ensures.only content means),
+    ))
+    (λ status is. inl (inl is))
