@@ -24,29 +24,66 @@ INSERT INTO uca_files SELECT 'unknown, since columns of type bytea were here bef
     SELECT FROM pg_attribute a JOIN pg_class c ON c.oid = a.attrelid JOIN holds ON type = a.atttypid
     WHERE c.oid >= 16384 AND c.relkind IN ('r', 'p', 'm', 'f') AND a.attnum > 0 AND NOT a.attisdropped);
 
--- the sort key of a text, whose byte order is the order of texts; a text that is rejected is an error
+-- The sort key of a text, whose byte order is the order of texts. It is compact where the server has a book. A text that is rejected is an
+-- error.
 CREATE FUNCTION uca_key(text) RETURNS bytea AS 'MODULE_PATHNAME', 'uca_key_of_text' LANGUAGE C IMMUTABLE STRICT PARALLEL SAFE COST 20;
 
 -- The same for rejected texts too: a byte 0 and the key, or a byte 1 and the text. So rejected texts come after all others.
 CREATE FUNCTION uca_any_key(text) RETURNS bytea AS 'MODULE_PATHNAME', 'uca_any_key_of_text' LANGUAGE C IMMUTABLE STRICT PARALLEL SAFE COST 20;
 
--- The same keys by the files and settings of a fingerprint. The call is an error where the server has others, whatever uca_files has.
+-- The key through 1 or 2 levels. Two are equal exactly if the texts have the same letters, or the same letters and accents. Where the
+-- server has a book, 2 levels are an error, also of the next functions.
+CREATE FUNCTION uca_key(text, levels integer) RETURNS bytea AS 'MODULE_PATHNAME', 'uca_range_low_of_text'
+LANGUAGE C IMMUTABLE STRICT PARALLEL SAFE COST 20;
+
+-- The range of the keys with the same letters, or the same letters and accents: from the low end up to, and without, the high end.
+CREATE FUNCTION uca_range_low(text, levels integer) RETURNS bytea AS 'MODULE_PATHNAME', 'uca_range_low_of_text'
+LANGUAGE C IMMUTABLE STRICT PARALLEL SAFE COST 20;
+CREATE FUNCTION uca_range_high(text, levels integer) RETURNS bytea AS 'MODULE_PATHNAME', 'uca_range_high_of_text'
+LANGUAGE C IMMUTABLE STRICT PARALLEL SAFE COST 20;
+
+-- The range of the keys whose level 1 begins with the letters of the text.
+CREATE FUNCTION uca_prefix_low(text) RETURNS bytea AS 'MODULE_PATHNAME', 'uca_prefix_low_of_text'
+LANGUAGE C IMMUTABLE STRICT PARALLEL SAFE COST 20;
+CREATE FUNCTION uca_prefix_high(text) RETURNS bytea AS 'MODULE_PATHNAME', 'uca_prefix_high_of_text'
+LANGUAGE C IMMUTABLE STRICT PARALLEL SAFE COST 20;
+
+-- The whole key of a compact key, and the compact key of a whole one. Bytes that are none are an error, and so is a server without a book.
+CREATE FUNCTION uca_expand(bytea) RETURNS bytea AS 'MODULE_PATHNAME', 'uca_expand_key' LANGUAGE C IMMUTABLE STRICT PARALLEL SAFE COST 20;
+CREATE FUNCTION uca_compact(bytea) RETURNS bytea AS 'MODULE_PATHNAME', 'uca_compact_key' LANGUAGE C IMMUTABLE STRICT PARALLEL SAFE COST 20;
+
+-- The same by the files and settings of a fingerprint. The call is an error where the server has others, whatever uca_files has.
 CREATE FUNCTION uca_key(text, fingerprint text) RETURNS bytea AS 'MODULE_PATHNAME', 'uca_key_by_fingerprint'
 LANGUAGE C IMMUTABLE PARALLEL SAFE COST 20;
 CREATE FUNCTION uca_any_key(text, fingerprint text) RETURNS bytea AS 'MODULE_PATHNAME', 'uca_any_key_by_fingerprint'
 LANGUAGE C IMMUTABLE PARALLEL SAFE COST 20;
+CREATE FUNCTION uca_key(text, fingerprint text, levels integer) RETURNS bytea AS 'MODULE_PATHNAME', 'uca_range_low_by_fingerprint'
+LANGUAGE C IMMUTABLE PARALLEL SAFE COST 20;
+CREATE FUNCTION uca_range_low(text, fingerprint text, levels integer) RETURNS bytea AS 'MODULE_PATHNAME', 'uca_range_low_by_fingerprint'
+LANGUAGE C IMMUTABLE PARALLEL SAFE COST 20;
+CREATE FUNCTION uca_range_high(text, fingerprint text, levels integer) RETURNS bytea AS 'MODULE_PATHNAME', 'uca_range_high_by_fingerprint'
+LANGUAGE C IMMUTABLE PARALLEL SAFE COST 20;
+CREATE FUNCTION uca_prefix_low(text, fingerprint text) RETURNS bytea AS 'MODULE_PATHNAME', 'uca_prefix_low_by_fingerprint'
+LANGUAGE C IMMUTABLE PARALLEL SAFE COST 20;
+CREATE FUNCTION uca_prefix_high(text, fingerprint text) RETURNS bytea AS 'MODULE_PATHNAME', 'uca_prefix_high_by_fingerprint'
+LANGUAGE C IMMUTABLE PARALLEL SAFE COST 20;
+CREATE FUNCTION uca_expand(bytea, fingerprint text) RETURNS bytea AS 'MODULE_PATHNAME', 'uca_expand_by_fingerprint'
+LANGUAGE C IMMUTABLE PARALLEL SAFE COST 20;
+CREATE FUNCTION uca_compact(bytea, fingerprint text) RETURNS bytea AS 'MODULE_PATHNAME', 'uca_compact_by_fingerprint'
+LANGUAGE C IMMUTABLE PARALLEL SAFE COST 20;
 
--- What keeps keys of uca_key(text) and uca_any_key(text), or depends on them, the statement that makes it again, and who owns it. The
--- order is that in which the statements run. Where it is NULL, no one statement does it. It finds objects that depend on these functions,
--- and on functions whose text names them without a fingerprint.
+-- What keeps keys of functions that name no files, or depends on these, the statement that makes it again, and who owns it. The order is
+-- that in which the statements run. Where it is NULL, no one statement does it. It finds objects that depend on these functions, and on
+-- functions whose text names them without a fingerprint.
 CREATE FUNCTION uca_dependents(OUT kind text, OUT object text, OUT statement text, OUT owner regrole) RETURNS SETOF record LANGUAGE sql STABLE
 SET search_path = pg_catalog, pg_temp AS $$
     WITH RECURSIVE start AS (
-        SELECT oid FROM pg_proc WHERE prosrc ~* '\m(uca_key|uca_any_key)\M' AND prosrc !~ '[0-9a-f]{64}'
+        SELECT oid FROM pg_proc
+        WHERE prosrc ~* '\muca_(key|any_key|range_low|range_high|prefix_low|prefix_high|expand|compact)\M' AND prosrc !~ '[0-9a-f]{64}'
         UNION
         SELECT p.oid FROM pg_extension e JOIN pg_depend d ON d.refclassid = 'pg_extension'::regclass AND d.refobjid = e.oid AND d.deptype = 'e'
             JOIN pg_proc p ON d.classid = 'pg_proc'::regclass AND d.objid = p.oid
-        WHERE e.extname = 'uca' AND p.proname IN ('uca_key', 'uca_any_key') AND p.pronargs = 1
+        WHERE e.extname = 'uca' AND p.provolatile = 'i' AND 'fingerprint' <> ALL (coalesce(p.proargnames, '{}'))
     ), found(class, object, part, depth) AS (
         SELECT 'pg_proc'::regclass::oid, oid, 0, 0 FROM start
         UNION

@@ -1,6 +1,7 @@
-/* The extension of PostgreSQL: sort keys of texts, by the files that the settings uca.table_file and uca.data_file name.
+/* The extension of PostgreSQL: sort keys of texts, by the files that the settings uca.table_file and uca.data_file name. Where
+   uca.book_file names a book, keys are compact by it.
 
-   The server reads both files once, when it starts, so no setting and no file changes an order while it runs. But keys that a
+   The server reads these files once, when it starts, so no setting and no file changes an order while it runs. But keys that a
    database keeps may come from an earlier start or from another server. So uca_key(text) compares the fingerprints in the
    database's table uca_files with the server's, and uca_key(text, fingerprint) compares the fingerprint that it is given. Where
    one is not the server's, the call is an error. */
@@ -46,15 +47,18 @@ void _PG_init(void);
 /* Room for the keys of most texts: so many bytes, and six for each byte of a text. */
 #define SPARE 64
 
+/* The bytes that a bytea can have. */
+#define MOST_VALUE (MaxAllocSize - VARHDRSZ)
+
 /* A text with more bytes has more than 1,048,576 code points, since each has four at most. So it is too long. */
 #define MOST_TEXT (4 * 1048576)
 
-/* A table or a data file with more bytes is rejected. */
+/* A table, a data file or a book with more bytes is rejected. */
 #define MOST_FILE (64 * 1024 * 1024)
 
 #define DIGEST 32
 
-static char *table_name, *data_name;
+static char *table_name, *data_name, *book_name;
 static int weighting = UCA_BY_TABLE;
 static bool identical = false;
 
@@ -126,20 +130,33 @@ static bool read_file(const char *setting, const char *name, StringInfo bytes)
     return is_read;
 }
 
-/* Opens the collator by the files, or says why not. */
-static void open_files(StringInfo table, StringInfo data)
+/* Makes the fingerprint of the files and settings. A book that is NULL is none. */
+static uint32 make_fingerprint(StringInfo table, StringInfo data, StringInfo book, uint32 depth, uca_error *error)
+{
+    uint8 whole[DIGEST], compact[DIGEST];
+    uint32 status = uca_fingerprint((uint8 *) table->data, table->len, (uint8 *) data->data, data->len, weighting, depth, whole, error);
+
+    if (status == UCA_OK && book)
+        uca_compact_fingerprint(whole, (uint8 *) book->data, book->len, compact);
+    if (status == UCA_OK)
+        hex_encode((char *) (book ? compact : whole), DIGEST, fingerprint);
+    return status;
+}
+
+/* Opens the collator by the files, or says why not. A book that is NULL is none. */
+static void open_files(StringInfo table, StringInfo data, StringInfo book)
 {
     uint32 depth = identical ? UCA_IDENTICAL : UCA_WEIGHTS, status;
-    uint8 digest[DIGEST];
     uca_error error = {0, 0};
 
-    status = uca_fingerprint((uint8 *) table->data, table->len, (uint8 *) data->data, data->len, weighting, depth, digest, &error);
-    if (status == UCA_OK) {
-        hex_encode((char *) digest, sizeof digest, fingerprint);
+    status = make_fingerprint(table, data, book, depth, &error);
+    if (status == UCA_OK && book)
+        status = uca_open_compact(&collator, (uint8 *) table->data, table->len, (uint8 *) data->data, data->len, (uint8 *) book->data, book->len,
+                                  weighting, depth, &error);
+    else if (status == UCA_OK)
         status = uca_open(&collator, (uint8 *) table->data, table->len, (uint8 *) data->data, data->len, weighting, depth, &error);
-    }
-    if (status == UCA_TABLE || status == UCA_DATA)
-        snprintf(reason, sizeof reason, "uca: %s line %u: %s", status == UCA_TABLE ? "table" : "data", error.line,
+    if (status == UCA_TABLE || status == UCA_DATA || status == UCA_BOOK)
+        snprintf(reason, sizeof reason, "uca: %s line %u: %s", status == UCA_TABLE ? "table" : status == UCA_DATA ? "data" : "book", error.line,
                  error.kind < lengthof(KINDS) ? KINDS[error.kind] : "");
     else if (status != UCA_OK)
         strlcpy(reason, "uca: out of memory", sizeof reason);
@@ -147,14 +164,18 @@ static void open_files(StringInfo table, StringInfo data)
 
 static void read_files(void)
 {
-    StringInfoData table, data;
+    StringInfoData table, data, book;
+    bool has_book = *book_name;
 
     initStringInfo(&table);
     initStringInfo(&data);
-    if (read_file("uca.table_file", table_name, &table) && read_file("uca.data_file", data_name, &data))
-        open_files(&table, &data);
+    initStringInfo(&book);
+    if (read_file("uca.table_file", table_name, &table) && read_file("uca.data_file", data_name, &data) &&
+        (!has_book || read_file("uca.book_file", book_name, &book)))
+        open_files(&table, &data, has_book ? &book : NULL);
     pfree(table.data);
     pfree(data.data);
+    pfree(book.data);
 }
 
 static void define_settings(void)
@@ -162,6 +183,8 @@ static void define_settings(void)
     DefineCustomStringVariable("uca.table_file", "The weight table, in the format of allkeys.txt.", NULL, &table_name, "",
                                PGC_POSTMASTER, GUC_SUPERUSER_ONLY, NULL, NULL, NULL);
     DefineCustomStringVariable("uca.data_file", "The data file: combining classes and Han ranges.", NULL, &data_name, "",
+                               PGC_POSTMASTER, GUC_SUPERUSER_ONLY, NULL, NULL, NULL);
+    DefineCustomStringVariable("uca.book_file", "The book, by which keys are compact. Keys are whole without one.", NULL, &book_name, "",
                                PGC_POSTMASTER, GUC_SUPERUSER_ONLY, NULL, NULL, NULL);
     DefineCustomEnumVariable("uca.weighting", "How spaces and punctuation are weighted.", NULL, &weighting, UCA_BY_TABLE, WEIGHTINGS,
                              PGC_POSTMASTER, 0, NULL, NULL, NULL);
@@ -181,7 +204,7 @@ void _PG_init(void)
     MarkGUCPrefixReserved("uca");
     if (has_old_names)
         strlcpy(reason, "uca: the settings uca.table and uca.data are now uca.table_file and uca.data_file", sizeof reason);
-    else if (*table_name || *data_name)
+    else if (*table_name || *data_name || *book_name)
         read_files();
     else
         return;
@@ -301,7 +324,7 @@ static void need_files(Oid function)
     checked = seen;
 }
 
-/* The second argument has to be the server's fingerprint. */
+/* The second argument, a text, has to be the server's fingerprint. */
 static void need_fingerprint(FunctionCallInfo fcinfo)
 {
     need_open();
@@ -317,27 +340,54 @@ static void need_fingerprint(FunctionCallInfo fcinfo)
 /* A value with room for so many bytes. */
 static bytea *new_value(size_t room)
 {
-    if (room > MaxAllocSize - VARHDRSZ)
+    if (room > MOST_VALUE)
         ereport(ERROR, (errcode(ERRCODE_PROGRAM_LIMIT_EXCEEDED), errmsg("uca: the key has more bytes than a bytea can have")));
     return palloc(VARHDRSZ + room);
 }
 
-/* Writes the key of a text after so many bytes of a new value, and returns its status. */
-static uint32 write_key(const text *given, size_t before, bytea **value)
+/* What a value is made of: a text, or a key. */
+typedef enum { KEY, RANGE, COMPACT_KEY, EXPANDED_KEY } Made;
+
+/* What is made. The range and its end are those of uca_range. */
+typedef struct {
+    Made made;
+    uint32 range, end;
+} Request;
+
+static const Request WHOLE = {KEY, 0, 0}, PREFIX_LOW = {RANGE, UCA_BEGINS, UCA_LOW}, PREFIX_HIGH = {RANGE, UCA_BEGINS, UCA_HIGH};
+static const Request COMPACT = {COMPACT_KEY, 0, 0}, EXPANDED = {EXPANDED_KEY, 0, 0};
+
+static uint32 try_make(Request asked, const uint8 *bytes, size_t length, uint8 *out, size_t room, size_t *needed)
+{
+    switch (asked.made) {
+    case KEY:
+        return uca_key(&collator, bytes, length, out, room, needed);
+    case RANGE:
+        return uca_range(&collator, bytes, length, asked.range, asked.end, out, room, needed);
+    case COMPACT_KEY:
+        return uca_compact(&collator, bytes, length, out, room, needed);
+    case EXPANDED_KEY:
+        return uca_expand(&collator, bytes, length, out, room, needed);
+    }
+    return UCA_ARGUMENT;
+}
+
+/* Writes what is asked for after so many bytes of a new value, and returns its status. */
+static uint32 write_value(Request asked, const struct varlena *given, size_t before, bytea **value)
 {
     const uint8 *bytes = (const uint8 *) VARDATA_ANY(given);
-    size_t length = VARSIZE_ANY_EXHDR(given), room = 6 * length + SPARE, needed = 0;
+    size_t length = VARSIZE_ANY_EXHDR(given), room = Min(6 * length + SPARE, MOST_VALUE - before), needed = 0;
     uint32 status;
 
-    if (length > MOST_TEXT)
+    if (length > MOST_TEXT && (asked.made == KEY || asked.made == RANGE))
         return UCA_TOO_LONG;
     *value = new_value(before + room);
-    status = uca_key(&collator, bytes, length, (uint8 *) VARDATA(*value) + before, room, &needed);
+    status = try_make(asked, bytes, length, (uint8 *) VARDATA(*value) + before, room, &needed);
     if (status == UCA_SMALL) {
         pfree(*value);
         room = needed;
         *value = new_value(before + room);
-        status = uca_key(&collator, bytes, length, (uint8 *) VARDATA(*value) + before, room, &needed);
+        status = try_make(asked, bytes, length, (uint8 *) VARDATA(*value) + before, room, &needed);
     }
     if (status == UCA_MEMORY)
         ereport(ERROR, (errcode(ERRCODE_OUT_OF_MEMORY), errmsg("uca: out of memory")));
@@ -345,19 +395,29 @@ static uint32 write_key(const text *given, size_t before, bytea **value)
     return status;
 }
 
-static const char *name_of(uint32 status)
+static void value_error(Request asked, uint32 status)
 {
-    return status == UCA_UTF8 ? "Utf8" : status == UCA_TOO_LONG ? "TooLong" : "LongRun";
+    if (status == UCA_NO_BOOK)
+        ereport(ERROR, (errcode(ERRCODE_OBJECT_NOT_IN_PREREQUISITE_STATE), errmsg("uca: the server has no book, so its keys are whole"),
+                        errhint("Name a book in uca.book_file, and start the server again.")));
+    if (status == UCA_ARGUMENT)
+        ereport(ERROR, (errcode(ERRCODE_INVALID_PARAMETER_VALUE), errmsg("uca: the server has a book, so the number of levels is 1")));
+    if (status == UCA_NO_KEY)
+        ereport(ERROR, (errcode(ERRCODE_INVALID_BINARY_REPRESENTATION),
+                        errmsg("uca: the bytes are rejected: %s", asked.made == EXPANDED_KEY ? "NoCompactKey" : "OtherKey")));
+    ereport(ERROR, (errcode(ERRCODE_INVALID_TEXT_REPRESENTATION),
+                    errmsg("uca: the text is rejected: %s", status == UCA_UTF8 ? "Utf8" : status == UCA_TOO_LONG ? "TooLong" : "LongRun")));
 }
 
-static Datum key_of(FunctionCallInfo fcinfo)
+/* What is asked for of the first argument. */
+static Datum value_of(FunctionCallInfo fcinfo, Request asked)
 {
-    text *given = PG_GETARG_TEXT_PP(0);
+    struct varlena *given = PG_DETOAST_DATUM_PACKED(PG_GETARG_DATUM(0));
     bytea *value;
-    uint32 status = write_key(given, 0, &value);
+    uint32 status = write_value(asked, given, 0, &value);
 
     if (status != UCA_OK)
-        ereport(ERROR, (errcode(ERRCODE_INVALID_TEXT_REPRESENTATION), errmsg("uca: the text is rejected: %s", name_of(status))));
+        value_error(asked, status);
     PG_FREE_IF_COPY(given, 0);
     PG_RETURN_BYTEA_P(value);
 }
@@ -368,7 +428,7 @@ static Datum any_key_of(FunctionCallInfo fcinfo)
     size_t length = VARSIZE_ANY_EXHDR(given);
     bytea *value;
 
-    if (write_key(given, 1, &value) == UCA_OK)
+    if (write_value(WHOLE, given, 1, &value) == UCA_OK)
         *VARDATA(value) = 0;
     else {
         value = new_value(1 + length);
@@ -380,31 +440,86 @@ static Datum any_key_of(FunctionCallInfo fcinfo)
     PG_RETURN_BYTEA_P(value);
 }
 
-/* uca_key(text) returns bytea: the sort key. A text that is rejected is an error. */
-PG_FUNCTION_INFO_V1(uca_key_of_text);
-Datum uca_key_of_text(PG_FUNCTION_ARGS)
+/* An end of the range of keys with the first levels of a text. This argument is how many. */
+static Request levels_request(FunctionCallInfo fcinfo, int argument, uint32 end)
 {
-    need_files(fcinfo->flinfo->fn_oid);
-    return key_of(fcinfo);
+    int32 levels = PG_GETARG_INT32(argument);
+    Request asked = {RANGE, levels == 1 ? UCA_SAME_LETTERS : UCA_SAME_ACCENTS, end};
+
+    if (levels != 1 && levels != 2)
+        ereport(ERROR, (errcode(ERRCODE_INVALID_PARAMETER_VALUE), errmsg("uca: the number of levels is %d, and not 1 or 2", levels)));
+    return asked;
 }
 
-/* uca_any_key(text) returns bytea: a byte 0 and the sort key, or a byte 1 and the bytes of a text that is rejected. */
+/* By the files of the database. The function is STRICT. */
+static Datum value_by_files(FunctionCallInfo fcinfo, Request asked)
+{
+    need_files(fcinfo->flinfo->fn_oid);
+    return value_of(fcinfo, asked);
+}
+
+static Datum levels_by_files(FunctionCallInfo fcinfo, uint32 end)
+{
+    need_files(fcinfo->flinfo->fn_oid);
+    return value_of(fcinfo, levels_request(fcinfo, 1, end));
+}
+
+/* By the files that the fingerprint names. A fingerprint that is NULL is an error, and another argument that is NULL makes NULL. */
+static Datum value_by_fingerprint(FunctionCallInfo fcinfo, Request asked)
+{
+    need_fingerprint(fcinfo);
+    if (PG_ARGISNULL(0))
+        PG_RETURN_NULL();
+    return value_of(fcinfo, asked);
+}
+
+static Datum levels_by_fingerprint(FunctionCallInfo fcinfo, uint32 end)
+{
+    need_fingerprint(fcinfo);
+    if (PG_ARGISNULL(0) || PG_ARGISNULL(2))
+        PG_RETURN_NULL();
+    return value_of(fcinfo, levels_request(fcinfo, 2, end));
+}
+
+#define FUNCTION(name, value)   \
+    PG_FUNCTION_INFO_V1(name);  \
+    Datum name(PG_FUNCTION_ARGS) \
+    {                           \
+        return value;           \
+    }
+
+/* uca_key(text) and uca_key(text, fingerprint) return bytea: the sort key. A text that is rejected is an error. */
+FUNCTION(uca_key_of_text, value_by_files(fcinfo, WHOLE))
+FUNCTION(uca_key_by_fingerprint, value_by_fingerprint(fcinfo, WHOLE))
+
+/* uca_range_low(text, levels) and uca_range_high(text, levels) return bytea: both ends of the keys with as many first levels as the text
+   has. uca_key(text, levels) is the low end. A fingerprint may come before the levels. */
+FUNCTION(uca_range_low_of_text, levels_by_files(fcinfo, UCA_LOW))
+FUNCTION(uca_range_high_of_text, levels_by_files(fcinfo, UCA_HIGH))
+FUNCTION(uca_range_low_by_fingerprint, levels_by_fingerprint(fcinfo, UCA_LOW))
+FUNCTION(uca_range_high_by_fingerprint, levels_by_fingerprint(fcinfo, UCA_HIGH))
+
+/* uca_prefix_low(text) and uca_prefix_high(text) return bytea: both ends of the keys whose level 1 begins with the letters of the text. A
+   fingerprint may come after the text. */
+FUNCTION(uca_prefix_low_of_text, value_by_files(fcinfo, PREFIX_LOW))
+FUNCTION(uca_prefix_high_of_text, value_by_files(fcinfo, PREFIX_HIGH))
+FUNCTION(uca_prefix_low_by_fingerprint, value_by_fingerprint(fcinfo, PREFIX_LOW))
+FUNCTION(uca_prefix_high_by_fingerprint, value_by_fingerprint(fcinfo, PREFIX_HIGH))
+
+/* uca_expand(bytea) returns bytea: the whole key of a compact key. uca_compact(bytea) makes that compact again. A fingerprint may come
+   after the key. */
+FUNCTION(uca_expand_key, value_by_files(fcinfo, EXPANDED))
+FUNCTION(uca_compact_key, value_by_files(fcinfo, COMPACT))
+FUNCTION(uca_expand_by_fingerprint, value_by_fingerprint(fcinfo, EXPANDED))
+FUNCTION(uca_compact_by_fingerprint, value_by_fingerprint(fcinfo, COMPACT))
+
+/* uca_any_key(text) and uca_any_key(text, fingerprint) return bytea: a byte 0 and the sort key, or a byte 1 and the bytes of a text that is
+   rejected. */
 PG_FUNCTION_INFO_V1(uca_any_key_of_text);
 Datum uca_any_key_of_text(PG_FUNCTION_ARGS)
 {
     need_files(fcinfo->flinfo->fn_oid);
     return any_key_of(fcinfo);
-}
-
-/* uca_key(text, fingerprint) and uca_any_key(text, fingerprint) return the same by the files that the fingerprint names. A text that is
-   NULL has the key NULL, and a fingerprint that is NULL is an error. */
-PG_FUNCTION_INFO_V1(uca_key_by_fingerprint);
-Datum uca_key_by_fingerprint(PG_FUNCTION_ARGS)
-{
-    need_fingerprint(fcinfo);
-    if (PG_ARGISNULL(0))
-        PG_RETURN_NULL();
-    return key_of(fcinfo);
 }
 
 PG_FUNCTION_INFO_V1(uca_any_key_by_fingerprint);

@@ -1,8 +1,8 @@
 /* Each allocation of SQLite and of the extension fails in turn, alone and with all after it.
 
-     memory EXTENSION TABLE DATA FINGERPRINT
+     memory EXTENSION TABLE DATA FINGERPRINT BOOK FINGERPRINT
 
-   The files are those of examples/, and the fingerprint is theirs, shifted. Each statement is right then, or has an error, and the
+   The files are those of examples/. The fingerprints are theirs, shifted, without the book and with it. Each statement is right then, or has an error, and the
    connection can be closed. Where one allocation failed, the connection can load all again, and each stored key is right. Where one
    failed in a comparison, no index is damaged, no row is lost, and a later transaction is committed. Prints a line for each check that
    fails, and how many runs there were. The status is 1 if one failed. */
@@ -18,6 +18,7 @@
 static long asked, first_failing, last_failing, failed;
 static int is_short;
 static char load[ROOM], table[ROOM], word_index[ROOM], order[ROOM], wrong_keys[ROOM], rows[ROOM];
+static char load_book[ROOM], is_made_again[ROOM], is_found[ROOM], *by_book; /* by_book is a fingerprint */
 static unsigned char image[64 << 10]; /* of a database with these rows */
 static sqlite3_int64 image_size;
 
@@ -102,6 +103,9 @@ static void use(sqlite3 *database, const char *extension, char *fingerprint)
         sqlite3_exec(database, table, NULL, NULL, NULL);
         sqlite3_exec(database, "INSERT INTO words(word) VALUES ('bz'), ('bh'), ('b')", NULL, NULL, NULL);
         sqlite3_exec(database, word_index, NULL, NULL, NULL);
+        sqlite3_exec(database, load_book, is_wanted, by_book, NULL);
+        sqlite3_exec(database, is_made_again, is_wanted, "yes", NULL);
+        sqlite3_exec(database, is_found, is_wanted, "yes", NULL);
         sqlite3_exec(database, "SELECT uca_load('none', 'none')", is_wanted, "an error", NULL);
         sqlite3_exec(database, "SELECT uca_key('a', '')", is_wanted, "an error", NULL);
     }
@@ -114,6 +118,9 @@ static void use_again(sqlite3 *database, const char *extension, char *fingerprin
     CHECK(sqlite3_exec(database, "DELETE FROM words WHERE rowid > 3", NULL, NULL, NULL) == SQLITE_OK);
     CHECK(sqlite3_exec(database, order, is_wanted, "b bh bz", NULL) == SQLITE_OK);
     CHECK(sqlite3_exec(database, wrong_keys, is_wanted, "0", NULL) == SQLITE_OK);
+    CHECK(sqlite3_exec(database, load_book, is_wanted, by_book, NULL) == SQLITE_OK);
+    CHECK(sqlite3_exec(database, is_made_again, is_wanted, "yes", NULL) == SQLITE_OK);
+    CHECK(sqlite3_exec(database, is_found, is_wanted, "yes", NULL) == SQLITE_OK);
     CHECK(sqlite3_exec(database, "PRAGMA integrity_check", is_wanted, "ok", NULL) == SQLITE_OK);
 }
 
@@ -190,10 +197,15 @@ static long compare(const char *extension, char *fingerprint, int at, long first
 
 int main(int count, char **words)
 {
-    if (count != 5) {
+    if (count != 7) {
         return 2;
     }
-    char *extension = words[1], *used = words[4];
+    char *extension = words[1], *used = words[4], *book = by_book = words[6];
+    snprintf(load_book, ROOM, "SELECT uca_load('%s', '%s', 'shifted', '', '%s', '%s')", words[2], words[3], book, words[5]);
+    snprintf(is_made_again, ROOM, "SELECT iif(uca_compact(uca_expand(uca_key('b-A', '%s'), '%s'), '%s') = uca_key('b-A', '%s'), 'yes', 'no')",
+             book, book, book, book);
+    snprintf(is_found, ROOM, "SELECT iif(uca_key('ab', '%s', 1) = uca_key('A-b', '%s', 1) AND uca_key('ab', '%s') >= uca_prefix_low('A', '%s')"
+             " AND uca_key('ab', '%s') < uca_range_high('A-b', '%s', 1), 'yes', 'no')", book, book, book, book, book, book);
     snprintf(load, ROOM, "SELECT uca_load('%s', '%s', 'shifted', '', '%s')", words[2], words[3], used);
     snprintf(table, ROOM, "CREATE TABLE IF NOT EXISTS words(word TEXT, key BLOB AS (uca_key(word, '%s')) STORED)", used);
     snprintf(word_index, ROOM, "CREATE INDEX IF NOT EXISTS by_word ON words(word COLLATE uca_%s)", used);

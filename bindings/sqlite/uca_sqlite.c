@@ -1,14 +1,22 @@
 /* A loadable extension of SQLite.
 
-     SELECT uca_load('table.txt', 'data.txt' [, weighting [, depth [, fingerprint]]]);
+     SELECT uca_load('table.txt', 'data.txt' [, weighting [, depth [, fingerprint [, book]]]]);
 
-   reads both files for this connection, and returns their fingerprint: 64 hexadecimal digits of what uca_fingerprint in uca.h
-   makes. The weighting is 'shifted' or 'non-ignorable', and else that of the table. The depth is 'weights' or 'identical'. An empty
-   text or NULL in place of one of them is as if it were not there. Where a fingerprint is given, the files and settings have to
-   have it. Say it is e7f5..:
+   reads the files for this connection, and returns their fingerprint: 64 hexadecimal digits of what uca_fingerprint in uca.h makes,
+   or uca_compact_fingerprint where there is a book. The weighting is 'shifted' or 'non-ignorable', and else that of the table. The
+   depth is 'weights' or 'identical'. A book is a file too, and keys are compact by it. An empty text or NULL in place of one of these
+   is as if it were not there. Where a fingerprint is given, the files and settings have to have it. 'unchecked' is none. Say the
+   fingerprint is e7f5..:
 
-     uca_key(text, 'e7f5..')   the sort key, a blob; NULL for NULL; an error for a blob and for a text that is rejected
-     COLLATE uca_e7f5..        the order of uca_order: texts in their order, and after them all that is no text or is rejected, by its bytes
+     uca_key(text, 'e7f5..')                  the sort key, a blob; NULL for NULL; an error for a blob and for a text that is rejected
+     uca_key(text, 'e7f5..', levels)          the key through 1 or 2 levels: of letters, or of letters and accents; 1 with a book
+     uca_range_low(text, 'e7f5..', levels)    where the keys begin whose first levels are those of the text, as many as for uca_key
+     uca_range_high(text, 'e7f5..', levels)   where they end: these keys are from the low end up to, and without, the high end
+     uca_prefix_low(text, 'e7f5..')           where the keys begin whose level 1 begins with the letters of the text
+     uca_prefix_high(text, 'e7f5..')          where they end
+     uca_expand(key, 'e7f5..')                the whole key of a compact key; uca_compact(key, 'e7f5..') makes that compact again
+     COLLATE uca_e7f5..                       the order of uca_order: texts in their order, and after them all that is no text or is
+                                              rejected, by its bytes
 
    Each use says by which files. So an index, a generated column or a CHECK keeps the fingerprint in the schema, and where these
    files are not loaded, it is an error. No name means "the files that are loaded". A connection may load several, and keeps all.
@@ -28,13 +36,17 @@
 SQLITE_EXTENSION_INIT1
 
 #define DIGITS 64
+#define DIGEST 32
 #define MOST_BYTES (64 << 20) /* of a file: 64 MiB */
+
+/* stands for no fingerprint */
+#define UNCHECKED "unchecked"
 
 #define KEY_FLAGS (SQLITE_UTF8 | SQLITE_DETERMINISTIC | SQLITE_INNOCUOUS)
 /* No schema may read files. SQLite lets a DIRECTONLY function into a CHECK, unless it is DETERMINISTIC. */
 #define LOAD_FLAGS (SQLITE_UTF8 | SQLITE_DETERMINISTIC | SQLITE_DIRECTONLY)
 
-/* The collator of two files and their settings. */
+/* The collator of some files and their settings. */
 typedef struct loaded {
     uca_collator collator;
     char fingerprint[DIGITS + 1];
@@ -55,9 +67,24 @@ typedef struct connection {
 } connection;
 
 typedef struct file {
-    uint8_t *bytes;
+    uint8_t *bytes; /* NULL for no file */
     size_t length;
 } file;
+
+/* What a collator is opened by. */
+typedef struct files {
+    file table, data, book;
+    uint32_t weighting, depth;
+} files;
+
+/* What a function makes of its first argument. */
+typedef enum made { KEY, RANGE, COMPACT_KEY, EXPANDED_KEY } made;
+
+typedef struct request {
+    const char *name; /* of the function */
+    made made;
+    uint32_t range, end; /* those of uca_range */
+} request;
 
 static void let_go(void *data)
 {
@@ -159,9 +186,10 @@ static loaded *find(const connection *here, const char *fingerprint)
     return it;
 }
 
-static void not_loaded_error(sqlite3_context *context, const connection *here, const char *fingerprint)
+static void not_loaded_error(sqlite3_context *context, const char *name, const char *fingerprint)
 {
-    char *text = sqlite3_mprintf("uca_key: the files of fingerprint %s are not loaded; loaded:%s", fingerprint, here->first ? "" : " none");
+    const connection *here = sqlite3_user_data(context);
+    char *text = sqlite3_mprintf("%s: the files of fingerprint %s are not loaded; loaded:%s", name, fingerprint, here->first ? "" : " none");
     for (const loaded *it = here->first; it && text; it = it->next) {
         text = sqlite3_mprintf("%z %s", text, it->fingerprint);
     }
@@ -169,7 +197,7 @@ static void not_loaded_error(sqlite3_context *context, const connection *here, c
 }
 
 /* What is loaded by this fingerprint, or NULL after an error. */
-static loaded *find_value(sqlite3_context *context, sqlite3_value *value)
+static loaded *find_value(sqlite3_context *context, const char *name, sqlite3_value *value)
 {
     const connection *here = sqlite3_user_data(context);
     const char *fingerprint = sqlite3_value_type(value) == SQLITE_TEXT ? (const char *)sqlite3_value_text(value) : "";
@@ -180,46 +208,52 @@ static loaded *find_value(sqlite3_context *context, sqlite3_value *value)
     size_t length = (size_t)sqlite3_value_bytes(value);
     loaded *it = length == DIGITS ? find(here, fingerprint) : NULL;
     if (!it && is_fingerprint(fingerprint, length)) {
-        not_loaded_error(context, here, fingerprint);
+        not_loaded_error(context, name, fingerprint);
     } else if (!it) {
-        sqlite3_result_error(context, "uca_key: the second argument is no fingerprint of 64 lower-case hexadecimal digits", -1);
+        give_error(context, sqlite3_mprintf("%s: the second argument is no fingerprint of 64 lower-case hexadecimal digits", name));
     }
     return it;
 }
 
-static const char *text_error(uint32_t status)
+/* Ends a call with the error of a status. */
+static void status_error(sqlite3_context *context, const request *asked, const loaded *it, uint32_t status)
 {
-    return status == UCA_UTF8 ? "uca_key: Utf8" : status == UCA_TOO_LONG ? "uca_key: TooLong" : "uca_key: LongRun";
+    static const char *const NAMES[] = {[UCA_UTF8] = "Utf8", [UCA_TOO_LONG] = "TooLong", [UCA_LONG_RUN] = "LongRun"};
+    if (status == UCA_UTF8 || status == UCA_TOO_LONG || status == UCA_LONG_RUN) {
+        give_error(context, sqlite3_mprintf("%s: %s", asked->name, NAMES[status]));
+    } else if (status == UCA_NO_KEY) {
+        give_error(context, sqlite3_mprintf("%s: %s", asked->name, asked->made == EXPANDED_KEY ? "NoCompactKey" : "OtherKey"));
+    } else if (status == UCA_NO_BOOK) {
+        give_error(context, sqlite3_mprintf("%s: the files of fingerprint %s have no book", asked->name, it->fingerprint));
+    } else if (status == UCA_ARGUMENT) {
+        give_error(context, sqlite3_mprintf("%s: the files of fingerprint %s have a book, so the number of levels is 1", asked->name, it->fingerprint));
+    } else {
+        sqlite3_result_error_nomem(context);
+    }
 }
 
-static uint32_t try_key(loaded *it, const uint8_t *text, size_t length, size_t *needed)
+static uint32_t try_make(loaded *it, const request *asked, const uint8_t *bytes, size_t length, size_t *needed)
 {
     connection *here = it->connection;
+    uca_collator *collator = &it->collator;
+    uint32_t status = UCA_MEMORY;
     pthread_mutex_lock(&here->lock);
-    uint32_t status = uca_key(&it->collator, text, length, here->key, here->room, needed);
+    switch (asked->made) {
+    case KEY: status = uca_key(collator, bytes, length, here->key, here->room, needed); break;
+    case RANGE: status = uca_range(collator, bytes, length, asked->range, asked->end, here->key, here->room, needed); break;
+    case COMPACT_KEY: status = uca_compact(collator, bytes, length, here->key, here->room, needed); break;
+    case EXPANDED_KEY: status = uca_expand(collator, bytes, length, here->key, here->room, needed); break;
+    }
     pthread_mutex_unlock(&here->lock);
     return status;
 }
 
-static void make_key(sqlite3_context *context, int count, sqlite3_value **values)
+/* Returns what a function makes of these bytes. */
+static void make_of_bytes(sqlite3_context *context, loaded *it, const request *asked, const uint8_t *bytes, size_t length)
 {
-    (void)count;
-    connection *here = sqlite3_user_data(context);
-    loaded *it = find_value(context, values[1]);
-    if (!it || sqlite3_value_type(values[0]) == SQLITE_NULL) {
-        return;
-    }
-    if (sqlite3_value_type(values[0]) == SQLITE_BLOB) { /* which text it is depends on the encoding of the database */
-        sqlite3_result_error(context, "uca_key: the first argument is a blob, not a text", -1);
-        return;
-    }
-    const uint8_t *text = sqlite3_value_text(values[0]);
-    size_t length = (size_t)sqlite3_value_bytes(values[0]), needed;
-    if (!text) {
-        sqlite3_result_error_nomem(context);
-        return;
-    }
-    uint32_t status = try_key(it, text, length, &needed);
+    connection *here = it->connection;
+    size_t needed;
+    uint32_t status = try_make(it, asked, bytes, length, &needed);
     if (status == UCA_SMALL) {
         uint8_t *more = sqlite3_realloc64(here->key, 2 * needed);
         if (!more) {
@@ -228,15 +262,91 @@ static void make_key(sqlite3_context *context, int count, sqlite3_value **values
         }
         here->key = more;
         here->room = 2 * needed;
-        status = try_key(it, text, length, &needed);
+        status = try_make(it, asked, bytes, length, &needed);
     }
     if (status == UCA_OK) {
         sqlite3_result_blob64(context, here->key, needed, SQLITE_TRANSIENT);
-    } else if (status == UCA_MEMORY) {
-        sqlite3_result_error_nomem(context);
     } else {
-        sqlite3_result_error(context, text_error(status), -1);
+        status_error(context, asked, it, status);
     }
+}
+
+/* Returns what a function makes of a value by a fingerprint. */
+static void make(sqlite3_context *context, sqlite3_value *value, sqlite3_value *fingerprint, const request *asked)
+{
+    int takes_key = asked->made == COMPACT_KEY || asked->made == EXPANDED_KEY, type = sqlite3_value_type(value);
+    loaded *it = find_value(context, asked->name, fingerprint);
+    if (!it || type == SQLITE_NULL) {
+        return;
+    }
+    if (takes_key != (type == SQLITE_BLOB)) { /* which text a blob is depends on the encoding of the database */
+        const char *what = takes_key ? "no blob, so it is no key" : "a blob, not a text";
+        give_error(context, sqlite3_mprintf("%s: the first argument is %s", asked->name, what));
+        return;
+    }
+    const uint8_t *bytes = takes_key ? sqlite3_value_blob(value) : sqlite3_value_text(value);
+    size_t length = (size_t)sqlite3_value_bytes(value);
+    if (!bytes && (!takes_key || length > 0)) {
+        sqlite3_result_error_nomem(context);
+        return;
+    }
+    make_of_bytes(context, it, asked, bytes_at(bytes), length);
+}
+
+/* Returns an end of the range of keys with the first levels of a text. The last value is how many. */
+static void make_levels(sqlite3_context *context, sqlite3_value **values, const char *name, uint32_t end)
+{
+    sqlite3_int64 levels = sqlite3_value_type(values[2]) == SQLITE_INTEGER ? sqlite3_value_int64(values[2]) : 0;
+    if (levels == 1 || levels == 2) {
+        make(context, values[0], values[1], &(request){name, RANGE, levels == 1 ? UCA_SAME_LETTERS : UCA_SAME_ACCENTS, end});
+    } else {
+        give_error(context, sqlite3_mprintf("%s: the third argument is not 1 or 2, as a number of levels is", name));
+    }
+}
+
+static void make_key(sqlite3_context *context, int count, sqlite3_value **values)
+{
+    if (count == 3) {
+        make_levels(context, values, "uca_key", UCA_LOW);
+    } else {
+        make(context, values[0], values[1], &(request){"uca_key", KEY, 0, 0});
+    }
+}
+
+static void make_range_low(sqlite3_context *context, int count, sqlite3_value **values)
+{
+    (void)count;
+    make_levels(context, values, "uca_range_low", UCA_LOW);
+}
+
+static void make_range_high(sqlite3_context *context, int count, sqlite3_value **values)
+{
+    (void)count;
+    make_levels(context, values, "uca_range_high", UCA_HIGH);
+}
+
+static void make_prefix_low(sqlite3_context *context, int count, sqlite3_value **values)
+{
+    (void)count;
+    make(context, values[0], values[1], &(request){"uca_prefix_low", RANGE, UCA_BEGINS, UCA_LOW});
+}
+
+static void make_prefix_high(sqlite3_context *context, int count, sqlite3_value **values)
+{
+    (void)count;
+    make(context, values[0], values[1], &(request){"uca_prefix_high", RANGE, UCA_BEGINS, UCA_HIGH});
+}
+
+static void make_compact(sqlite3_context *context, int count, sqlite3_value **values)
+{
+    (void)count;
+    make(context, values[0], values[1], &(request){"uca_compact", COMPACT_KEY, 0, 0});
+}
+
+static void make_expanded(sqlite3_context *context, int count, sqlite3_value **values)
+{
+    (void)count;
+    make(context, values[0], values[1], &(request){"uca_expand", EXPANDED_KEY, 0, 0});
 }
 
 /* Reads the bytes of an open file of this size, and returns NULL, or why not. There is room for one byte more. */
@@ -283,15 +393,26 @@ static file read_file(sqlite3_context *context, const char *role, const char *pa
 static void open_error(sqlite3_context *context, uint32_t status, const uca_error *error)
 {
     static const char *const KINDS[] = {"", "Line", "Order", "CodePoint", "Weight", "DuplicateKey", "Range", "Limit", "Read"};
-    if ((status == UCA_TABLE || status == UCA_DATA) && error->kind < UCA_KIND_MEMORY) {
-        give_error(context, sqlite3_mprintf("uca_load: the %s: line %u: %s", status == UCA_TABLE ? "table" : "data file", error->line, KINDS[error->kind]));
+    const char *role = status == UCA_TABLE ? "table" : status == UCA_DATA ? "data file" : status == UCA_BOOK ? "book" : NULL;
+    if (role && error->kind < UCA_KIND_MEMORY) {
+        give_error(context, sqlite3_mprintf("uca_load: the %s: line %u: %s", role, error->line, KINDS[error->kind]));
     } else {
         sqlite3_result_error_nomem(context);
     }
 }
 
+static uint32_t open_collator(uca_collator *collator, const files *by, uca_error *error)
+{
+    const file *table = &by->table, *data = &by->data, *book = &by->book;
+    if (!book->bytes) {
+        return uca_open(collator, table->bytes, table->length, data->bytes, data->length, by->weighting, by->depth, error);
+    }
+    return uca_open_compact(collator, table->bytes, table->length, data->bytes, data->length, book->bytes, book->length, by->weighting,
+                            by->depth, error);
+}
+
 /* Adds a collator of the files and its collation. It returns 0 after an error. */
-static int add(sqlite3_context *context, const file *table, const file *data, uint32_t weighting, uint32_t depth, const char *fingerprint)
+static int add(sqlite3_context *context, const files *by, const char *fingerprint)
 {
     connection *here = sqlite3_user_data(context);
     char name[sizeof "uca_" + DIGITS];
@@ -304,7 +425,7 @@ static int add(sqlite3_context *context, const file *table, const file *data, ui
     *it = (loaded){UCA_CLOSED_COLLATOR, "", here, here->first};
     memcpy(it->fingerprint, fingerprint, sizeof it->fingerprint);
     sqlite3_snprintf(sizeof name, name, "uca_%s", fingerprint);
-    uint32_t status = uca_open(&it->collator, table->bytes, table->length, data->bytes, data->length, weighting, depth, &error);
+    uint32_t status = open_collator(&it->collator, by, &error);
     if (status != UCA_OK) {
         open_error(context, status, &error);
     } else if (sqlite3_create_collation_v2(here->database, name, SQLITE_UTF8, it, collate, let_go_of_collation)) {
@@ -319,24 +440,54 @@ static int add(sqlite3_context *context, const file *table, const file *data, ui
     return 0;
 }
 
-static void load_files(sqlite3_context *context, const file *table, const file *data, uint32_t weighting, uint32_t depth, const char *wanted)
+/* Writes the fingerprint of the files and settings, in digits. */
+static uint32_t write_fingerprint(const files *by, char *fingerprint, uca_error *error)
 {
-    uint8_t digest[DIGITS / 2];
+    const file *table = &by->table, *data = &by->data;
+    uint8_t whole[DIGEST], compact[DIGEST];
+    uint32_t status = uca_fingerprint(table->bytes, table->length, data->bytes, data->length, by->weighting, by->depth, whole, error);
+    if (status != UCA_OK) {
+        return status;
+    }
+    if (by->book.bytes) {
+        uca_compact_fingerprint(whole, by->book.bytes, by->book.length, compact);
+    }
+    for (int i = 0; i < DIGEST; i++) {
+        sqlite3_snprintf(3, fingerprint + 2 * i, "%02x", by->book.bytes ? compact[i] : whole[i]);
+    }
+    return UCA_OK;
+}
+
+static void load_files(sqlite3_context *context, const files *by, const char *wanted)
+{
     char fingerprint[DIGITS + 1];
     uca_error error;
-    uint32_t status = uca_fingerprint(table->bytes, table->length, data->bytes, data->length, weighting, depth, digest, &error);
+    uint32_t status = write_fingerprint(by, fingerprint, &error);
     if (status != UCA_OK) {
         open_error(context, status, &error);
-        return;
-    }
-    for (int i = 0; i < DIGITS / 2; i++) {
-        sqlite3_snprintf(3, fingerprint + 2 * i, "%02x", digest[i]);
-    }
-    if (wanted && strcmp(wanted, fingerprint)) {
+    } else if (strcmp(wanted, UNCHECKED) && strcmp(wanted, fingerprint)) {
         give_error(context, sqlite3_mprintf("uca_load: the files and settings have the fingerprint %s, and %s is wanted", fingerprint, wanted));
-    } else if (find(sqlite3_user_data(context), fingerprint) || add(context, table, data, weighting, depth, fingerprint)) {
+    } else if (find(sqlite3_user_data(context), fingerprint) || add(context, by, fingerprint)) {
         sqlite3_result_text(context, fingerprint, DIGITS, SQLITE_TRANSIENT);
     }
+}
+
+/* Reads the files of these paths, and loads them. The path of no book is empty. */
+static void load_paths(sqlite3_context *context, const char *const *paths, const char *book, files *by, const char *wanted)
+{
+    by->table = read_file(context, "table", paths[0]);
+    if (by->table.bytes) {
+        by->data = read_file(context, "data file", paths[1]);
+    }
+    if (by->data.bytes && *book) {
+        by->book = read_file(context, "book", book);
+    }
+    if (by->data.bytes && (by->book.bytes || !*book)) {
+        load_files(context, by, wanted);
+    }
+    sqlite3_free(by->table.bytes);
+    sqlite3_free(by->data.bytes);
+    sqlite3_free(by->book.bytes);
 }
 
 /* The position of a name among the names of a setting. It is 0 for the empty name, and `count` for another one. */
@@ -376,9 +527,9 @@ static int is_shared(sqlite3 *database)
 static void load(sqlite3_context *context, int count, sqlite3_value **values)
 {
     static const char *const WEIGHTINGS[] = {"", "non-ignorable", "shifted"}, *const DEPTHS[] = {"weights", "identical"};
-    const char *texts[] = {"", "", "", "", NULL};
-    if (count < 2 || count > 5) {
-        sqlite3_result_error(context, "uca_load: it takes 2 to 5 arguments", -1);
+    const char *texts[] = {"", "", "", "", UNCHECKED, ""};
+    if (count < 2 || count > 6) {
+        sqlite3_result_error(context, "uca_load: it takes 2 to 6 arguments", -1);
         return;
     }
     if (is_shared(sqlite3_context_db_handle(context))) {
@@ -388,23 +539,15 @@ static void load(sqlite3_context *context, int count, sqlite3_value **values)
     if (!read_arguments(context, count, values, texts)) {
         return;
     }
-    uint32_t weighting = number_of(texts[2], WEIGHTINGS, 3), depth = number_of(texts[3], DEPTHS, 2);
-    if (weighting == 3) {
+    files by = {.weighting = number_of(texts[2], WEIGHTINGS, 3), .depth = number_of(texts[3], DEPTHS, 2)};
+    if (by.weighting == 3) {
         give_error(context, sqlite3_mprintf("uca_load: the weighting is %!.60Q, not 'shifted' or 'non-ignorable'", texts[2]));
-    } else if (depth == 2) {
+    } else if (by.depth == 2) {
         give_error(context, sqlite3_mprintf("uca_load: the depth is %!.60Q, not 'weights' or 'identical'", texts[3]));
-    } else if (texts[4] && !is_fingerprint(texts[4], strlen(texts[4]))) {
-        sqlite3_result_error(context, "uca_load: the fifth argument is no fingerprint of 64 lower-case hexadecimal digits", -1);
+    } else if (strcmp(texts[4], UNCHECKED) && !is_fingerprint(texts[4], strlen(texts[4]))) {
+        sqlite3_result_error(context, "uca_load: the fifth argument is no fingerprint of 64 lower-case hexadecimal digits, and not 'unchecked'", -1);
     } else {
-        file table = read_file(context, "table", texts[0]), data = {NULL, 0};
-        if (table.bytes) {
-            data = read_file(context, "data file", texts[1]);
-        }
-        if (data.bytes) {
-            load_files(context, &table, &data, weighting, depth, texts[4]);
-        }
-        sqlite3_free(table.bytes);
-        sqlite3_free(data.bytes);
+        load_paths(context, texts, texts[5], &by, texts[4]);
     }
 }
 
@@ -416,6 +559,23 @@ static int is_here(sqlite3 *database)
     sqlite3_finalize(statement);
     return status == SQLITE_OK;
 }
+
+/* The functions, with their numbers of arguments. uca_load comes last. */
+static const struct {
+    const char *name;
+    int count, flags;
+    void (*call)(sqlite3_context *context, int count, sqlite3_value **values);
+} FUNCTIONS[] = {
+    {"uca_key", 2, KEY_FLAGS, make_key},
+    {"uca_key", 3, KEY_FLAGS, make_key},
+    {"uca_range_low", 3, KEY_FLAGS, make_range_low},
+    {"uca_range_high", 3, KEY_FLAGS, make_range_high},
+    {"uca_prefix_low", 2, KEY_FLAGS, make_prefix_low},
+    {"uca_prefix_high", 2, KEY_FLAGS, make_prefix_high},
+    {"uca_compact", 2, KEY_FLAGS, make_compact},
+    {"uca_expand", 2, KEY_FLAGS, make_expanded},
+    {"uca_load", -1, LOAD_FLAGS, load},
+};
 
 __attribute__((visibility("default"))) int sqlite3_uca_init(sqlite3 *database, char **message, const sqlite3_api_routines *api)
 {
@@ -433,13 +593,9 @@ __attribute__((visibility("default"))) int sqlite3_uca_init(sqlite3 *database, c
     }
     *here = (connection){database, NULL, sqlite3_malloc64(1024), 1024, 1, 0, 0, PTHREAD_MUTEX_INITIALIZER};
     int failed = here->key ? SQLITE_OK : SQLITE_NOMEM;
-    if (!failed) { /* where a registration fails, SQLite lets go too */
-        here->users++;
-        failed = sqlite3_create_function_v2(database, "uca_key", 2, KEY_FLAGS, here, make_key, NULL, NULL, let_go);
-    }
-    if (!failed) {
-        here->users++;
-        failed = sqlite3_create_function_v2(database, "uca_load", -1, LOAD_FLAGS, here, load, NULL, NULL, let_go);
+    for (size_t i = 0; !failed && i < sizeof FUNCTIONS / sizeof *FUNCTIONS; i++) {
+        here->users++; /* where a registration fails, SQLite lets go too */
+        failed = sqlite3_create_function_v2(database, FUNCTIONS[i].name, FUNCTIONS[i].count, FUNCTIONS[i].flags, here, FUNCTIONS[i].call, NULL, NULL, let_go);
     }
     let_go(here);
     return failed;

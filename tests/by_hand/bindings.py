@@ -15,6 +15,7 @@ First prove and build the static library: `tools/build.py uca_c`. Then this scri
 - statements, dumps and replication of PostgreSQL with its extension, which is installed to a copy of the server's programs in a temporary folder. Each server
   has a folder of its own, listens on a Unix socket there, and is stopped afterwards;
 - all four over Unicode's table, and over that table tailored for Danish: 100,000 words of nine languages have the keys of `uca keys` and the order of `uca sort`.
+  Compact keys are those of `uca compact`. Ranges of keys find exactly the words that a search through all keys finds. The sizes of indexes are printed.
 
 It needs Debian's packages of NEEDS, and some checks those of WANTS. What needs a command, a program or a file that is not here is not run, and a line says so. The last line is `N passed, M failed`, and how many were not run if there are any.
 """
@@ -45,12 +46,25 @@ WANTS = ["g++", "pkgconf", "valgrind", "sqlite3", "libsqlite3-dev", "postgresql"
 FLAGS = ["-std=c11", "-Wall", "-Wextra", "-Wpedantic", "-Werror", "-D_POSIX_C_SOURCE=200809L", f"-I{C}/include"]
 LINES = ["lines.txt", "words_danish.txt", "words_spanish.txt", "words_swedish.txt"]
 SETTINGS = [[], ["non-ignorable"], ["shifted"], ["non-ignorable", "identical"], ["shifted", "identical"]]
-SORTER = """
+# Programs over the lines of standard input. The arguments are a table, a data file, a weighting, a depth, a fingerprint and a book; empty ones are none.
+COLLATOR = """
 import sys, uca
-weighting, identical = {None: None, **{it: it for it in ("non-ignorable", "shifted")}}[sys.argv[3] or None], sys.argv[4] == "identical"
-with uca.Collator(sys.argv[1], sys.argv[2], weighting, identical, fingerprint=sys.argv[5]) as collator:
-    lines = sys.stdin.buffer.read().removesuffix(b"\\n").split(b"\\n")
-    sys.stdout.buffer.write(b"".join(it + b"\\n" for it in sorted(lines, key=collator.key)))
+table, data, weighting, depth, fingerprint, book, *texts = sys.argv[1:]
+collator = uca.Collator(table, data, weighting or None, depth == "identical", book=book or None, fingerprint=fingerprint)
+lines = sys.stdin.buffer.read().removesuffix(b"\\n").split(b"\\n")
+"""
+SORTER = COLLATOR + """
+sys.stdout.buffer.write(b"".join(it + b"\\n" for it in sorted(lines, key=collator.key)))
+"""
+# Prints all keys, and then what lookups by some texts find.
+LOOKER = COLLATOR + """
+keys = [collator.key(it) for it in lines]
+for it in keys:
+    print(it.hex().upper())
+for text in texts:
+    ranges = [collator.prefix_range(text), collator.range(text, levels=1)] + ([] if book else [collator.range(text, levels=2)])
+    for low, high in ranges:
+        print(" ".join(str(number) for number, key in enumerate(keys, 1) if low <= key < high))
 """
 
 
@@ -160,13 +174,15 @@ def page(work):
     """The programs of docs/BINDINGS.md, which show what they print in their comments."""
     need("gcc")
     text = content(f"{TOP}/docs/BINDINGS.md").decode()
-    with open(f"{work}/page.c", "w", encoding="utf-8") as it:
-        it.write(re.search(r"```c\n(.*?)```", text, re.S).group(1))
-    run(["gcc", *FLAGS, "-o", f"{work}/page", f"{work}/page.c", f"{C}/out/libuca.a"])
-    same(run([f"{work}/page"]).decode(), re.search(r"/\* ([0-9A-F]+) \*/", text).group(1), "the page's program in C")
-    program = re.search(r"```python\n(.*?)```", text, re.S).group(1)
-    said = run([sys.executable, "-c", program], env=python_environment(), cwd=TOP).decode()
-    same(said.splitlines(), re.findall(r"# (\S.*)", program), "the page's program in Python")
+    for program in re.findall(r"```c\n(.*?)```", text, re.S):
+        with open(f"{work}/page.c", "w", encoding="utf-8") as it:
+            it.write(program)
+        run(["gcc", *FLAGS, "-o", f"{work}/page", f"{work}/page.c", f"{C}/out/libuca.a"])
+        wanted = re.search(r"/\* ([0-9A-F]+) \*/", program).group(1) if "printf(\"%" in program else ""
+        same(run([f"{work}/page"]).decode(), wanted, f"the page's program {program}")
+    for program in re.findall(r"```python\n(.*?)```", text, re.S):
+        said = run([sys.executable, "-c", program], env=python_environment(), cwd=TOP).decode()
+        same(said.splitlines(), re.findall(r"# (\S.*)", program), f"the page's program {program}")
 
 
 def options(setting):
@@ -189,7 +205,7 @@ def keys_like(program):
 
 
 def sorted_like(program):
-    """Lines sorted by the keys of the module are in the order of `uca sort`, and the fingerprint is that of the files."""
+    """Lines sorted by the keys of the module, whole or compact, are in the order of `uca sort`, and the fingerprint is that of the files."""
 
     def check(work):
         if not os.path.exists(program):
@@ -200,8 +216,9 @@ def sorted_like(program):
                 wanted = run([program, "sort", *options(setting), *files], input=content(f"{EXAMPLES}/{lines}"))
                 weighting = next((it for it in setting if it != "identical"), "")
                 depth = "identical" if "identical" in setting else "weights"
-                words = [sys.executable, "-c", SORTER, *files, weighting, depth, fingerprint_of(*files, weighting or "shifted", depth)]
-                same(run(words, input=content(f"{EXAMPLES}/{lines}"), env=python_environment()), wanted, f"order of {lines}, {setting}")
+                for book in (None, BOOK):
+                    words = [sys.executable, "-c", SORTER, *files, weighting, depth, fingerprint_of(*files, weighting or "shifted", depth, book), book or ""]
+                    same(run(words, input=content(f"{EXAMPLES}/{lines}"), env=python_environment()), wanted, f"order of {lines}, {setting}, {book}")
 
     return check
 
@@ -220,7 +237,7 @@ def python_valgrind(work):
     # Not of leaks and undefined values, since CPython itself has both when it ends.
     words = ["valgrind", "-q", "--error-exitcode=9", "--leak-check=no", "--undef-value-errors=no", "--fair-sched=yes", sys.executable]
     environment = {**python_environment(), "PYTHONMALLOC": "malloc", "UCA_STRESS_SECONDS": "4"}
-    run([*words, "-m", "unittest", "test_uca.Keys", "test_uca.Values", "test_uca.Sharing", "test_stress"], env=environment, cwd=f"{PYTHON}/tests")
+    run([*words, "-m", "unittest", "test_uca.Keys", "test_uca.CompactKeys", "test_uca.Ranges", "test_uca.Values", "test_uca.Sharing", "test_stress"], env=environment, cwd=f"{PYTHON}/tests")
 
 
 def python_with_wheel():
@@ -247,23 +264,40 @@ def wheel(work):
     run([python, "-W", "error", "-m", "unittest", "discover", "-s", f"{PYTHON}/tests"], env=environment, cwd=wheels)
 
 
-def fingerprint_of(table, data, weighting="shifted", depth="weights"):
-    """The fingerprint of two files and their settings, as uca.h says."""
+def fingerprint_of(table, data, weighting="shifted", depth="weights", book=None):
+    """The fingerprint of files and their settings, as uca.h says: of compact keys if there is a book."""
     sums = [hashlib.sha256(content(it)).hexdigest() for it in (table, data)]
     text = f"uca keys 1\nunicode 18.0.0\nweighting {weighting}\ndepth {depth}\ntable {sums[0]}\ndata {sums[1]}\n"
-    return hashlib.sha256(text.encode()).hexdigest()
+    keys = hashlib.sha256(text.encode()).hexdigest()
+    if book is None:
+        return keys
+    return hashlib.sha256(f"uca compact keys 1\nkeys {keys}\nbook {hashlib.sha256(content(book)).hexdigest()}\n".encode()).hexdigest()
 
 
 TABLE, TAILORED, DATA = (f"{EXAMPLES}/{it}.txt" for it in ("table", "tailored", "data"))
+BOOK = f"{EXAMPLES}/books/general.book"
 USED, OTHER = (fingerprint_of(it, DATA) for it in (TABLE, TAILORED))
+COMPACT = fingerprint_of(TABLE, DATA, book=BOOK)
+# The letters a and b have cells of one weight, and so has the space.
+SMALL_BOOK = "@book 1\n1 1C47\n1 1C48\n1 1C60\n1 1C61\n1 2000\n4 0209\n4 020A\n"
+
+
+def small_book(folder):
+    """The path of a small book in a folder."""
+    with open(f"{folder}/small.book", "w", encoding="utf-8") as it:
+        it.write(SMALL_BOOK)
+    return it.name
+
+
 MADE_BY_OTHERS = f"uca_key: the files of fingerprint {USED} are not loaded; loaded: {OTHER}"
 NO_COLLATION = f"no such collation sequence: uca_{USED}"
 NO_FINGERPRINT = "is no fingerprint of 64 lower-case hexadecimal digits"
 
 
-def sqlite_load(table=TABLE, data=DATA, weighting="shifted"):
+def sqlite_load(table=TABLE, data=DATA, weighting="shifted", book=None):
     """A statement that loads files, and prints nothing."""
-    return f"SELECT 0 WHERE uca_load('{table}', '{data}', '{weighting}') IS NULL;"
+    more = f", '', 'unchecked', '{book}'" if book else ""
+    return f"SELECT 0 WHERE uca_load('{table}', '{data}', '{weighting}'{more}) IS NULL;"
 
 
 def sqlite_says(work, *statements, load=sqlite_load(), database=":memory:", fails=False):
@@ -354,9 +388,19 @@ def sqlite_loads(work):
         (f"'{TABLE}', '{DATA}', 'shifted', '', '{USED[:32]}'", f"uca_load: the fifth argument {NO_FINGERPRINT}"),
         (f"'{TAILORED}', '{DATA}', 'shifted', '', '{USED}'", f"uca_load: the files and settings have the fingerprint {OTHER}, and {USED} is wanted"),
         (f"'{TABLE}', '{DATA}', 'shifted' || char(0)", "uca_load: argument 3 has a zero byte"),
+        (f"'{TABLE}', '{DATA}', '', '', 'Unchecked'", f"uca_load: the fifth argument {NO_FINGERPRINT}, and not 'unchecked'"),
+        (f"'{TABLE}', '{DATA}', '', '', NULL, '{BOOK}'", f"uca_load: the fifth argument {NO_FINGERPRINT}"),
+        (f"'{TABLE}', '{DATA}', '', '', 'unchecked', 'none'", "uca_load: the book 'none': it is not found"),
+        (f"'{TABLE}', '{DATA}', '', '', 'unchecked', '{DATA}'", "uca_load: the book: line 1: Order"),
+        (f"'{TABLE}', '{DATA}', '', '', '{COMPACT}'", f"uca_load: the files and settings have the fingerprint {USED}, and {COMPACT} is wanted"),
+        (f"'{TABLE}', '{DATA}', '', '', '{COMPACT}', NULL", f"uca_load: the files and settings have the fingerprint {USED}, and {COMPACT} is wanted"),
+        (f"'{TABLE}', '{DATA}', '', '', '{USED}', '{BOOK}'", f"uca_load: the files and settings have the fingerprint {COMPACT}, and {USED} is wanted"),
+        (f"'{TABLE}', '{DATA}', '', '', 'unchecked', '{BOOK}', ''", "uca_load: it takes 2 to 6 arguments"),
     ):
         arguments += f", '{DATA}'" if "," not in arguments else ""
         sqlite_fails(work, error, f"SELECT uca_load({arguments});", load="")
+    for arguments, wanted in ((f"'unchecked', '{BOOK}'", COMPACT), (f"'{COMPACT}', '{BOOK}'", COMPACT), ("'unchecked'", USED), ("'unchecked', ''", USED), (f"'{USED}', NULL", USED)):
+        same(sqlite_says(work, f"SELECT uca_load('{TABLE}', '{DATA}', '', '', {arguments});", load=""), wanted + "\n", f"a load of {arguments}")
     shared = f"file:{work}/shared.db?cache=shared"
     sqlite_fails(work, "uca_load: the database has a shared cache", f"SELECT uca_load('{TABLE}', '{DATA}');", load="", database=shared)
     private = shared.replace("shared", "private")
@@ -374,6 +418,7 @@ def sqlite_files(work):
                       (f"{work}/large", "it is too large: more than 64 MiB")):
         sqlite_fails(work, f"uca_load: the table '{path}': {why}", f"SELECT uca_load('{path}', '{DATA}');", load="")
         sqlite_fails(work, f"uca_load: the data file '{path}': {why}", f"SELECT uca_load('{TABLE}', '{path}');", load="")
+        sqlite_fails(work, f"uca_load: the book '{path}': {why}", f"SELECT uca_load('{TABLE}', '{DATA}', '', '', 'unchecked', '{path}');", load="")
     sqlite_fails(work, "uca_load: the table: line 1: ", f"SELECT uca_load('{work}/limit', '{DATA}');", load="")
 
 
@@ -392,6 +437,120 @@ SQLITE_SCHEMAS = [
 ROW = "INSERT INTO words(word) VALUES ('ch');"
 THREE = "INSERT INTO words(word) VALUES ('bz'), ('bh'), ('b');"
 IN_ORDER = f"SELECT group_concat(word, ' ') FROM (SELECT word FROM words ORDER BY uca_key(word, '{USED}'));"
+
+
+# Calls without a fingerprint, and what they make by the small book and without one: hexadecimal digits. By a book there are no ranges of two levels.
+MADE_BY_BOOK = [
+    ("uca_key('')", "03", "000000000000"),
+    ("uca_key('a')", "0A03", "1C4700000020000000020000FFFF"),
+    ("uca_key('Á')", "0A068B8F04A505", "1C470000002000240000000800020000FFFFFFFF"),
+    ("uca_key('b a')", "0C0A02030102", "1C601C470000002000200000000200020000FFFF0209FFFF"),
+    ("uca_key('Á', 1)", "0A00", "1C47"),
+    ("uca_key('Á', 2)", None, "1C47000000200024"),
+    ("uca_range_low('Á', 1)", "0A00", "1C47"),
+    ("uca_range_high('Á', 1)", "0A07", "1C470001"),
+    ("uca_range_low('Á', 2)", None, "1C47000000200024"),
+    ("uca_range_high('Á', 2)", None, "1C470000002000240001"),
+    ("uca_prefix_low('b Á')", "0C0A", "1C601C47"),
+    ("uca_prefix_high('b Á')", "0C0AFF", "1C601C47FFFF"),
+    ("uca_prefix_low('')", "", ""),
+    ("uca_prefix_high('')", "FF", "FFFF"),
+]
+
+
+def with_fingerprint(call, fingerprint):
+    """The call, which names its files by this fingerprint: uca_key('a', 1) is uca_key('a', FINGERPRINT, 1)."""
+    return re.sub(r"^(\w+\((?:CAST\([^()]*\)|[^,()]*))", lambda it: f"{it[1]}, '{fingerprint}'", call)
+
+
+WITH_BOOK = "CREATE TABLE words(word TEXT, key BLOB AS (uca_key(word, '{0}')) STORED, letters BLOB AS (uca_key(word, '{0}', 1)) VIRTUAL);"
+UNIQUE = "CREATE TABLE words(word TEXT); CREATE UNIQUE INDEX i ON words(uca_key(word, '{0}', {1}));"
+
+
+def sqlite_compact(work):
+    """Keys by a book, keys through some levels, and ranges."""
+    small = small_book(work)
+    fingerprint, load = fingerprint_of(TABLE, DATA, book=small), sqlite_load(book=small)
+    for call, compact, whole in MADE_BY_BOOK:
+        named, of_whole = (with_fingerprint(call, it) for it in (fingerprint, USED))
+        if compact is None:
+            error = f"{call.partition('(')[0]}: the files of fingerprint {fingerprint} have a book, so the number of levels is 1"
+            sqlite_fails(work, error, f"SELECT {named};", load=load)
+            named = "NULL"
+        same(sqlite_says(work, f"SELECT hex({named}), hex({of_whole});", load=load + sqlite_load()), f"{compact or ''}|{whole}\n", call)
+    for _, compact, whole in MADE_BY_BOOK[:4]:
+        statement = f"SELECT hex(uca_expand(x'{compact}', '{fingerprint}')), hex(uca_compact(x'{whole}', '{fingerprint}'));"
+        same(sqlite_says(work, statement, load=load), f"{whole}|{compact}\n", statement)
+    for name in ("uca_expand", "uca_compact"):
+        sqlite_fails(work, f"{name}: the files of fingerprint {USED} have no book", f"SELECT {name}(x'0A03', '{USED}');")
+
+
+def sqlite_arguments(work):
+    """What the functions make of NULL, of other types, fingerprints and numbers, and of bytes that are rejected."""
+    small = small_book(work)
+    fingerprint, load = fingerprint_of(TABLE, DATA, book=small), sqlite_load(book=small)
+    for it in ("uca_key", "uca_key {}, 1", "uca_range_low {}, 1", "uca_range_high {}, 1", "uca_prefix_low", "uca_prefix_high", "uca_expand", "uca_compact"):
+        name, _, more = it.partition(" {}")
+        takes_key = name in ("uca_expand", "uca_compact")
+        same(sqlite_says(work, f"SELECT {name}(NULL, '{fingerprint}'{more}) IS NULL;", load=load), "1\n", f"{name} of NULL")
+        given, other, error = ("x'0A03'", "'0A03'", "no blob, so it is no key") if takes_key else ("'a'", "x'61'", "a blob, not a text")
+        sqlite_fails(work, f"{name}: the first argument is {error}", f"SELECT {name}({other}, '{fingerprint}'{more});", load=load)
+        not_loaded = f"{name}: the files of fingerprint {OTHER} are not loaded; loaded: {fingerprint}"
+        for wrong, error in ((OTHER, not_loaded), ("", f"{name}: the second argument {NO_FINGERPRINT}")):
+            for value in (given, "NULL"):
+                sqlite_fails(work, error, f"SELECT {name}({value}, '{wrong}'{more});", load=load)
+    for name in ("uca_key", "uca_range_low", "uca_range_high"):
+        for levels in ("0", "3", "-1", "NULL", "'1'", "1.0", "4294967297"):
+            sqlite_fails(work, f"{name}: the third argument is not 1 or 2", f"SELECT {name}('a', '{fingerprint}', {levels});", load=load)
+    for call, error in (("uca_expand(x'0A')", "NoCompactKey"), ("uca_expand(x'')", "NoCompactKey"), ("uca_compact(x'1C')", "OtherKey"), ("uca_compact(x'')", "OtherKey"),
+                        ("uca_prefix_low(CAST(x'FF' AS TEXT))", "Utf8"), ("uca_range_high(CAST(x'FF' AS TEXT), 1)", "Utf8"), ("uca_key(CAST(x'FF' AS TEXT), 1)", "Utf8")):
+        sqlite_fails(work, f"{call.partition('(')[0]}: {error}", f"SELECT {with_fingerprint(call, fingerprint)};", load=load)
+
+
+# Texts of an index on keys, and what some ranges have of them, in order.
+LOOKED_THROUGH = "('a'), ('Á'), ('ab'), ('A-'), ('Abc'), ('b'), ('ch')"
+LOOKUPS = [("uca_range_{}('A', 1)", "a A- Á"), ("uca_prefix_{}('Ab')", "ab Abc"), ("uca_prefix_{}('c')", ""), ("uca_prefix_{}('')", "a A- Á ab Abc b ch"),
+           ("uca_range_{}('A', 2)", "a A-")]
+# Texts that go into a unique index on keys through so many levels, and one that does not.
+UNIQUES = [(1, "('a'), ('b'), ('ab')", "('Á')"), (2, "('a'), ('á'), ('b')", "('A')")]
+
+
+def without_book(them, book):
+    """All of them, or all but the last one, which is of two levels, where there is a book."""
+    return them[:-1] if book else them
+
+
+def sqlite_books(work):
+    """Where another book or none is loaded, no row goes in, and a dump with rows is not restored."""
+    small, load_it = small_book(work), sqlite_load(book=BOOK)
+    in_order = IN_ORDER.replace(USED, COMPACT)
+    database, restored = f"{work}/book.db", f"{work}/book-restored.db"
+    sqlite_says(work, WITH_BOOK.format(COMPACT), "CREATE INDEX i ON words(key); CREATE INDEX l ON words(letters);", THREE, load=load_it, database=database)
+    dump = sqlite_says(work, ".dump", load=load_it, database=database)
+    for load, loaded in ((sqlite_load(book=small), fingerprint_of(TABLE, DATA, book=small)), (sqlite_load(), USED)):
+        error = f"uca_key: the files of fingerprint {COMPACT} are not loaded; loaded: {loaded}"
+        sqlite_fails(work, error, ROW, load=load, database=database)
+        sqlite_fails(work, error, in_order, load=load, database=database)
+        sqlite_fails(work, error, dump, load=load, database=restored)
+        os.remove(restored)
+    same(sqlite_says(work, dump, in_order, "PRAGMA integrity_check;", load=load_it, database=restored), "b bh bz\nok\n", "a dump of compact keys")
+
+
+def sqlite_lookups(work):
+    """Ranges find texts by an index, and a unique index takes no second text of the same levels, by whole keys and by compact ones."""
+    for book, used in ((None, USED), (BOOK, COMPACT)):
+        load, key = sqlite_load(book=book), f"uca_key(word, '{used}')"
+        for levels, goes_in, error in without_book(UNIQUES, book):
+            made = [UNIQUE.format(used, levels), f"INSERT INTO words VALUES {goes_in};"]
+            sqlite_says(work, *made, load=load)
+            sqlite_fails(work, "UNIQUE constraint failed", *made, f"INSERT INTO words VALUES {error};", load=load)
+        made = [f"CREATE TABLE words(word TEXT); CREATE INDEX i ON words({key});", f"INSERT INTO words VALUES {LOOKED_THROUGH};"]
+        for ends, found in without_book(LOOKUPS, book):
+            low, high = (with_fingerprint(ends.format(it), used) for it in ("low", "high"))
+            query = f"SELECT group_concat(word, ' ') FROM (SELECT word FROM words WHERE {key} >= {low} AND {key} < {high} ORDER BY {key});"
+            same(sqlite_says(work, *made, query, load=load), f"{found}\n", query)
+            if "SEARCH words USING INDEX i (<expr>>? AND <expr><?)" not in sqlite_says(work, *made, f"EXPLAIN QUERY PLAN {query}", load=load):
+                raise AssertionError(f"a query without its index: {query}")
 
 
 NEW_TABLE = f"""
@@ -467,7 +626,7 @@ def sqlite_memory(work):
     """Each allocation fails in turn."""
     sqlite_says(work, "SELECT 1;")
     run(["gcc", "-O2", "-std=c11", "-Wall", "-Wextra", "-Werror", "-o", f"{work}/memory", f"{TOP}/bindings/sqlite/memory.c", "-lsqlite3", "-ldl"])
-    run([f"{work}/memory", f"{TOP}/bindings/sqlite/out/uca", TABLE, DATA, USED])
+    run([f"{work}/memory", f"{TOP}/bindings/sqlite/out/uca", TABLE, DATA, USED, BOOK, COMPACT])
 
 
 SQLITE_PAGE = re.compile(r"^### In SQLite\n(.*?)^### ", re.S | re.M)
@@ -489,20 +648,22 @@ def database_made_before(path):
         made.executescript(MADE_BEFORE)
 
 
-def page_statements(work, database, block):
+def page_statements(work, database, block, load=sqlite_load(TAILORED)):
     """Statements of docs/BINDINGS.md print what their comments show."""
     ran = subprocess.run(["sqlite3", "-bail", f"{work}/{database}"], input=block, capture_output=True, text=True, cwd=TOP)
     same(ran.stderr, "", f"errors of {block}")
     same(ran.stdout.splitlines(), re.findall(r"^-- (.*)", block, re.M), f"the page's statements {block}")
-    same(sqlite_says(work, sqlite_load(TAILORED), "PRAGMA integrity_check;", database=f"{work}/{database}"), "ok\n", database)
+    same(sqlite_says(work, load, "PRAGMA integrity_check;", database=f"{work}/{database}"), "ok\n", database)
 
 
 def sqlite_page(work):
-    """The statements of docs/BINDINGS.md: the first ones, those after a change of files, and those for a database that was made before."""
+    """The statements of docs/BINDINGS.md: the first ones, those with a book, those after a change of files, and those for a database that was made
+    before."""
     text = SQLITE_PAGE.search(content(f"{TOP}/docs/BINDINGS.md").decode()).group(1)
-    first, changed, before = re.findall(r"```sql\n(.*?)```", text, re.S)
+    first, with_book, changed, before = re.findall(r"```sql\n(.*?)```", text, re.S)
     sqlite_says(work, "SELECT 1;")
     page_statements(work, "page.db", first)
+    page_statements(work, "book.db", with_book, load=sqlite_load(book=BOOK))
     page_statements(work, "page.db", changed)
     database_made_before(f"{work}/before.db")
     sqlite_fails(work, "wrong number of arguments to function uca_key()", "SELECT word FROM words;", database=f"{work}/before.db")
@@ -514,8 +675,13 @@ def sqlite_page(work):
         sqlite_fails(work, "CHECK constraint failed", made, f"INSERT INTO plain VALUES ('a', {key});")
 
 
+def compacted(program, keys, book):
+    """What `uca compact` prints of what `uca keys` prints, under shifted."""
+    return run([program, "compact", "--weighting", "shifted", book], input=keys)
+
+
 def sqlite_like(program):
-    """Lines ordered by the collation, by the key and by an index are in the order of `uca sort`."""
+    """Lines ordered by the collation, by the key, by the compact key and by an index are in the order of `uca sort`."""
 
     def check(work):
         if not os.path.exists(program):
@@ -525,8 +691,10 @@ def sqlite_like(program):
             wanted = run([program, "sort", "--weighting", "shifted", f"{EXAMPLES}/table.txt", f"{EXAMPLES}/data.txt"], input=text).decode()
             values = ", ".join("('" + it.replace("'", "''") + "')" for it in text.decode().removesuffix("\n").split("\n"))
             made = f"CREATE TABLE lines(line TEXT); INSERT INTO lines VALUES {values};"
-            for after in (f"ORDER BY line COLLATE uca_{USED}, rowid", f"ORDER BY uca_key(line, '{USED}'), rowid"):
-                same(sqlite_says(work, made, f"SELECT line FROM lines {after};"), wanted, f"order of {lines}, {after}")
+            load = sqlite_load() + sqlite_load(book=BOOK)
+            for fingerprint in (USED, COMPACT):
+                for after in (f"ORDER BY line COLLATE uca_{fingerprint}, rowid", f"ORDER BY uca_key(line, '{fingerprint}'), rowid"):
+                    same(sqlite_says(work, made, f"SELECT line FROM lines {after};", load=load), wanted, f"order of {lines}, {after}")
             index = f"CREATE INDEX by_order ON lines(line COLLATE uca_{USED});"
             same(sqlite_says(work, made, index, f"SELECT line FROM lines ORDER BY line COLLATE uca_{USED};"), wanted, f"order of {lines} by an index")
 
@@ -562,8 +730,8 @@ def postgresql_programs(work):
 
 
 @contextlib.contextmanager
-def postgresql_server(work, table=f"{EXAMPLES}/table.txt", data=f"{EXAMPLES}/data.txt", more=""):
-    """A server with the extension over these files, what runs statements in it, and its settings."""
+def postgresql_server(work, table=TABLE, data=DATA, book=None, more=""):
+    """A server with the extension over these files, what runs statements in it, and its settings. The small book is beside the files."""
     programs = postgresql_programs(work)
     sys.path.insert(0, f"{EXAMPLES}/databases")
     sys.dont_write_bytecode = True
@@ -574,7 +742,8 @@ def postgresql_server(work, table=f"{EXAMPLES}/table.txt", data=f"{EXAMPLES}/dat
         os.chmod(folder, 0o755)
     for file, name in ((table, "table.txt"), (f"{EXAMPLES}/tailored.txt", "tailored.txt"), (data, "data.txt")):
         shutil.copy(file, f"{room}/{name}")
-    files = "".join(f"uca.{it}_file = '{room}/{it}.txt'\n" for it in ("table", "data"))
+    shutil.copy(small_book(room) if book is None else book, f"{room}/book.txt")
+    files = "".join(f"uca.{it}_file = '{room}/{it}.txt'\n" for it in ("table", "data", "book")[: 2 if book is None else 3])
     settings = f"shared_preload_libraries = 'uca'\n{files}uca.weighting = shifted\n{more}"
     with PostgreSQL(room, settings, programs) as server:
 
@@ -948,22 +1117,152 @@ def postgresql_columns(work):
         same(says(from_index), says("SELECT uca_key('bh');"), "an index-only scan of an index that is made again")
 
 
+# What keeps keys of functions that name no files: each kind of function once.
+KEPT_BY_BOOK = """
+CREATE TABLE words(word text, key bytea GENERATED ALWAYS AS (uca_key(word)) STORED);
+INSERT INTO words VALUES ('b'), ('bh'), ('bz'), ('c');
+CREATE UNIQUE INDEX by_letters ON words(uca_key(word, 1));
+CREATE INDEX by_range ON words(uca_range_low(word, 1)) WHERE uca_range_high(word, 1) > '\\x00';
+CREATE INDEX by_prefix ON words(uca_prefix_low(word), uca_prefix_high(word));
+CREATE INDEX by_whole ON words(uca_expand(uca_key(word)));
+CREATE TABLE copies AS SELECT word, uca_key(word) AS key FROM words;
+CREATE TABLE wholes AS SELECT uca_expand(key) AS key FROM words;
+CREATE INDEX by_compact ON wholes(uca_compact(key));
+CREATE FUNCTION letters(text) RETURNS bytea LANGUAGE sql IMMUTABLE AS 'SELECT public.uca_range_low($1, 1)';
+CREATE INDEX by_function ON copies(letters(word));
+"""
+DEPENDENTS_BY_BOOK = """index|public.by_compact
+index|public.by_function
+index|public.by_letters
+index|public.by_prefix
+index|public.by_range
+index|public.by_whole
+generated column|public.words.key
+"""
+NO_SERVER_BOOK = "ERROR:  uca: the server has no book, so its keys are whole"
+
+
+def postgresql_compact(work):
+    """Keys by a book, keys through some levels, and ranges; and the same by whole keys."""
+    for book in (small_book(work), None):
+        with postgresql_server(work, book=book) as (_, says, _):
+            fingerprint = fingerprint_of(TABLE, DATA, book=book)
+            same(says("SELECT uca_fingerprint(); SELECT fingerprint FROM uca_files;"), f"{fingerprint}\n" * 2, "the fingerprint")
+            made = [(call, compact if book else whole) for call, compact, whole in MADE_BY_BOOK if compact or not book]
+            statements = [f"SELECT upper(encode({call}, 'hex')), {call} = {with_fingerprint(call, fingerprint)};" for call, _ in made]
+            same(says("".join(statements)), "".join(f"{wanted}|t\n" for _, wanted in made), f"keys by {book}")
+            for call in (it[0] for it in MADE_BY_BOOK if it[1] is None and book):
+                for it in (call, with_fingerprint(call, fingerprint)):
+                    same(says(f"SELECT {it};", fails=True), "ERROR:  uca: the server has a book, so the number of levels is 1", it)
+            same(says("SELECT uca_any_key('Áb') = '\\x00' || uca_key('Áb');"), "t\n", f"any key by {book}")
+            postgresql_expand(says, fingerprint, book)
+            postgresql_arguments(says, fingerprint)
+            postgresql_lookups(says, book)
+
+
+def postgresql_expand(says, fingerprint, book):
+    """From compact keys to whole ones and back, or an error where the server has no book."""
+    calls = [(f"uca_expand('\\x{compact}')", whole) for _, compact, whole in MADE_BY_BOOK[:4]] + [(f"uca_compact('\\x{whole}')", compact) for _, compact, whole in MADE_BY_BOOK[:4]]
+    for call, wanted in calls:
+        for it in (call, with_fingerprint(call, fingerprint)):
+            if book:
+                same(says(f"SELECT upper(encode({it}, 'hex'));"), f"{wanted}\n", it)
+            else:
+                same(says(f"SELECT {it};", fails=True), NO_SERVER_BOOK, f"{it} without a book")
+    for call, kind in (("uca_expand('\\x0A')", "NoCompactKey"), ("uca_expand('')", "NoCompactKey"), ("uca_compact('\\x1C')", "OtherKey")):
+        same(says(f"SELECT {call};", fails=True), f"ERROR:  uca: the bytes are rejected: {kind}" if book else NO_SERVER_BOOK, call)
+
+
+def postgresql_arguments(says, fingerprint):
+    """What the functions make of NULL, of other fingerprints and numbers, and of texts that are rejected."""
+    calls = ["uca_key({})", "uca_key({}, 1)", "uca_key('a', NULL::integer)", "uca_range_low({}, 1)", "uca_range_high({}, 1)", "uca_range_low('a', NULL)", "uca_range_high('a', NULL)"]
+    calls = [it.format("NULL") for it in (*calls, "uca_prefix_low({})", "uca_prefix_high({})", "uca_expand({})", "uca_compact({})")]
+    named = [with_fingerprint(it, fingerprint) for it in calls]
+    same(says("".join(f"SELECT {it} IS NULL;" for it in calls + named)), "t\n" * 22, "what is made of NULL")
+    for it in named:
+        for wrong, error in ((f"'{OTHER}'", OTHERS_NAMED), ("NULL", "ERROR:  uca: the fingerprint is NULL")):
+            same(says(f"SELECT {it.replace(repr(fingerprint), wrong)};", fails=True), error, f"{it} by {wrong}")
+    for call in ("uca_key('a', {})", "uca_range_low('a', {})", "uca_range_high('a', {})"):
+        for levels in (0, 3, -1):
+            for it in (call.format(levels), with_fingerprint(call.format(levels), fingerprint)):
+                same(says(f"SELECT {it};", fails=True), f"ERROR:  uca: the number of levels is {levels}, and not 1 or 2", it)
+    same(says(f"SELECT uca_key({RUN_OF_65}, 1);", fails=True), "ERROR:  uca: the text is rejected: LongRun", "letters of a text that is rejected")
+    same(says(f"SELECT uca_prefix_low({LONG});", fails=True), "ERROR:  uca: the text is rejected: TooLong", "the beginning of a text of 180 MB")
+
+
+def postgresql_lookups(says, book):
+    """Ranges find texts by an index, and a unique index takes no second text of the same levels."""
+    says(f"CREATE TABLE words(word text); CREATE INDEX by_key ON words(uca_key(word)); INSERT INTO words VALUES {LOOKED_THROUGH};")
+    for ends, found in without_book(LOOKUPS, book):
+        where = f"uca_key(word) >= {ends.format('low')} AND uca_key(word) < {ends.format('high')}"
+        same(says(f"SELECT string_agg(word, ' ' ORDER BY uca_key(word)) FROM words WHERE {where};"), f"{found}\n", where)
+        plan = says(f"SET enable_seqscan = off; SET enable_bitmapscan = off; EXPLAIN (costs off) SELECT word FROM words WHERE {where};")
+        if not plan.startswith("Index Scan using by_key on words\n  Index Cond: "):
+            raise AssertionError(f"a query without its index: {where}: {plan}")
+    for levels, goes_in, error in without_book(UNIQUES, book):
+        says(f"CREATE TABLE one{levels}(word text); CREATE UNIQUE INDEX ON one{levels}(uca_key(word, {levels})); INSERT INTO one{levels} VALUES {goes_in};")
+        if "duplicate key value violates unique constraint" not in says(f"INSERT INTO one{levels} VALUES {error};", fails=True):
+            raise AssertionError(f"a second text of the same {levels} levels")
+
+
+def postgresql_books(work):
+    """A database whose keys were made by a book, where the server has another book or none."""
+    with postgresql_server(work, book=BOOK) as (server, says, settings):
+        room = os.path.dirname(server.folder)
+        small_book(room)
+        fingerprint = says("SELECT uca_fingerprint();").strip()
+        same(fingerprint, fingerprint_of(TABLE, DATA, book=BOOK), "the fingerprint by general.book")
+        statements = re.search(r"```sql\n(CREATE TABLE names .*?)```", content(f"{TOP}/docs/BINDINGS.md").decode(), re.S).group(1)
+        same(says(statements).splitlines(), re.findall(r"^-- (.*)", statements, re.M), "the page's statements")
+        same(says("SELECT count(*) FROM names; DROP TABLE names;"), "3\n", "the page's table")
+        says(KEPT_BY_BOOK + f"CREATE TABLE named(word text, key bytea CHECK (key = uca_key(word, '{fingerprint}'))); INSERT INTO named VALUES ('b', uca_key('b'));")
+        same(says("SELECT kind, object FROM uca_dependents();"), DEPENDENTS_BY_BOOK, "the dependents")
+        dump = run([f"{server.programs}/pg_dump", "-h", server.folder, "-U", "postgres", "postgres"])
+        same(restored(server, "again", "psql", "-X", given=dump), "", "a restore under the same book")
+        same(says("SELECT count(*) FROM words WHERE key = uca_key(word);", database="again"), "4\n", "its keys")
+        uses = ["uca_key('a')", "uca_key('a', 1)", "uca_any_key('a')", "uca_range_low('a', 1)", "uca_range_high('a', 1)", "uca_prefix_low('a')", "uca_prefix_high('a')"]
+        uses += ["uca_expand('\\x03')", "uca_compact('\\x000000000000')"]
+        for number, other in enumerate((settings.replace("/book.txt", "/small.book"), re.sub("uca.book_file.*\n", "", settings))):
+            server.restart(other)
+            for it in uses:
+                same(says(f"SELECT {it};", fails=True), OTHER_FILES, f"{it} with another book")
+            same(says("INSERT INTO words VALUES ('d');", fails=True), OTHER_FILES, "a row with another book")
+            same(says("INSERT INTO named VALUES ('d', NULL);", fails=True), OTHERS_NAMED, "a row that names its book")
+            restored(server, f"restored{number}", "psql", "-X", given=dump)
+            for it in uses:
+                same(says(f"SELECT {it};", fails=True, database=f"restored{number}"), OTHER_FILES, f"{it} after a restore with another book")
+        server.restart(settings.replace("/book.txt", "/small.book"))
+        same(says("SELECT uca_use_files();", fails=True), KEYS_ARE_KEPT, "uca_use_files() with another book")
+        same(says("SELECT uca_use_files(again => true);"), "7\n", "statements that were run")
+        same(says("SELECT count(*) FROM words WHERE key = uca_key(word); SELECT count(*) FROM copies WHERE key = uca_key(word);"), "4\n0\n", "the keys after them")
+        same(says("SET enable_seqscan = off; SELECT word FROM words WHERE uca_key(word, 1) = uca_key('b-', 1);"), "b\n", "a lookup by letters after them")
+        for file, error in (("none", "the file of uca.book_file cannot be read: No such file or directory"), ("", "uca.book_file does not name a regular file"), ("data.txt", "book line 1: Order")):
+            server.restart(settings.replace("/book.txt", f"/{file}"))
+            same(says("SELECT uca_key('a');", fails=True), f"ERROR:  uca: {error}", f"the book {file}")
+        server.restart(settings.replace("uca.table_file", "uca.no_file").replace("uca.data_file", "uca.none_file"))
+        same(says("SELECT uca_key('a');", fails=True)[:46], "ERROR:  uca: the file of uca.table_file cannot", "a book alone")
+        if "pg_read_all_settings" not in says("CREATE ROLE joe; SET ROLE joe; SHOW uca.book_file;", fails=True):
+            raise AssertionError("a role without rights reads uca.book_file")
+
+
 def postgresql_like(program):
     """Lines ordered by the key and by an index on it are in the order of `uca sort`, and the keys are those of `uca keys`."""
 
     def check(work):
         if not os.path.exists(program):
             raise NotHere(f"there is no {program}")
-        with postgresql_server(work) as (_, says, _):
-            for number, lines in enumerate(LINES):
-                files = ["--weighting", "shifted", f"{EXAMPLES}/table.txt", f"{EXAMPLES}/data.txt"]
-                text = content(f"{EXAMPLES}/{lines}")
-                values = ", ".join("('" + it.replace("'", "''") + "')" for it in text.decode().removesuffix("\n").split("\n"))
-                says(f"CREATE TABLE lines{number}(id serial, line text); INSERT INTO lines{number}(line) VALUES {values};")
-                wanted = run([program, "sort", *files], input=text).decode()
-                same(says(f"SELECT line FROM lines{number} ORDER BY uca_key(line), id;"), wanted, f"order of {lines}")
-                wanted = run([program, "keys", *files], input=text).decode().replace(" ", "")
-                same(says(f"SELECT upper(encode(uca_key(line), 'hex')) FROM lines{number} ORDER BY id;"), wanted, f"keys of {lines}")
+        for book in (None, BOOK):
+            with postgresql_server(work, book=book) as (_, says, _):
+                for number, lines in enumerate(LINES):
+                    files = ["--weighting", "shifted", TABLE, DATA]
+                    text = content(f"{EXAMPLES}/{lines}")
+                    values = ", ".join("('" + it.replace("'", "''") + "')" for it in text.decode().removesuffix("\n").split("\n"))
+                    says(f"CREATE TABLE lines{number}(id serial, line text); INSERT INTO lines{number}(line) VALUES {values};")
+                    wanted = run([program, "sort", *files], input=text).decode()
+                    same(says(f"SELECT line FROM lines{number} ORDER BY uca_key(line), id;"), wanted, f"order of {lines} by {book}")
+                    wanted = run([program, "keys", *files], input=text)
+                    wanted = (compacted(program, wanted, book) if book else wanted).decode().replace(" ", "")
+                    same(says(f"SELECT upper(encode(uca_key(line), 'hex')) FROM lines{number} ORDER BY id;"), wanted, f"keys of {lines} by {book}")
 
     return check
 
@@ -1006,44 +1305,112 @@ def unicode_files(work, program):
     return f"{work}/data.txt", [f"{work}/table.txt", f"{work}/tailored.txt"]
 
 
+def levels_of(key):
+    """Levels 1 and 2 of a key that `uca keys` prints, as digits."""
+    groups = key.split(" ")
+    first = groups.index("0000")
+    second = groups.index("0000", first + 1)
+    return "".join(groups[:first]), "".join(groups[first + 1 : second])
+
+
+def looked_up(program, files, words, keys):
+    """What lookups by some texts have to find, by a search through all keys. Each text has three lists of the numbers of words. These words begin with
+    its letters, have the same letters, or have the same letters and accents."""
+    chosen = random.Random(2)
+    texts = sorted({*(it[: chosen.randint(1, 6)] for it in chosen.sample(words, 60)), *chosen.sample(words, 20), "cafe", "e", "x-y"})
+    its = [levels_of(it) for it in run([program, "keys", *files], input="".join(f"{it}\n" for it in texts).encode()).decode().splitlines()]
+    begin, same_letters, same_accents = ({it: [] for it in kind} for kind in ((it[0] for it in its), (it[0] for it in its), its))
+    for number, (letters, accents) in enumerate(map(levels_of, keys.decode().splitlines()), 1):
+        for length in range(0, len(letters) + 4, 4):
+            if letters[:length] in begin and length <= len(letters):
+                begin[letters[:length]].append(number)
+        if letters in same_letters:
+            same_letters[letters].append(number)
+        if (letters, accents) in same_accents:
+            same_accents[letters, accents].append(number)
+    return [(text, (begin[both[0]], same_letters[both[0]], same_accents[both])) for text, both in zip(texts, its)]
+
+
+def found_lines(lookups, book):
+    """One line for each list of numbers."""
+    return "".join(" ".join(map(str, numbers)) + "\n" for _, lists in lookups for numbers in without_book(lists, book))
+
+
 def over_unicode(program, tried):
-    """One of the four over Unicode's table and over a tailored one, with 100,000 words."""
+    """One of the four over Unicode's table and over a tailored one, with 100,000 words, by whole keys and by compact ones."""
 
     def check(work):
         data, tables = unicode_files(work, program)
-        text = "".join(it + "\n" for it in words(100_000)).encode()
+        its_words = words(100_000)
+        text = "".join(it + "\n" for it in its_words).encode()
         with open(f"{work}/words.txt", "wb") as it:
             it.write(text)
         for table in tables:
-            keys, order = (run([program, command, "--weighting", "shifted", table, data], input=text) for command in ("keys", "sort"))
-            tried(work, table, data, keys, order)
+            files = ["--weighting", "shifted", table, data]
+            keys, order = (run([program, command, *files], input=text) for command in ("keys", "sort"))
+            lookups = looked_up(program, files, its_words, keys)
+            for book, its_keys in ((None, keys.replace(b" ", b"")), (BOOK, compacted(program, keys, BOOK))):
+                tried(work, table, data, book, its_keys.decode(), order.decode(), lookups)
 
     return check
 
 
-def c_words(work, table, data, keys, order):
-    same(run([f"{C}/out/keys", table, data, "shifted"], input=content(f"{work}/words.txt")), keys, f"keys over {table}")
+def c_words(work, table, data, book, keys, order, lookups):
+    if not book:
+        found = run([f"{C}/out/keys", table, data, "shifted"], input=content(f"{work}/words.txt"))
+        same(found.decode().replace(" ", ""), keys, f"keys over {table}")
 
 
-def python_words(work, table, data, keys, order):
-    said = run([sys.executable, "-c", SORTER, table, data, "shifted", "weights", fingerprint_of(table, data)], input=content(f"{work}/words.txt"), env=python_environment())
-    same(said, order, f"order over {table}")
+def python_words(work, table, data, book, keys, order, lookups):
+    arguments = [table, data, "shifted", "weights", fingerprint_of(table, data, book=book), book or ""]
+    given = {"input": content(f"{work}/words.txt"), "env": python_environment()}
+    same(run([sys.executable, "-c", SORTER, *arguments], **given).decode(), order, f"order over {table} by {book}")
+    found = run([sys.executable, "-c", LOOKER, *arguments, *(text for text, _ in lookups)], **given).decode()
+    same(found, keys + found_lines(lookups, book), f"keys and lookups over {table} by {book}")
 
 
-def sqlite_words(work, table, data, keys, order):
-    load, fingerprint = sqlite_load(table, data), fingerprint_of(table, data)
-    key = f"uca_key(word, '{fingerprint}')"
+def quoted(text):
+    """The text in a statement of SQL."""
+    return "'" + text.replace("'", "''") + "'"
+
+
+def sqlite_words(work, table, data, book, keys, order, lookups):
+    load, fingerprint = sqlite_load(table, data, book=book), fingerprint_of(table, data, book=book)
+    key, database = f"uca_key(word, '{fingerprint}')", f"{tempfile.mkdtemp(dir=work)}/words.db"
     made = ["CREATE TABLE words(word TEXT);", ".mode tabs", f".import {work}/words.txt words", ".mode list", f"CREATE INDEX by_key ON words({key});"]
+    sqlite_says(work, *made, load=load, database=database)
     for after in (f"{key}, rowid", f"word COLLATE uca_{fingerprint}, rowid"):
-        same(sqlite_says(work, *made, f"SELECT word FROM words ORDER BY {after};", load=load), order.decode(), f"order by {after} over {table}")
-    same(sqlite_says(work, *made, f"SELECT hex({key}) FROM words ORDER BY rowid;", load=load), keys.decode().replace(" ", ""), f"keys over {table}")
+        same(sqlite_says(work, f"SELECT word FROM words ORDER BY {after};", load=load, database=database), order, f"order by {after} over {table}")
+    same(sqlite_says(work, f"SELECT hex({key}) FROM words ORDER BY rowid;", load=load, database=database), keys, f"keys over {table}")
+    queries = []
+    for text, _ in lookups:
+        for ends in without_book(["uca_prefix_{}({}, '{}')", "uca_range_{}({}, '{}', 1)", "uca_range_{}({}, '{}', 2)"], book):
+            low, high = (ends.format(it, quoted(text), fingerprint) for it in ("low", "high"))
+            queries.append(f"SELECT coalesce(group_concat(n, ' '), '') FROM (SELECT rowid AS n FROM words WHERE {key} >= {low} AND {key} < {high} ORDER BY rowid);")
+    same(sqlite_says(work, "".join(queries), load=load, database=database), found_lines(lookups, book), f"lookups over {table} by {book}")
+    unique = f"CREATE TABLE one(word TEXT); CREATE UNIQUE INDEX by_letters ON one(uca_key(word, '{fingerprint}', 1)); INSERT INTO one VALUES ('Café');"
+    sqlite_fails(work, "UNIQUE constraint failed: index 'by_letters'", unique, "INSERT INTO one VALUES ('CAFÉ');", load=load)
+    size = sqlite_says(work, "SELECT sum(pgsize) FROM dbstat WHERE name = 'by_key';", load=load, database=database).strip()
+    print(f"SQLite, {os.path.basename(table)}: an index on {'compact' if book else 'whole'} keys of 100,000 words has {size} bytes")
 
 
-def postgresql_words(work, table, data, keys, order):
-    with postgresql_server(work, table, data) as (_, says, _):
-        says(f"CREATE TABLE words(id serial, word text); COPY words(word) FROM STDIN;\n{content(f'{work}/words.txt').decode()}\\.\nCREATE INDEX by_key ON words(uca_key(word), id);")
-        same(says("SELECT word FROM words ORDER BY uca_key(word), id;"), order.decode(), f"order over {table}")
-        same(says("SELECT upper(encode(uca_key(word), 'hex')) FROM words ORDER BY id;"), keys.decode().replace(" ", ""), f"keys over {table}")
+def postgresql_words(work, table, data, book, keys, order, lookups):
+    with postgresql_server(work, table, data, book) as (_, says, _):
+        says(f"CREATE TABLE words(id serial, word text); COPY words(word) FROM STDIN;\n{content(f'{work}/words.txt').decode()}\\.\n"
+             "CREATE INDEX by_key_and_id ON words(uca_key(word), id); CREATE INDEX by_key ON words(uca_key(word));")
+        same(says("SELECT word FROM words ORDER BY uca_key(word), id;"), order, f"order over {table}")
+        same(says("SELECT upper(encode(uca_key(word), 'hex')) FROM words ORDER BY id;"), keys, f"keys over {table}")
+        queries = []
+        for text, _ in lookups:
+            for ends in without_book(["uca_prefix_{}({})", "uca_range_{}({}, 1)", "uca_range_{}({}, 2)"], book):
+                low, high = (ends.format(it, quoted(text)) for it in ("low", "high"))
+                queries.append(f"SELECT coalesce(string_agg(id::text, ' ' ORDER BY id), '') FROM words WHERE uca_key(word) >= {low} AND uca_key(word) < {high};")
+        same(says("SET enable_seqscan = off;" + "".join(queries)), found_lines(lookups, book), f"lookups over {table} by {book}")
+        unique = "CREATE TABLE one(word text); CREATE UNIQUE INDEX by_letters ON one(uca_key(word, 1)); INSERT INTO one VALUES ('Café'); INSERT INTO one VALUES ('CAFÉ');"
+        if "duplicate key value violates unique constraint" not in says(unique, fails=True):
+            raise AssertionError(f"CAFÉ beside Café over {table} by {book}")
+        size = says("SELECT pg_relation_size('by_key');").strip()
+        print(f"PostgreSQL, {os.path.basename(table)}: an index on {'compact' if book else 'whole'} keys of 100,000 words has {size} bytes")
 
 
 def main():
@@ -1054,11 +1421,13 @@ def main():
         sys.exit(f"there is no {ARCHIVE}: run `tools/build.py uca_c` first")
     checks = [("make", make), ("valgrind", valgrind), ("sanitizers", sanitizers), ("header in C++", header), ("exported names", exports),
               ("installation", installed), ("stored run", stored_run), ("docs/BINDINGS.md", page), ("keys", keys_like(program)), ("Python", python), ("Python under valgrind", python_valgrind), ("wheel", wheel), ("sort", sorted_like(program)), ("SQLite", sqlite),
-              ("SQLite's loads", sqlite_loads), ("SQLite's files", sqlite_files), ("SQLite's schemas", sqlite_schemas), ("SQLite's restores", sqlite_restore),
+              ("SQLite's loads", sqlite_loads), ("SQLite's files", sqlite_files), ("SQLite's compact keys", sqlite_compact), ("SQLite's arguments", sqlite_arguments),
+              ("SQLite's books", sqlite_books), ("SQLite's lookups", sqlite_lookups), ("SQLite's schemas", sqlite_schemas), ("SQLite's restores", sqlite_restore),
               ("SQLite's attached databases", sqlite_attached), ("SQLite's threads", sqlite_threads), ("SQLite's memory", sqlite_memory), ("SQLite on the page", sqlite_page), ("SQLite's orders", sqlite_like(program)),
               ("PostgreSQL", postgresql), ("PostgreSQL's settings", postgresql_settings), ("PostgreSQL's dumps", postgresql_dumps),
               ("PostgreSQL's replication", postgresql_replication), ("PostgreSQL's changes", postgresql_changes), ("PostgreSQL's roles", postgresql_roles),
-              ("PostgreSQL's owners", postgresql_owners), ("PostgreSQL's dependents", postgresql_dependents), ("PostgreSQL's columns", postgresql_columns), ("PostgreSQL's orders", postgresql_like(program))]
+              ("PostgreSQL's owners", postgresql_owners), ("PostgreSQL's dependents", postgresql_dependents), ("PostgreSQL's columns", postgresql_columns), ("PostgreSQL's compact keys", postgresql_compact),
+              ("PostgreSQL's books", postgresql_books), ("PostgreSQL's orders", postgresql_like(program))]
     tried = {"C": c_words, "Python": python_words, "SQLite": sqlite_words, "PostgreSQL": postgresql_words}
     checks += [(f"100,000 words in {name}", over_unicode(program, it)) for name, it in tried.items()]
     passed = failed = skipped = 0

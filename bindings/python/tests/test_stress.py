@@ -15,28 +15,32 @@ import warnings
 from concurrent.futures import ThreadPoolExecutor
 
 import uca
-from test_uca import DATA, TABLE, WITHOUT_LOCK, ran
+from test_uca import BOOK, DATA, TABLE, WITHOUT_LOCK, ran
 
 SECONDS = float(os.environ.get("UCA_STRESS_SECONDS") or 10)
 THREADS = 8
 
 
 class Wanted:
-    """The keys and comparisons of some texts, by a collator of its own."""
+    """The keys, ranges and comparisons of some texts, by a collator of its own."""
 
-    def __init__(self, texts):
-        self.texts = texts
-        with uca.Collator(TABLE, DATA) as alone:
+    def __init__(self, texts, book=None):
+        self.texts, self.book = texts, book
+        with uca.Collator(TABLE, DATA, book=book) as alone:
             self.keys = {it: alone.key(it) for it in texts}
+            self.ranges = {it: alone.range(it) for it in texts}
             self.comparisons = {(left, right): alone.compare(left, right) for left in texts for right in texts}
 
     def is_same(self, collator, chosen):
-        """One key and one comparison of chosen texts."""
+        """One key, one comparison and one range of chosen texts, and with a book the whole key of a compact one."""
         left, right = chosen.choice(self.texts), chosen.choice(self.texts)
-        return collator.key(left) == self.keys[left] and collator.compare(left, right) == self.comparisons[left, right]
+        if self.book and collator.compact(collator.expand(self.keys[right])) != self.keys[right]:
+            return False
+        return (collator.key(left), collator.compare(left, right), collator.range(right)) == (self.keys[left], self.comparisons[left, right], self.ranges[right])
 
 
 SHORT = Wanted(["a", "b", "A", "\u00e1", "a b", "", "ab", "ba"])
+GROWING_COMPACT = Wanted([letter * 3**power for power in range(9) for letter in ("\u00e1", "a b")], BOOK)
 GROWING = Wanted([letter * 3**power for power in range(9) for letter in ("a", "b\u0301", "\u4e00")])
 
 
@@ -57,7 +61,7 @@ def threads(work):
 
 
 class Stress(unittest.TestCase):
-    CASES = 8
+    CASES = 9
 
     def setUp(self):
         self.stop = time.monotonic() + SECONDS / self.CASES
@@ -84,7 +88,7 @@ class Stress(unittest.TestCase):
         """Threads share a new collator, again and again."""
         for _ in self.rounds():
             round_stop = min(self.stop, time.monotonic() + 0.1)
-            with uca.Collator(TABLE, DATA) as collator:
+            with uca.Collator(TABLE, DATA, book=wanted.book) as collator:
 
                 def work(number):
                     chosen = random.Random(number)
@@ -105,6 +109,10 @@ class Stress(unittest.TestCase):
     def test_growing_texts_in_quick_turns(self):
         sys.setswitchinterval(1e-6)
         self.share(GROWING)
+
+    def test_compact_keys_in_quick_turns(self):
+        sys.setswitchinterval(1e-6)
+        self.share(GROWING_COMPACT)
 
     def test_handler_of_a_signal(self):
         with uca.Collator(TABLE, DATA) as collator:
@@ -181,7 +189,7 @@ class Stress(unittest.TestCase):
 
     def test_without_the_interpreter_lock(self):
         run = ran(WITHOUT_LOCK + SOME_CASES, UCA_STRESS_SECONDS=str(SECONDS / self.CASES))
-        self.assertEqual((run.returncode, run.stdout), (0, b"4 run\n"), run.stderr.decode())
+        self.assertEqual((run.returncode, run.stdout), (0, b"5 run\n"), run.stderr.decode())
         self.calls = 1
 
 
@@ -189,7 +197,7 @@ SOME_CASES = """
 import unittest
 import test_stress
 
-names = ["test_growing_texts_in_quick_turns", "test_handler_of_a_signal", "test_closed_meanwhile", "test_forks"]
+names = ["test_growing_texts_in_quick_turns", "test_compact_keys_in_quick_turns", "test_handler_of_a_signal", "test_closed_meanwhile", "test_forks"]
 test_stress.Stress.CASES = len(names)
 result = unittest.TextTestRunner().run(unittest.TestSuite(map(test_stress.Stress, names)))
 print(f"{result.testsRun} run" if result.wasSuccessful() else "failed")

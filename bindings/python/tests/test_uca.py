@@ -40,6 +40,17 @@ core 4E00..9FFF
 other 20000..20FFF
 """
 
+#: The letters a and b have cells of one weight, and so has the space.
+BOOK = b"""@book 1
+1 1C47
+1 1C48
+1 1C60
+1 1C61
+1 2000
+4 0209
+4 020A
+"""
+
 
 #: The beginning of a program that stands for a Python without the interpreter's lock: the module is told so, and its calls of the library let
 #: other threads run meanwhile.
@@ -64,14 +75,25 @@ def fingerprint_of(table, data, weighting, depth):
     return hashlib.sha256("".join(it + "\n" for it in lines).encode()).hexdigest()
 
 
+def compact_fingerprint_of(keys, book):
+    """The fingerprint of compact keys as uca.h says it, from that of the whole keys."""
+    lines = ["uca compact keys 1", f"keys {keys}", f"book {hashlib.sha256(book).hexdigest()}"]
+    return hashlib.sha256("".join(it + "\n" for it in lines).encode()).hexdigest()
+
+
 @contextlib.contextmanager
-def files(table=TABLE, data=DATA):
-    """The paths of both files, in a folder that is removed."""
+def files(table=TABLE, data=DATA, book=BOOK):
+    """The paths of the table and the data file, in a folder that is removed. The folder has the book too."""
     with tempfile.TemporaryDirectory() as folder:
-        paths = [os.path.join(folder, name) for name in ("table.txt", "data.txt")]
-        for path, content in zip(paths, (table, data)):
+        *paths, book_path = [os.path.join(folder, name) for name in ("table.txt", "data.txt", "my.book")]
+        for path, content in zip([*paths, book_path], (table, data, book)):
             write(path, content)
         yield paths
+
+
+def book_beside(path):
+    """The path of the book that is beside a file."""
+    return os.path.join(os.path.dirname(path), "my.book")
 
 
 def write(path, content):
@@ -140,6 +162,191 @@ class Keys(unittest.TestCase):
         table = TABLE + b"0063 ; " + b"[.1C7A.0020.0002]" * 18 + b"\n"
         with uca.Collator(table, DATA, "non-ignorable") as collator:
             self.assertEqual(collator.key("c" * 300), b"\x1c\x7a" * 5400 + b"\0\0" + b"\0\x20" * 5400 + b"\0\0" + b"\0\x02" * 5400)
+
+
+#: whole and compact keys by the book, for each weighting and depth
+COMPACT_KEYS = [
+    ("shifted", False, "", "0000 0000 0000", "03"),
+    ("shifted", False, "a", "1C47 0000 0020 0000 0002 0000 FFFF", "0A 03"),
+    ("shifted", False, "ab", "1C47 1C60 0000 0020 0020 0000 0002 0002 0000 FFFF FFFF", "0A 0C 03"),
+    ("shifted", False, "\u00e1", "1C47 0000 0020 0024 0000 0002 0002 0000 FFFF FFFF", "0A 06 8B 8F 02"),
+    ("shifted", False, "A", "1C47 0000 0020 0000 0008 0000 FFFF", "0A 05 A5 01"),
+    ("shifted", False, " ", "0000 0000 0000 0209", "04 01 01 00"),
+    ("shifted", True, "a", "1C47 0000 0020 0000 0002 0000 FFFF 0000 000061", "0A 03 61"),
+    ("non-ignorable", False, "a", "1C47 0000 0020 0000 0002", "08 02"),
+    ("non-ignorable", False, "\u00e1", "1C47 0000 0020 0024 0000 0002 0002", "08 04 63 67 01"),
+]
+
+
+class CompactKeys(unittest.TestCase):
+    """Keys by a book."""
+
+    def setUp(self):
+        self.collator = uca.Collator(TABLE, DATA, "shifted", book=BOOK)
+        self.addCleanup(self.collator.close)
+
+    def test_values(self):
+        for weighting, identical, text, whole, compact in COMPACT_KEYS:
+            with self.subTest(text=text, weighting=weighting), uca.Collator(TABLE, DATA, weighting, identical, book=BOOK) as collator:
+                self.assertEqual(collator.key(text), hexadecimal(compact))
+                for of in (bytes, bytearray, memoryview):
+                    self.assertEqual(collator.compact(of(hexadecimal(whole))), hexadecimal(compact))
+                    self.assertEqual(collator.expand(of(hexadecimal(compact))), hexadecimal(whole))
+
+    def test_sorted(self):
+        texts = ["b", "\u00e1", "A", "a", "ab", "a b", " ", ""]
+        with uca.Collator(TABLE, DATA) as whole:
+            self.assertEqual(sorted(texts, key=self.collator.key), sorted(texts, key=whole.key))
+            for left, right in itertools.product(texts, repeat=2):
+                self.assertEqual(self.collator.compare(left, right), whole.compare(left, right))
+
+    def test_all_lengths(self):
+        for length in [*range(70), *(2**it + more for it in range(6, 18) for more in (-1, 0, 1))]:
+            key = b"\x0a" * length + b"\x03"
+            self.assertEqual(self.collator.key(b"a" * length), key)
+            self.assertEqual(self.collator.compact(self.collator.expand(key)), key)
+
+    def test_rejected_texts(self):
+        for text, kind in [(b"\xff", "Utf8"), ("a" + "\u0301" * 65, "LongRun"), ("a" * 1048577, "TooLong")]:
+            calls = [lambda: self.collator.key(text), lambda: self.collator.key(text, 1), lambda: self.collator.range(text), lambda: self.collator.prefix_range(text)]
+            for call in calls:
+                with self.assertRaises(uca.TextError) as caught:
+                    call()
+                self.assertEqual(caught.exception.kind, kind)
+
+    def test_bytes_that_are_no_keys(self):
+        for call, given, kind in [
+            (self.collator.expand, "", "NoCompactKey"),
+            (self.collator.expand, "0A", "NoCompactKey"),
+            (self.collator.expand, "0A 03 03", "NoCompactKey"),
+            (self.collator.expand, "0A 00", "NoCompactKey"),
+            (self.collator.compact, "", "OtherKey"),
+            (self.collator.compact, "1C", "OtherKey"),
+            (self.collator.compact, "1C47 0000 0020 0000 0002", "OtherKey"),
+        ]:
+            with self.subTest(given=given), self.assertRaises(uca.StoredKeyError) as caught:
+                call(hexadecimal(given))
+            self.assertEqual((caught.exception.kind, str(caught.exception)), (kind, f"key: {kind}"))
+        for call in (self.collator.expand, self.collator.compact):
+            for given in ("0A03", 5, None, [10, 3], array.array("i", [97])):
+                self.assertRaises(TypeError, call, given)
+
+    def test_no_book(self):
+        with uca.Collator(TABLE, DATA) as collator:
+            for call in (collator.compact, collator.expand):
+                with self.assertRaises(uca.NoBookError) as caught:
+                    call(b"\x0a\x03")
+                self.assertEqual(str(caught.exception), "the collator has no book")
+
+    def test_closed(self):
+        self.collator.close()
+        for call in (self.collator.key, self.collator.range, self.collator.prefix_range, self.collator.expand, self.collator.compact):
+            self.assertRaises(uca.ClosedError, call, b"a")
+
+    def test_rejected_books(self):
+        for book, line, kind in [
+            (b"", 1, "Order"),
+            (b"@book 1\n1 1C48\n1 1C47\n", 3, "Order"),
+            (b"@book 1\n2 1C47\n", 2, "Line"),
+            (b"@book 1\n1 1c47\n", 2, "Weight"),
+            (b"@book 1\n" + b"".join(b"1 %04X\n" % it for it in range(2, 248)), 247, "Limit"),
+        ]:
+            for of in (bytes, bytearray):
+                with self.subTest(line=line, kind=kind), self.assertRaises(uca.FileError) as caught:
+                    uca.Collator(TABLE, DATA, book=of(book))
+                error = caught.exception
+                self.assertEqual((error.role, error.line, error.kind, str(error)), ("book", line, kind, f"book: line {line}: {kind}"))
+        for table, data, role in [(b"x", DATA, "table"), (TABLE, b"x", "data")]:
+            with self.assertRaises(uca.FileError) as caught:
+                uca.Collator(table, data, book=b"x")
+            self.assertEqual(caught.exception.role, role)
+        self.assertRaises(TypeError, uca.Collator, TABLE, DATA, book=5)
+        self.assertRaises(FileNotFoundError, uca.Collator, TABLE, DATA, book="")
+
+    def test_fingerprints(self):
+        whole = fingerprint_of(TABLE, DATA, "shifted", "weights")
+        kept = compact_fingerprint_of(whole, BOOK)
+        self.assertEqual(self.collator.fingerprint, kept)
+        with uca.Collator(TABLE, DATA, book=BOOK, fingerprint=kept) as collator:
+            self.assertEqual(collator.fingerprint, kept)
+        other = BOOK.replace(b"1 2000\n", b"")
+        for book, found in [(None, whole), (other, compact_fingerprint_of(whole, other))]:
+            with self.assertRaises(uca.FingerprintError) as caught:
+                uca.Collator(TABLE, DATA, book=book, fingerprint=kept)
+            self.assertEqual((caught.exception.wanted, caught.exception.found), (kept, found))
+        self.assertRaises(uca.FingerprintError, uca.Collator, TABLE, DATA, "non-ignorable", book=BOOK, fingerprint=kept)
+        self.assertRaises(uca.FingerprintError, uca.Collator, TABLE, DATA, book=BOOK, fingerprint=whole)
+        self.assertRaises(uca.FileError, uca.Collator, TABLE, DATA, book=b"", fingerprint=kept)
+
+
+#: both ends of ranges: of the keys with the same letters (1), the same letters and accents (2), and the same letters at the beginning (None)
+WHOLE_RANGES = [
+    ("a", 1, "1C47", "1C47 0001"),
+    ("\u00c1", 1, "1C47", "1C47 0001"),
+    ("", 1, "", "0001"),
+    ("a", 2, "1C47 0000 0020", "1C47 0000 0020 0001"),
+    ("\u00c1", 2, "1C47 0000 0020 0024", "1C47 0000 0020 0024 0001"),
+    ("ab", None, "1C47 1C60", "1C47 1C60 FFFF"),
+    ("", None, "", "FFFF"),
+]
+COMPACT_RANGES = [
+    ("a", 1, "0A 00", "0A 07"),
+    ("\u00c1", 1, "0A 00", "0A 07"),
+    ("", 1, "00", "07"),
+    ("ab", None, "0A 0C", "0A 0C FF"),
+    ("", None, "", "FF"),
+]
+
+
+class Ranges(unittest.TestCase):
+    """Ranges of keys, and keys through some levels."""
+
+    def collators(self):
+        for book, ranges in ((None, WHOLE_RANGES), (BOOK, COMPACT_RANGES)):
+            with uca.Collator(TABLE, DATA, "shifted", book=book) as collator:
+                yield collator, ranges
+
+    def test_values(self):
+        for collator, ranges in self.collators():
+            for text, levels, low, high in ranges:
+                ends = hexadecimal(low), hexadecimal(high)
+                if levels is None:
+                    self.assertEqual(collator.prefix_range(text), ends)
+                else:
+                    self.assertEqual(collator.range(text, levels), ends)
+                    self.assertEqual(collator.range(text, levels=levels).high, ends[1])
+                    self.assertEqual(collator.key(text, levels), ends[0])
+                    self.assertEqual(collator.key(text, levels=levels), ends[0])
+            self.assertEqual(collator.range("a"), collator.range("a", 1))
+
+    def test_texts_that_are_found(self):
+        texts = ["", " ", "a", "A", "\u00e1", "\u00c1", "a ", "ab", "Ab", "\u00e1b", "abb", "b", "ba", "\u4e00", "a\u4e00"]
+        letters = [("a", ["a", "A", "\u00e1", "\u00c1", "a "]), ("", ["", " "]), ("\u00c1b", ["ab", "Ab", "\u00e1b"])]
+        accents = [("a", ["a", "A", "a "]), ("\u00c1", ["\u00e1", "\u00c1"])]
+        for collator, ranges in self.collators():
+            for text, found, levels in [*((*it, 1) for it in letters), *((*it, 2) for it in accents if ranges is WHOLE_RANGES)]:
+                low, high = collator.range(text, levels)
+                self.assertEqual([it for it in texts if low <= collator.key(it) < high], found)
+                self.assertEqual([it for it in texts if collator.key(it, levels) == collator.key(text, levels)], found)
+            for text, found in [("ab", ["ab", "Ab", "\u00e1b", "abb"]), ("b", ["b", "ba"]), ("", texts), ("\u4e00", ["\u4e00"])]:
+                low, high = collator.prefix_range(text)
+                self.assertEqual([it for it in texts if low <= collator.key(it) < high], found)
+
+    def test_other_levels(self):
+        for collator, _ in self.collators():
+            for call in (collator.key, collator.range):
+                for levels in (0, 3, -1, 2**64):
+                    self.assertRaises(ValueError, call, "a", levels)
+                for levels in ("1", 1.0, b"1"):
+                    self.assertRaises(TypeError, call, "a", levels)
+            self.assertRaises(TypeError, collator.range, "a", None)
+
+    def test_two_levels_with_a_book(self):
+        with uca.Collator(TABLE, DATA, book=BOOK) as collator:
+            for call in (collator.key, collator.range):
+                with self.assertRaises(ValueError) as caught:
+                    call("a", 2)
+                self.assertEqual(str(caught.exception), "levels is 1 where there is a book")
 
 
 class Values(unittest.TestCase):
@@ -282,6 +489,25 @@ class Sharing(unittest.TestCase):
         for text in texts:
             self.assertEqual(self.between_all_steps(lambda: self.collator.key(text), other), keys[text])
             self.assertEqual(self.between_all_steps(lambda: self.collator.compare(text, "ba"), other), comparisons[text])
+        self.assertEqual(wrong, [])
+
+    def test_calls_between_all_steps_with_a_book(self):
+        def made(collator, text):
+            return collator.key(text), collator.range(text), collator.expand(collator.key(text))
+
+        texts = ["\u00e1" * length for length in range(0, 1000, 97)]
+        with uca.Collator(TABLE, DATA, book=BOOK) as alone:
+            wanted = {it: made(alone, it) for it in texts}
+        others, wrong = itertools.cycle(texts), []
+        with uca.Collator(TABLE, DATA, book=BOOK) as collator:
+
+            def other(step):
+                text = next(others)
+                if made(collator, text) != wanted[text]:
+                    wrong.append((step, text))
+
+            for text in texts:
+                self.assertEqual(self.between_all_steps(lambda: made(collator, text), other), wanted[text])
         self.assertEqual(wrong, [])
 
     def test_close_between_all_steps_of_a_call(self):
@@ -548,6 +774,26 @@ class Copies(unittest.TestCase):
             self.assertEqual(copied.key("a"), hexadecimal("1C47 0000 0020 0000 0002"))
             copied.close()
 
+    def test_copies_with_a_book(self):
+        with files() as paths, uca.Collator(*paths, book=book_beside(paths[0])) as collator:
+            for it in copies(collator):
+                self.assertEqual((it.key("a"), it.fingerprint), (b"\x0a\x03", collator.fingerprint))
+                it.close()
+            state = collator.__getstate__()
+            for change, error in changes(book_beside(paths[0]), b"4 020D\n"):
+                change()
+                for it in copies(collator):
+                    self.check_failed(it, error)
+                self.assertRaises(error, collator.__setstate__, state)
+                self.assertEqual(collator.key("a"), b"\x0a\x03")
+
+    def test_copies_that_were_made_before_there_were_books(self):
+        with files() as paths, uca.Collator(*paths) as collator:
+            copied = uca.Collator.__new__(uca.Collator)
+            copied.__setstate__({"_collator": (*paths, None, False, collator.fingerprint)})
+            self.assertEqual((copied.key("a"), copied.fingerprint), (collator.key("a"), collator.fingerprint))
+            copied.close()
+
     def test_a_copy_that_is_collected(self):
         with files() as paths, uca.Collator(*paths) as collator:
             for it in copies(collator):
@@ -591,6 +837,7 @@ class Copies(unittest.TestCase):
     def check_failed(self, collator, error):
         """Each use of a copy that could not be opened raises the error, and another one each time."""
         uses = [lambda: collator.key("a"), lambda: collator.compare("a", "b"), lambda: collator.fingerprint, collator.__getstate__]
+        uses += [lambda: collator.range("a"), lambda: collator.prefix_range("a"), lambda: collator.expand(b""), lambda: collator.compact(b"")]
         uses += [lambda: pickle.dumps(collator), lambda: copy.copy(collator)]
         raised = []
         for use in uses + uses:
@@ -619,11 +866,11 @@ class Copies(unittest.TestCase):
 
     def test_not_copied(self):
         with files() as paths:
-            for arguments in [(TABLE, DATA), (TABLE, paths[1]), (paths[0], bytearray(DATA))]:
-                with uca.Collator(*arguments) as collator:
+            for arguments in [(TABLE, DATA), (TABLE, paths[1]), (paths[0], bytearray(DATA)), (*paths, BOOK)]:
+                with uca.Collator(*arguments[:2], book=(*arguments, None)[2]) as collator:
                     for call in (pickle.dumps, copy.copy, copy.deepcopy):
                         self.assertRaises(TypeError, call, collator)
-                    self.assertEqual(len(collator.key("a")), 14)
+                    self.assertEqual(len(collator.key("a")), 14 if len(arguments) == 2 else 2)
             collator = uca.Collator(*paths)
             collator.close()
             for call in (pickle.dumps, copy.copy, copy.deepcopy):
@@ -636,11 +883,11 @@ class Copies(unittest.TestCase):
             self.assertEqual((collator.fingerprint, len(collator.key("a"))), (kept, 14))
 
 
-def changes(path):
-    """Changes of a file, each with the error of opening it then."""
+def changes(path, more=b"# a comment\n"):
+    """Changes of a file, each with the error of opening it then. One of them adds a line."""
     with open(path, "rb") as it:
         content = it.read()
-    yield lambda: write(path, content + b"# a comment\n"), uca.FingerprintError
+    yield lambda: write(path, content + more), uca.FingerprintError
     yield lambda: write(path, b"x"), uca.FileError
     yield lambda: os.remove(path), FileNotFoundError
 
@@ -676,7 +923,8 @@ def open_others():
 class Errors(unittest.TestCase):
     def test_pickled(self):
         other_files = uca.FingerprintError("0" * 64, "1" * 64)
-        for error in [uca.FileError("table", 3, "Line"), uca.TextError("Utf8"), uca.ClosedError(), other_files, uca.UcaError("x")]:
+        errors = [uca.FileError("table", 3, "Line"), uca.TextError("Utf8"), uca.StoredKeyError("OtherKey"), uca.NoBookError(), uca.ClosedError()]
+        for error in [*errors, other_files, uca.UcaError("x")]:
             for protocol in range(pickle.HIGHEST_PROTOCOL + 1):
                 for found in (pickle.loads(pickle.dumps(error, protocol)), copy.copy(error), copy.deepcopy(error)):
                     self.assertIs(type(found), type(error))
@@ -743,11 +991,13 @@ class Library(unittest.TestCase):
             self.assertIn(it, said)
 
     def test_older(self):
-        calls = ["uca_abi", "uca_version", "uca_collator_size", "uca_open", "uca_key", "uca_compare", "uca_compare_keys", "uca_close"]
-        with self.assertRaises(ImportError) as caught:
-            uca._declare(types.SimpleNamespace(**{it: lambda: None for it in calls}), "/old/libuca.so.1")
-        for it in ("/old/libuca.so.1", "uca_fingerprint", "older", "install"):
-            self.assertIn(it, str(caught.exception))
+        first = ["uca_abi", "uca_version", "uca_collator_size", "uca_open", "uca_key", "uca_compare", "uca_compare_keys", "uca_close"]
+        compact = ["uca_open_compact", "uca_compact_fingerprint", "uca_compact", "uca_expand", "uca_range"]
+        for calls, missing in [(first + compact, "uca_fingerprint"), *((["uca_fingerprint", *first, *compact[:it]], compact[it]) for it in range(5))]:
+            with self.assertRaises(ImportError) as caught:
+                uca._declare(types.SimpleNamespace(**{it: lambda: None for it in calls}), "/old/libuca.so.1")
+            for it in ("/old/libuca.so.1", missing, "older", "install"):
+                self.assertIn(it, str(caught.exception))
 
 
 class Module(unittest.TestCase):

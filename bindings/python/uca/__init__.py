@@ -3,6 +3,8 @@
     with uca.Collator("allkeys.txt", "data.txt") as collator:
         words.sort(key=collator.key)
 
+With a book, keys are compact: Collator("allkeys.txt", "data.txt", book="general.book").
+
 The work is done by libuca.so.1, whose contracts are proved. Nothing is proved of this module. The library is the file that
 the environment's UCA_LIBRARY names, or else the one beside this module, or else the one that the system finds.
 """
@@ -17,7 +19,7 @@ import sys
 import sysconfig
 import threading
 import types
-from typing import Any, Callable, Dict, NamedTuple, Optional, Set, Tuple, Type, TypeVar, Union
+from typing import Any, Callable, Dict, List, NamedTuple, Optional, Set, Tuple, Type, TypeVar, Union
 
 __all__ = [
     "Collator",
@@ -25,6 +27,9 @@ __all__ = [
     "ClosedError",
     "FileError",
     "FingerprintError",
+    "KeyRange",
+    "NoBookError",
+    "StoredKeyError",
     "TextError",
     "UcaError",
     "compare_keys",
@@ -33,11 +38,16 @@ __all__ = [
 
 _ABI = 1
 
-_OK, _CLOSED, _TABLE, _DATA, _MEMORY, _SMALL = 0, 1, 4, 5, 6, 10
+_OK, _CLOSED, _ARGUMENT, _TABLE, _DATA, _MEMORY, _SMALL, _BOOK, _NO_BOOK, _NO_KEY = 0, 1, 3, 4, 5, 6, 10, 11, 12, 13
+_ROLES = {_TABLE: "table", _DATA: "data", _BOOK: "book"}
 _TEXT_ERRORS = {7: "Utf8", 8: "TooLong", 9: "LongRun"}
+_STORED_KEY_ERRORS = {"uca_compact": "OtherKey", "uca_expand": "NoCompactKey"}
 _KINDS = ["", "Line", "Order", "CodePoint", "Weight", "DuplicateKey", "Range", "Limit", "Read", "Memory"]
 _WEIGHTINGS = {None: 0, "non-ignorable": 1, "shifted": 2}
 _MEMORY_KIND = 9
+#: the range of keys whose level 1 begins with some letters; that of as many first levels has their number
+_BEGINS = 3
+_LOW, _HIGH = 0, 1
 
 _UNCHECKED = "unchecked"
 
@@ -55,10 +65,10 @@ class UcaError(Exception):
 
 
 class FileError(UcaError, ValueError):
-    """The table or the data file is rejected."""
+    """The table, the data file or the book is rejected."""
 
     def __init__(self, role: str, line: int, kind: str) -> None:
-        #: "table" or "data"
+        #: "table", "data" or "book"
         self.role = role
         #: the line, counted from 1
         self.line = line
@@ -103,6 +113,25 @@ class ClosedError(UcaError, ValueError):
         return "the collator is closed"
 
 
+class NoBookError(UcaError, ValueError):
+    """The collator has no book, so it knows no compact keys."""
+
+    def __str__(self) -> str:
+        return "the collator has no book"
+
+
+class StoredKeyError(UcaError, ValueError):
+    """The bytes are no key."""
+
+    def __init__(self, kind: str) -> None:
+        #: "OtherKey": no whole key of the weighting and the depth; "NoCompactKey": no whole key has this compact key by the book
+        self.kind = kind
+        super().__init__(kind)
+
+    def __str__(self) -> str:
+        return f"key: {self.kind}"
+
+
 class Comparison(NamedTuple):
     """How two texts or two keys compare."""
 
@@ -110,6 +139,15 @@ class Comparison(NamedTuple):
     order: int
     #: the first level at which they differ, from 1 on, or 0
     level: int
+
+
+class KeyRange(NamedTuple):
+    """A range of keys: those from ``low`` up to, and without, ``high``, as bytes compare."""
+
+    #: no key of the range is less
+    low: bytes
+    #: each key of the range is less
+    high: bytes
 
 
 class _Handle(ctypes.Structure):
@@ -121,8 +159,10 @@ class _Collator(ctypes.Structure):
 
     _fields_ = [("handle", _Handle), ("is_open", ctypes.c_bool)]
 
-    #: the paths of both files (None for bytes), the weighting, and whether it is identical
-    arguments: Tuple[Optional[str], Optional[str], Optional[str], bool] = (None, None, None, False)
+    #: the paths of the table and the data file, and of the book if there is one; None for bytes
+    paths: Tuple[Optional[str], ...] = (None, None)
+    #: the weighting, and whether it is identical
+    settings: Tuple[Optional[str], bool] = (None, False)
     #: the fingerprint, or "" if it was never open
     fingerprint = ""
     #: the error of a use while it is not open: that it is closed, or why a copy could not be opened
@@ -159,16 +199,21 @@ def _loaded(path: str) -> ctypes.PyDLL:
 
 def _declare(library: ctypes.PyDLL, path: str) -> None:
     """Gives the calls of the library their types."""
-    data, size, number = ctypes.c_char_p, ctypes.c_size_t, ctypes.c_uint32
+    data, size, number, out = ctypes.c_char_p, ctypes.c_size_t, ctypes.c_uint32, ctypes.c_void_p
     collator, comparison, error = ctypes.POINTER(_Collator), ctypes.POINTER(_Comparison), ctypes.POINTER(_Error)
-    files = [data, size, data, size, number, number]
+    files, settings, written = [data, size, data, size], [number, number], [out, size, ctypes.POINTER(size)]
     calls = {
         "uca_abi": ([], number),
         "uca_version": ([], number),
         "uca_collator_size": ([], size),
-        "uca_open": ([collator, *files, error], number),
-        "uca_fingerprint": ([*files, ctypes.c_void_p, error], number),
-        "uca_key": ([collator, data, size, ctypes.c_void_p, size, ctypes.POINTER(size)], number),
+        "uca_open": ([collator, *files, *settings, error], number),
+        "uca_open_compact": ([collator, *files, data, size, *settings, error], number),
+        "uca_fingerprint": ([*files, *settings, out, error], number),
+        "uca_compact_fingerprint": ([data, data, size, out], None),
+        "uca_key": ([collator, data, size, *written], number),
+        "uca_compact": ([collator, data, size, *written], number),
+        "uca_expand": ([collator, data, size, *written], number),
+        "uca_range": ([collator, data, size, number, number, *written], number),
         "uca_compare": ([collator, data, size, data, size, comparison], number),
         "uca_compare_keys": ([data, size, data, size, ctypes.c_uint8, comparison], None),
         "uca_close": ([collator], None),
@@ -201,7 +246,7 @@ def _take_turns(library: ctypes.PyDLL) -> None:
     """
     lock = threading.RLock()
     os.register_at_fork(before=lock.acquire, after_in_parent=lock.release, after_in_child=lock.release)
-    for name in ("uca_open", "uca_key", "uca_compare", "uca_close"):
+    for name in ("uca_open", "uca_open_compact", "uca_key", "uca_compact", "uca_expand", "uca_range", "uca_compare", "uca_close"):
         setattr(library, name, _in_turn(getattr(library, name), lock))
 
 
@@ -266,7 +311,7 @@ def _check_files(status: int, error: _Error) -> None:
     if status == _MEMORY or error.kind == _MEMORY_KIND:
         raise MemoryError
     if status != _OK:
-        raise FileError({_TABLE: "table", _DATA: "data"}[status], error.line, _KINDS[error.kind])
+        raise FileError(_ROLES[status], error.line, _KINDS[error.kind])
 
 
 def _check_settings(weighting: Optional[str], identical: bool, fingerprint: str) -> None:
@@ -280,22 +325,54 @@ def _check_settings(weighting: Optional[str], identical: bool, fingerprint: str)
         raise ValueError("fingerprint has 64 lower-case hexadecimal digits")
 
 
+def _opened(files: List[bytes], settings: Tuple[int, int]) -> _Collator:
+    """A collator of the table, the data file, and perhaps the book. It has its fingerprint."""
+    table, data, *books = files
+    first = (table, len(table), data, len(data))
+    digest, error, collator = (ctypes.c_char * 32)(), _Error(), _Collator()
+    _check_files(_library.uca_fingerprint(*first, *settings, digest, error), error)
+    if books:
+        book, whole, digest = books[0], digest, (ctypes.c_char * 32)()
+        _library.uca_compact_fingerprint(whole.raw, book, len(book), digest)
+        _check_files(_library.uca_open_compact(collator, *first, book, len(book), *settings, error), error)
+    else:
+        _check_files(_library.uca_open(collator, *first, *settings, error), error)
+    collator.fingerprint = digest.raw.hex()
+    return collator
+
+
 def _slots(kind: type) -> Set[str]:
     """The names of the slots of a class. Attributes in these are not in ``vars`` of an object."""
     return {name for it in kind.__mro__ for name, member in vars(it).items() if isinstance(member, types.MemberDescriptorType)}
 
 
-def _raise(status: int, collator: _Collator) -> None:
-    """Raises the error of a status of a call with texts."""
+def _raise(status: int, collator: _Collator, name: str) -> None:
+    """Raises the error of a status of the call of this name with texts or keys."""
     if status == _CLOSED:
         raise collator.new_error()
     if status == _MEMORY:
         raise MemoryError
+    if status == _ARGUMENT:
+        raise ValueError("levels is 1 where there is a book")
+    if status == _NO_BOOK:
+        raise NoBookError
+    if status == _NO_KEY:
+        raise StoredKeyError(_STORED_KEY_ERRORS[name])
     raise TextError(_TEXT_ERRORS[status])
 
 
+def _checked_levels(levels: int) -> int:
+    count = operator.index(levels)
+    if count not in (1, 2):
+        raise ValueError("levels is 1 or 2")
+    return count
+
+
 def compare_keys(left: Bytes, right: Bytes, levels: int) -> Comparison:
-    """How two stored keys of so many levels compare: 3, one more under "shifted", and one more at the identical level."""
+    """How two whole keys of so many levels compare: 3, one more under "shifted", and one more at the identical level.
+
+    Compact keys are compared as bytes instead.
+    """
     first, second, count, found = _bytes_of(left), _bytes_of(right), operator.index(levels), _Comparison()
     if not 0 <= count <= 255:
         raise ValueError("levels is a number from 0 to 255")
@@ -304,7 +381,7 @@ def compare_keys(left: Bytes, right: Bytes, levels: int) -> Comparison:
 
 
 class Collator:
-    """A table and a data file, by which texts get their sort keys and are compared.
+    """A table and a data file, by which texts get their sort keys and are compared. With a book, keys are compact.
 
     It has memory of its own until it is closed: by :meth:`close`, at the end of a ``with``, or when it is collected.
 
@@ -316,35 +393,41 @@ class Collator:
     _collator = _CLOSED_COLLATOR
 
     def __init__(
-        self, table: File, data: File, weighting: Optional[str] = None, identical: bool = False, *, fingerprint: str = _UNCHECKED
+        self,
+        table: File,
+        data: File,
+        weighting: Optional[str] = None,
+        identical: bool = False,
+        *,
+        book: Optional[File] = None,
+        fingerprint: str = _UNCHECKED,
     ) -> None:
-        """Reads a table (allkeys.txt) and a data file, which are bytes, or paths of files.
+        """Reads a table (allkeys.txt), a data file and perhaps a book, which are bytes, or paths of files.
 
         ``weighting`` is "non-ignorable" or "shifted", or None for that of the table. With ``identical``, texts that are not
-        canonically equivalent differ, by one more level. ``fingerprint`` is that of stored keys, or "unchecked" if there are none.
+        canonically equivalent differ, by one more level. By a ``book``, keys are compact; None is no book. ``fingerprint`` is that
+        of stored keys, or "unchecked" if there are none.
 
-        Raises :class:`FileError` if the table, or else the data file, is rejected; :class:`FingerprintError` if the fingerprint
-        is another one; MemoryError.
+        Raises :class:`FileError` if the table, or else the data file, or else the book, is rejected; :class:`FingerprintError` if
+        the fingerprint is another one; MemoryError.
         """
-        self._open(table, data, weighting, identical, fingerprint)
+        self._open(table, data, weighting, identical, fingerprint, book)
 
-    def _open(self, table: File, data: File, weighting: Optional[str], identical: bool, fingerprint: str) -> None:
+    def _open(
+        self, table: File, data: File, weighting: Optional[str], identical: bool, fingerprint: str, book: Optional[File] = None
+    ) -> None:
         _check_settings(weighting, identical, fingerprint)
-        (table_bytes, table_path), (data_bytes, data_path) = _read(table), _read(data)
-        files = (table_bytes, len(table_bytes), data_bytes, len(data_bytes), _WEIGHTINGS[weighting], int(identical))
-        digest, error, collator = (ctypes.c_char * 32)(), _Error(), _Collator()
-        _check_files(_library.uca_fingerprint(*files, digest, error), error)
-        collator.fingerprint = digest.raw.hex()
+        files = [_read(it) for it in ((table, data) if book is None else (table, data, book))]
+        collator = _opened([content for content, _ in files], (_WEIGHTINGS[weighting], int(identical)))
         if fingerprint not in (collator.fingerprint, _UNCHECKED):
             raise FingerprintError(fingerprint, collator.fingerprint)
-        _check_files(_library.uca_open(collator, *files, error), error)
-        collator.arguments = (table_path, data_path, weighting, identical)
+        collator.paths, collator.settings = tuple(path for _, path in files), (weighting, identical)
         if vars(self).setdefault("_collator", collator) is not collator:
             raise RuntimeError("a Collator is opened once")
 
     @property
     def fingerprint(self) -> str:
-        """What keys are made by, as 64 hexadecimal digits: both files, the weighting and the depth. Keep it beside stored keys."""
+        """What keys are made by, as 64 hexadecimal digits: all files, the weighting and the depth. Keep it beside stored keys."""
         if not self._collator.fingerprint:
             raise self._collator.new_error()
         return self._collator.fingerprint
@@ -353,10 +436,11 @@ class Collator:
         """What a copy is opened by, and the attributes of a subclass."""
         if not self.is_open:
             raise self._collator.new_error()
-        if None in self._collator.arguments[:2]:
+        table, data, *book = self._collator.paths
+        if None in (table, data, *book):
             raise TypeError("a Collator of bytes cannot be pickled or copied: open it by paths")
         in_slots = {name: getattr(self, name) for name in _slots(type(self)) if hasattr(self, name)}
-        return {**in_slots, **vars(self), "_collator": (*self._collator.arguments, self.fingerprint)}
+        return {**in_slots, **vars(self), "_collator": (table, data, *self._collator.settings, self.fingerprint, *book)}
 
     def __setstate__(self, state: Dict[str, Any]) -> None:
         try:
@@ -374,21 +458,66 @@ class Collator:
             elif name != "_collator":
                 vars(self)[name] = it
 
-    def key(self, text: Text) -> bytes:
-        """The sort key of a text. Keys of one collator compare as bytes as their texts do.
+    def _made(self, name: str, given: bytes, *numbers: int) -> bytes:
+        """What the call of this name writes for these bytes and numbers."""
+        # The room is of this call alone: between any two steps another thread, or a handler of a signal, may make a key.
+        call, out, needed = getattr(_library, name), _room_for(len(given)), ctypes.c_size_t()
+        status = call(self._collator, given, len(given), *numbers, out, len(out), needed)
+        if status == _SMALL:
+            out = ctypes.create_string_buffer(needed.value)
+            status = call(self._collator, given, len(given), *numbers, out, len(out), needed)
+        if status != _OK:
+            _raise(status, self._collator, name)
+        return out[: needed.value]
+
+    def key(self, text: Text, levels: Optional[int] = None) -> bytes:
+        """The sort key of a text, which is compact if there is a book. Keys of one collator compare as bytes as their texts do.
+
+        With ``levels``, 1 or 2, it is the key through so many levels. Two of these are equal exactly if the texts have the same
+        letters (1), or the same letters and accents (2). They compare with each other, and not with other keys. With a book,
+        2 is a ValueError.
 
         Raises :class:`TextError`, :class:`ClosedError` and MemoryError.
         """
-        encoded = _encoded(text)
-        # The room is of this call alone: between any two steps another thread, or a handler of a signal, may make a key.
-        out, needed = _room_for(len(encoded)), ctypes.c_size_t()
-        status = _library.uca_key(self._collator, encoded, len(encoded), out, len(out), needed)
-        if status == _SMALL:
-            out = ctypes.create_string_buffer(needed.value)
-            status = _library.uca_key(self._collator, encoded, len(encoded), out, len(out), needed)
-        if status != _OK:
-            _raise(status, self._collator)
-        return out[: needed.value]
+        if levels is None:
+            return self._made("uca_key", _encoded(text))
+        return self._made("uca_range", _encoded(text), _checked_levels(levels), _LOW)
+
+    def range(self, text: Text, levels: int = 1) -> KeyRange:
+        """The range that has exactly the keys with the same letters as this text (1), or the same letters and accents (2).
+
+        With a book, 2 is a ValueError.
+
+        Raises :class:`TextError`, :class:`ClosedError` and MemoryError.
+        """
+        return self._ends(_encoded(text), _checked_levels(levels))
+
+    def prefix_range(self, text: Text) -> KeyRange:
+        """The range of the keys whose level 1 begins with the letters of this text.
+
+        Of whole keys, it has none in which the weight FFFF comes after these letters. No table has such a letter as a rule.
+
+        Raises :class:`TextError`, :class:`ClosedError` and MemoryError.
+        """
+        return self._ends(_encoded(text), _BEGINS)
+
+    def _ends(self, encoded: bytes, of: int) -> KeyRange:
+        return KeyRange(self._made("uca_range", encoded, of, _LOW), self._made("uca_range", encoded, of, _HIGH))
+
+    def compact(self, key: Bytes) -> bytes:
+        """The compact key of a whole key, by the book.
+
+        Raises :class:`StoredKeyError` if the bytes are no whole key of the weighting and the depth; :class:`NoBookError`;
+        :class:`ClosedError`; MemoryError.
+        """
+        return self._made("uca_compact", _bytes_of(key))
+
+    def expand(self, key: Bytes) -> bytes:
+        """The whole key of a compact key, by the book.
+
+        Raises :class:`StoredKeyError` if no whole key has this compact key; :class:`NoBookError`; :class:`ClosedError`; MemoryError.
+        """
+        return self._made("uca_expand", _bytes_of(key))
 
     def compare(self, left: Text, right: Text) -> Comparison:
         """How two texts compare, without keys.
@@ -398,7 +527,7 @@ class Collator:
         first, second, found = _encoded(left), _encoded(right), _Comparison()
         status = _library.uca_compare(self._collator, first, len(first), second, len(second), found)
         if status != _OK:
-            _raise(status, self._collator)
+            _raise(status, self._collator, "uca_compare")
         return Comparison(found.order, found.level)
 
     def close(self) -> None:
