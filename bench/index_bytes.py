@@ -50,9 +50,11 @@ def sqlite(work):
 def postgresql(environment):
     """A call that makes an index on printed keys in PostgreSQL, and returns how many bytes it has."""
 
+    environment = {**os.environ, **environment, "PGOPTIONS": "-c client_min_messages=warning"}
+
     def psql(*words, given=None):
         words = ["psql", "-qAt", "-v", "ON_ERROR_STOP=1", *words]
-        return subprocess.run(words, check=True, stdout=subprocess.PIPE, input=given, env={**os.environ, **environment}).stdout
+        return subprocess.run(words, check=True, stdout=subprocess.PIPE, input=given, env=environment).stdout
 
     def size_of(keys):
         psql("-c", "drop table if exists k", "-c", "create table k (number bigint generated always as identity, key bytea not null)")

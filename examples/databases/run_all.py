@@ -418,7 +418,8 @@ class SQLiteStore:
         self.bench, self.database = bench, bench.path("upgrade.db")
 
     def query(self, statements):
-        return self.bench.run(["sqlite3", "-bail", self.database, statements])
+        # a program that was killed may hold the database for a moment
+        return self.bench.run(["sqlite3", "-bail", "-cmd", ".timeout 20000", self.database, statements])
 
     def load(self, upgrade, lines, *options):
         if os.path.exists(self.database):
