@@ -54,7 +54,7 @@ cd "$room"
     echo '\o old.book'
     echo 'select book from compact_made_by;'
     echo '\o'
-    echo "select upper(encode(key, 'hex')), number$column from compact_words \\g | \"\$STEP\""
+    echo "select upper(encode(key, 'hex')), number$column from compact_words \\g | bash \"\$STEP\""
     echo 'create temporary table again (key text, number bigint) on commit drop;'
     echo '\copy again from changed'
     echo "update compact_words set key = decode(again.key, 'hex') from again where compact_words.number = again.number;"

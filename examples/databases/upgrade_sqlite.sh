@@ -52,7 +52,7 @@ cd "$room"
     echo '.once old.book'
     echo 'select book from compact_made_by;'
     echo '.separator "\t"'
-    echo ".once '|\"\$STEP\"'"
+    echo ".once '|bash \"\$STEP\"'"
     echo "select hex(key), number$column from compact_words;"
     echo '.read changed'
     echo "update compact_made_by set header = '$header', book = rtrim(cast(readfile('new.book') as text), char(10));"
