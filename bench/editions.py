@@ -20,8 +20,9 @@ import unicodedata
 sys.dont_write_bytecode = True
 sys.path.insert(0, os.path.join(os.path.dirname(os.path.dirname(os.path.realpath(__file__))), "tests", "by_hand"))
 import editions
+import packages
 
-SEED = 20_261_126
+SEED, WORDS = 20_261_126, 200_000
 
 
 class Measured:
@@ -102,6 +103,48 @@ def streams(measured, folder, count):
         print(f"{name}: {seconds - start:.3f} s for {megabytes:.1f} MB, {megabytes / (seconds - start):.0f} MB a second, start {start:.3f} s")
 
 
+def printed(folder, words, given, out):
+    """Writes to a file what a command prints."""
+    with open(folder.file(given), "rb") as source:
+        status, _, said, _ = folder.run(*words, given=source.read(), out=out)
+    if status:
+        sys.exit(f"uca {' '.join(words)}: {said}")
+
+
+def stored(measured, folder):
+    """The table of stored keys of words: made again, mended, and compact ones mended."""
+    if lacking := packages.missing(packages.LISTS):
+        print(f"stored keys are left out, for lack of Debian's {', '.join(lacking)}")
+        return
+    import bindings
+
+    listed = editions.Listed(folder.file("changes.txt"))
+    words = [word for word in bindings.words(WORDS) if not listed.affects(unicodedata.normalize("NFD", word))]
+    with open(folder.file("words"), "w", encoding="utf-8") as file:
+        file.writelines(word + "\n" for word in words)
+    editions.make_books(folder, words)
+    steps = [
+        ("whole", ["keys", "--lines", "old.txt", "old_data.txt"], "words"),
+        ("compact", ["compact", "old.book"], "whole"),
+        ("affected", ["affected", "--changes", "new_data.txt", "changes.txt"], "words"),
+        ("made", ["keys", "--lines", "new.txt", "new_data.txt"], "words"),
+        ("mended", ["rekey", "certificate.txt"], "whole"),
+        ("expanded", ["expand", "old.book"], "compact"),
+        ("moved", ["rekey", "certificate.txt"], "expanded"),
+        ("again", ["compact", "new.book"], "moved"),
+    ]
+    seconds = {}
+    for name, command, given in steps:
+        printed(folder, command, given, name)
+        seconds[name] = measured.least(command, given)[0]
+    print(f"stored keys of {len(words):,} words that are not affected")
+    for what, names in (("keys, made again", ["made"]), ("which are affected", ["affected"]), ("rekey", ["mended"]), ("expand, rekey, compact", ["expanded", "moved", "again"])):
+        print(f"{what}: {sum(seconds[name] for name in names):.2f} s")
+    for old, new in ("whole", "made"), ("compact", "again"):
+        keys = [open(folder.file(name), "rb").read().split(b"\n")[:-1] for name in (old, new)]
+        print(f"{old} keys that stay: {sum(one == other for one, other in zip(*keys)):,}")
+
+
 def main():
     parser = argparse.ArgumentParser(description=__doc__.split("\n")[0])
     parser.add_argument("--uca", default=editions.PROGRAM, help="the program")
@@ -115,6 +158,7 @@ def main():
         tables(measured, words, runs)
         lines(folder, options.lines)
         streams(measured, folder, options.lines)
+        stored(measured, folder)
 
 
 if __name__ == "__main__":

@@ -4,16 +4,17 @@
     examples/databases/run_all.py [EXAMPLE..] [--uca PROGRAM] [--lines COUNT] [--part COUNT]
         [--table FILE --data FILE] [--namespaces]
 
-The examples are sqlite, postgresql, parts, workers, tailoring and page; all of them, unless some are named. `--uca` is the program
+The examples are sqlite, postgresql, parts, workers, tailoring, upgrade and page; all of them, unless some are named. `--uca` is the program
 (crates/uca/out/uca), `--lines` how many lines are made (20,000). Without `--table` and `--data` it makes both of Unicode's files in
-/usr/share/unicode, as docs/UNICODE.md says. It starts a PostgreSQL server and a Dask scheduler of its own and stops them at the end.
+/usr/share/unicode, as docs/UNICODE.md says. The upgrade begins at Unicode 13.0.0, which Perl brings. It starts a PostgreSQL server and a Dask scheduler of its own and stops them at the end.
 It installs nothing. It needs these packages of Debian, and an example without its package has failed: unicode-data, sqlite3,
-postgresql, postgresql-client, python3-distributed. The last line is `N passed, M failed`.
+postgresql, postgresql-client, python3-distributed, perl-modules-5.36. The last line is `N passed, M failed`.
 """
 import argparse
 import contextlib
 import os
 import shutil
+import signal
 import subprocess
 import sys
 import tempfile
@@ -23,8 +24,10 @@ import unicodedata
 HERE = os.path.dirname(os.path.realpath(__file__))
 TOP = os.path.dirname(os.path.dirname(HERE))
 sys.dont_write_bytecode = True
-sys.path.insert(0, HERE)
+sys.path[:0] = [HERE, f"{TOP}/tests/by_hand"]
 
+import editions  # noqa: E402
+import packages  # noqa: E402
 from local_servers import Network, PostgreSQL, Workers  # noqa: E402
 
 MOST_LINES = 1_000_000
@@ -359,6 +362,194 @@ def others_keep_their_order(bench):
     bench.check("tailoring: lines that are not affected keep their order", before == after, f"{other:,} of {given.count(10):,} have another key")
 
 
+# ---- After a new edition
+
+
+class Upgrade:
+    """The files of two editions, lines, and a book that is chosen by their old keys."""
+
+    def __init__(self, bench):
+        if packages.missing(["perl-modules-5.36"]):
+            raise Failed(f"there is no {packages.OLD_KEYS}: Debian has it in the package perl-modules-5.36")
+        self.bench = bench
+        self.old, self.old_data, self.changes, self.certificate, self.book, self.new_book = (
+            bench.path(f"upgrade.{it}") for it in ("table", "data", "changes", "certificate", "old.book", "new.book"))
+        bench.run([sys.executable, f"{TOP}/tools/unicode_files.py", "table", packages.OLD_KEYS], out=self.old)
+        with open(self.old_data, "w", encoding="utf-8") as file:
+            file.write(editions.old_data(bench.content(bench.data).decode()))
+        self.files = [self.old, self.old_data, bench.table, bench.data]
+        bench.run(["uca", "changes", *self.files, self.certificate], out=self.changes)
+        self.lines, self.kept = bench.path("upgrade.lines"), bench.path("upgrade.kept")
+        affected = self.make_lines()
+        keys = bench.uca("keys", self.old, self.old_data, lines=bench.content(self.lines))
+        bench.run([sys.executable, f"{TOP}/examples/books/choose_book.py", self.old], lines=keys, out=self.book)
+        bench.run(["uca", "book", self.certificate, self.book], out=self.new_book)
+        bench.check("upgrade: there are affected lines, and others", 100 < len(affected) < bench.given.lines, f"{len(affected):,} of {self.count:,}")
+
+    def make_lines(self):
+        """Writes the lines of the run with some listed texts among them, and those that are not affected. It returns the affected ones."""
+        texts = [text for text in editions.Listed(self.changes).texts if "\n" not in text][::4]
+        lines = self.bench.content(self.bench.lines) + "".join(f"\"it's\" \\{text}\tx\n" for text in texts).encode()
+        affected = set(self.bench.uca("affected", "--changes", self.bench.data, self.changes, lines=lines).split(b"\n")[:-1])
+        for path, skipped in ((self.lines, set()), (self.kept, affected)):
+            with open(path, "wb") as file:
+                file.writelines(line + b"\n" for line in lines.split(b"\n")[:-1] if line not in skipped)
+        self.count = lines.count(b"\n")
+        return affected
+
+    def arguments(self, mode):
+        return [mode, *self.files, self.changes, self.certificate]
+
+    def state(self, is_new, lines, *options):
+        """What a table of these lines holds under an edition: the header, the book, and each row with its key."""
+        table, data, book = [self.bench.table, self.bench.data, self.new_book] if is_new else [self.old, self.old_data, self.book]
+        keys = self.bench.uca("keys", *options, table, data, lines=self.bench.content(lines))
+        compact = self.bench.uca("compact", *options, book, lines=keys).split()
+        header = self.bench.uca("keys", "--header", *options, table, data, lines=b"")
+        return header + self.bench.content(book) + b"".join(b"%d|%s\n" % row for row in enumerate(compact, 1))
+
+
+class SQLiteStore:
+    """A SQLite database of compact keys. It counts the rows that are written."""
+
+    KIND = "sqlite"
+
+    def __init__(self, bench):
+        self.bench, self.database = bench, bench.path("upgrade.db")
+
+    def query(self, statements):
+        # a program that was killed may hold the database for a moment
+        return self.bench.run(["sqlite3", "-bail", "-cmd", ".timeout 20000", self.database, statements])
+
+    def load(self, upgrade, lines, *options):
+        if os.path.exists(self.database):
+            os.remove(self.database)
+        self.bench.example("load_compact_sqlite.sh", upgrade.old, upgrade.old_data, upgrade.book, lines, self.database, *options)
+        self.query("create table written (number); create trigger notes after update on compact_words begin insert into written values (new.number); end")
+
+    def state(self):
+        return self.query("select header || char(10) || book from compact_made_by; select number, hex(key) from compact_words order by number")
+
+    def written(self):
+        """Which rows were written since they were loaded."""
+        return self.query("select number from written order by number")
+
+    def command(self, arguments, options):
+        return [f"{HERE}/upgrade_sqlite.sh", *arguments, self.database, *options]
+
+
+class PostgreSQLStore:
+    """A table of compact keys in PostgreSQL. It knows which transaction wrote a row."""
+
+    KIND = "postgresql"
+
+    def __init__(self, bench):
+        self.bench, self.loaded = bench, b""
+
+    def query(self, *statements):
+        return self.bench.run(["psql", "-qAtv", "ON_ERROR_STOP=1", *(it for statement in statements for it in ("-c", statement))])
+
+    def load(self, upgrade, lines, *options):
+        self.query("drop table if exists compact_words, compact_made_by")
+        self.bench.example("load_compact_postgresql.sh", upgrade.old, upgrade.old_data, upgrade.book, lines, *options)
+        self.loaded = self.query("select distinct xmin from compact_words").decode().strip()
+
+    def state(self):
+        return self.query("select header || chr(10) || book from compact_made_by", "select number, upper(encode(key, 'hex')) from compact_words order by number")
+
+    def written(self):
+        return self.query(f"select number from compact_words where xmin::text <> '{self.loaded}' order by number")
+
+    def command(self, arguments, options):
+        return [f"{HERE}/upgrade_postgresql.sh", *arguments, *options]
+
+
+def try_upgrade(bench):
+    """Compact keys after a new edition, in one transaction."""
+    upgrade = Upgrade(bench)
+    with PostgreSQL(bench.room) as server:
+        bench.environment.update(server.environment)
+        for store in SQLiteStore(bench), PostgreSQLStore(bench):
+            store.load(upgrade, upgrade.lines)
+            upgrade_errors(bench, upgrade, store)
+            upgrade_is_killed(bench, upgrade, store)
+            store.load(upgrade, upgrade.lines)
+            upgrade_all(bench, upgrade, store, "texts", upgrade.lines)
+            store.load(upgrade, upgrade.kept, "--weighting", "non-ignorable", "--identical")
+            upgrade_all(bench, upgrade, store, "texts", upgrade.kept, "--weighting", "non-ignorable", "--identical")
+            store.load(upgrade, upgrade.kept)
+            store.query("alter table compact_words drop column word")
+            upgrade_all(bench, upgrade, store, "none-affected", upgrade.kept)
+
+
+def changed_rows(before, after):
+    """The numbers of rows that are not the same in two states."""
+    lines = [set(it.split(b"\n")) for it in (before, after)]
+    return b"".join(b"%d\n" % number for number in sorted(int(it.split(b"|")[0]) for it in lines[1] - lines[0] if b"|" in it))
+
+
+def upgrade_all(bench, upgrade, store, mode, lines, *options):
+    """The keys, the header and the book are those of the new edition, and only rows of other bytes were written."""
+    what, wanted = " ".join([store.KIND, mode, *options]), upgrade.state(True, lines, *options)
+    before, begun = store.state(), time.time()
+    bench.run(store.command(upgrade.arguments(mode), options))
+    seconds, after = time.time() - begun, store.state()
+    bench.check(f"upgrade: {what}: before, the old edition's keys", before == upgrade.state(False, lines, *options))
+    bench.check(f"upgrade: {what}: then those that the new edition makes", after == wanted, f"{seconds:.1f} s")
+    changed, written = changed_rows(before, after), store.written()
+    said = f"{changed.count(10):,} of {wanted.count(b'|'):,} rows"
+    bench.check(f"upgrade: {what}: only rows of other bytes are written", changed == written and 0 < changed.count(10) < wanted.count(b"|"), said)
+    upgrade_fails(bench, upgrade, store, f"{what}: a second time", "other files or settings", upgrade.arguments(mode), options)
+
+
+def upgrade_fails(bench, upgrade, store, what, said, arguments, options=()):
+    """The script ends with an error, and changes nothing."""
+    before = store.state()
+    try:
+        bench.run(store.command(arguments, options))
+        bench.check(f"upgrade: {store.KIND}: {what}", False, "no error")
+    except Failed as it:
+        bench.check(f"upgrade: {store.KIND}: {what}", said in str(it) and store.state() == before, str(it)[-120:])
+
+
+def upgrade_errors(bench, upgrade, store):
+    """What the script rejects."""
+    mode, *files, changes, certificate = upgrade.arguments("texts")
+    fewer = bench.path("fewer.changes")
+    with open(fewer, "wb") as file:
+        file.writelines(line for at, line in enumerate(open(upgrade.changes, "rb")) if at != 1)
+    upgrade_fails(bench, upgrade, store, "other settings are seen", "other files or settings", upgrade.arguments(mode), ["--identical"])
+    upgrade_fails(bench, upgrade, store, "other files are seen", "other files or settings", [mode, *files[2:], *files[2:], changes, certificate])
+    upgrade_fails(bench, upgrade, store, "changes without one of the texts are seen", "not accepted", [mode, *files, fewer, certificate])
+    for said, row, back in (
+        ("a text with a line feed is seen", "update compact_words set word = 'a' || {}(10) || 'b' where number = 1", "update compact_words set word = 'a' where number = 1"),
+        ("a key that is none is seen", "insert into compact_words (key, word) select {}, 'a'", "delete from compact_words where number = (select max(number) from compact_words)"),
+    ):
+        is_sqlite = store.KIND == "sqlite"
+        store.query(row.format(("char" if is_sqlite else "chr") if "(10)" in row else "x'FF'" if is_sqlite else "'\\xff'::bytea"))
+        upgrade_fails(bench, upgrade, store, said, "", upgrade.arguments(mode))
+        store.query(back)
+
+
+def upgrade_is_killed(bench, upgrade, store):
+    """The script and all that it started are killed at several moments. Each time the table is as it was, or it is that of the new edition."""
+    command, states = store.command(upgrade.arguments("texts"), []), [upgrade.state(is_new, upgrade.lines) for is_new in (False, True)]
+    begun = time.time()
+    store.load(upgrade, upgrade.lines)
+    bench.run(command)
+    whole, found = time.time() - begun, []
+    for part in range(1, 17):
+        store.load(upgrade, upgrade.lines)
+        process = subprocess.Popen(command, env=bench.environment, start_new_session=True, stdout=subprocess.DEVNULL, stderr=subprocess.DEVNULL)
+        time.sleep(whole * part / 16)
+        os.killpg(process.pid, signal.SIGKILL)
+        process.wait()
+        state = store.state()
+        found.append(states.index(state) if state in states else 2)
+    said = f"{found.count(0)} times the old state, {found.count(1)} times the new one"
+    bench.check(f"upgrade: {store.KIND}: killed in the middle, it leaves a whole state", 2 not in found and found.count(0) > 4, said)
+
+
 # ---- The page
 
 
@@ -378,9 +569,10 @@ def try_page(bench):
 
 # ---- All
 
-EXAMPLES = {"sqlite": try_sqlite, "postgresql": try_postgresql, "parts": try_parts, "workers": try_workers, "tailoring": try_tailoring, "page": try_page}
-WANTED = {"sqlite": {"sqlite3": "sqlite3"}, "tailoring": {"sqlite3": "sqlite3", "psql": "postgresql"}, "postgresql": {"psql": "postgresql"},
-          "workers": {"dask-scheduler": "python3-distributed"}, "page": {"sqlite3": "sqlite3", "psql": "postgresql"}}
+EXAMPLES = {"sqlite": try_sqlite, "postgresql": try_postgresql, "parts": try_parts, "workers": try_workers, "tailoring": try_tailoring, "upgrade": try_upgrade, "page": try_page}
+BOTH = {"sqlite3": "sqlite3", "psql": "postgresql"}
+WANTED = {"sqlite": {"sqlite3": "sqlite3"}, "postgresql": {"psql": "postgresql"}, "workers": {"dask-scheduler": "python3-distributed"},
+          "tailoring": BOTH, "upgrade": BOTH, "page": BOTH}
 
 
 def run_example(bench, name):

@@ -25,10 +25,12 @@ import unicodedata
 import packages
 
 PROGRAM = "crates/uca/out/uca"
-NEEDS, WANTS = ["unicode-data", "perl-modules-5.36"], []
+NEEDS, WANTS = ["unicode-data", "perl-modules-5.36"], [*packages.LISTS]
 AGES = "/usr/share/unicode/DerivedAge.txt"
 OLD_EDITION = (13, 0)
-LINES, PAIRS, SEED = 200_000, 1_000_000, 20_261_126
+LINES, PAIRS, WORDS, SEED = 200_000, 1_000_000, 100_000, 20_261_126
+WEIGHTINGS, DEPTHS = ("shifted", "non-ignorable"), ([], ["--identical"])
+CHOOSER = "examples/books/choose_book.py"
 COUNTS = {True: 0, False: 0}
 
 
@@ -240,14 +242,64 @@ def pairs_compare(folder, kept, chosen, weighting):
 
 def keys_are_mended(folder, kept):
     """`uca rekey` over the old keys of all settings."""
-    for weighting in "shifted", "non-ignorable":
-        for depth in [], ["--identical"]:
+    for weighting in WEIGHTINGS:
+        for depth in DEPTHS:
             for lines in [], ["--lines"]:
                 settings = ["--weighting", weighting, *depth]
                 old, new = (folder.run("keys", *settings, *lines, f"{it}.txt", f"{it}_data.txt", given=as_input(kept))[1] for it in ("old", "new"))
                 status, out, said, seconds = folder.run("rekey", *settings, "certificate.txt", given=old)
                 holds = status == 0 and out == new and out.count(b"\n") == len(kept)
                 see(" ".join(["rekey", *settings, *lines]), holds, said or f"{len(old) / 1e6:.1f} MB in {seconds:.2f} s")
+
+
+# ---- Compact keys
+
+
+def make_books(folder, kept):
+    """A book that is chosen by the old keys of lines, for both weightings, and its image for the new edition."""
+    keys = folder.run("keys", "--weighting", "shifted", "old.txt", "old_data.txt", given=as_input(kept))[1]
+    with open(folder.file("old.book"), "wb") as file:
+        words = [sys.executable, CHOOSER, "--weighting", "both", folder.file("old.txt")]
+        subprocess.run(words, input=keys, stdout=file, stderr=subprocess.DEVNULL, check=True)
+    status, out, said, _ = folder.run("book", "certificate.txt", "old.book", out="new.book")
+    see("the book of the new edition", status == 0, said or "%d starts" % (out.count(b"\n") - 1))
+
+
+def compact_keys(folder, lines, edition, settings):
+    """The compact keys of lines under an edition and its book, as they are printed."""
+    keys = folder.run("keys", *settings, f"{edition}.txt", f"{edition}_data.txt", given=as_input(lines))[1]
+    return folder.run("compact", *settings, f"{edition}.book", given=keys)[1]
+
+
+def compact_keys_are_mended(folder, kind, kept, affected):
+    """Compact keys of all settings: how many stay, and that those of lines that are not affected are mended."""
+    for settings in (["--weighting", weighting, *depth] for weighting in WEIGHTINGS for depth in DEPTHS):
+        name = " ".join([kind, *settings])
+        old, new = (compact_keys(folder, kept, edition, settings) for edition in ("old", "new"))
+        expanded = folder.run("expand", *settings, "old.book", given=old)[1]
+        mended = folder.run("rekey", *settings, "certificate.txt", given=expanded)[1]
+        status, out, said, _ = folder.run("compact", *settings, "new.book", given=mended)
+        see(f"compact keys are mended: {name}", status == 0 and out == new and out.count(b"\n") == len(kept), said or f"{len(kept):,} keys")
+        pairs = [*zip(old.split(), new.split())]
+        again = [*zip(*(compact_keys(folder, affected, edition, settings).split() for edition in ("old", "new")))] if affected else []
+        stay, more = (sum(one == other for one, other in it) for it in (pairs, again))
+        said = f"{stay:,} of {len(kept):,} that are not affected, and {more:,} of {len(affected):,} that are"
+        see(f"compact keys that stay: {name}", 0 < stay <= len(kept) and len(again) == len(affected), said)
+
+
+def words_are_mended(folder, listed):
+    """Compact keys of 100,000 words of nine languages, by books that are chosen by them."""
+    if lacking := packages.missing(WANTS):
+        print(f"not run: compact keys of words, for lack of Debian's {', '.join(lacking)}")
+        return 1
+    import bindings
+
+    words = bindings.words(WORDS)
+    affected = {word for word in words if listed.affects(unicodedata.normalize("NFD", word))}
+    kept = [word for word in words if word not in affected]
+    make_books(folder, kept)
+    compact_keys_are_mended(folder, "words", kept, sorted(affected))
+    return 0
 
 
 def main():
@@ -261,11 +313,15 @@ def main():
         folder = Folder(options.uca, options.keep or temporary)
         make(folder)
         listed = find(folder)
-        kept = split(folder, listed, make_lines(folder, chosen))
-        for weighting in "shifted", "non-ignorable":
+        lines = make_lines(folder, chosen)
+        kept = split(folder, listed, lines)
+        for weighting in WEIGHTINGS:
             pairs_compare(folder, kept, chosen, weighting)
         keys_are_mended(folder, kept)
-    print(f"{COUNTS[True]} passed, {COUNTS[False]} failed")
+        make_books(folder, kept)
+        compact_keys_are_mended(folder, "random lines", kept, sorted({*lines} - {*kept}))
+        skipped = words_are_mended(folder, listed)
+    print(f"{COUNTS[True]} passed, {COUNTS[False]} failed" + (f", {skipped} not run" if skipped else ""))
     return 1 if COUNTS[False] else 0
 
 

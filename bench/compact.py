@@ -1,0 +1,119 @@
+#!/usr/bin/env python3
+"""Measures how fast `uca compact` and `uca expand` are, and `uca keys --compact` beside `uca keys`.
+
+    tools/build.py && bench/compact.py [--runs N]
+    bench/compact.py TABLE DATA LINES ..       a table, a data file, and files of lines
+
+With no arguments the table, the data file and the lines are those of key_bytes.py. The book is examples/books/general.book. Keys are as `keys --lines`
+prints them. MB of key bytes are half of the digits of the whole keys: the tab and the line are not counted, though they are read and written. Times are processor
+time, user and system, the least of the runs, without the start: the same command over an empty input. Each compact key is expanded once, and has to be the key.
+
+Where the program has no option `--compact` of `uca keys`, this is left out, and a line says so. It needs what key_bytes.py needs, but no ICU4C. Run it where
+nothing else runs, and compare figures of one output alone.
+"""
+import argparse
+import os
+import subprocess
+import sys
+import tempfile
+
+TOP = os.path.dirname(os.path.dirname(os.path.realpath(__file__)))
+sys.path.insert(0, f"{TOP}/bench")
+sys.dont_write_bytecode = True
+
+import key_bytes  # noqa: E402
+
+BOOK = f"{key_bytes.BOOKS}/general.book"
+
+
+class Runs:
+    """Runs of the program, each so many times."""
+
+    def __init__(self, program, runs):
+        self.program, self.runs = program, runs
+
+    def once(self, words, given):
+        """The processor time of one run whose input is a file."""
+        with open(given, "rb") as source:
+            child = subprocess.Popen([self.program, *words], stdin=source, stdout=subprocess.DEVNULL)
+            _, status, usage = os.wait4(child.pid, 0)
+        child.returncode = os.waitstatus_to_exitcode(status)
+        if child.returncode:
+            sys.exit(f"uca {' '.join(words)}: status {child.returncode}")
+        return usage.ru_utime + usage.ru_stime
+
+    def seconds(self, words, given):
+        """The least processor time of all runs, without the start."""
+        least = [min(self.once(words, path) for _ in range(self.runs)) for path in (given, os.devnull)]
+        return least[0] - least[1]
+
+    def printed(self, words, given, out):
+        """Writes to a file what a command prints."""
+        with open(given, "rb") as source, open(out, "wb") as file:
+            subprocess.run([self.program, *words], check=True, stdin=source, stdout=file)
+
+
+def same(one, other):
+    return subprocess.run(["cmp", "-s", one, other], check=False).returncode == 0
+
+
+def digits(path):
+    """How many digits the keys of a file have."""
+    with open(path, "rb") as file:
+        return sum(line.index(b"\t") for line in file)
+
+
+def measure(runs, weighting, table, data, lines, work):
+    """A row of the table: the lines of a file under a weighting."""
+    keys, compact, again = (f"{work}/{it}" for it in ("keys", "compact", "again"))
+    make = ["keys", "--lines", "--weighting", weighting]
+    compacting, expanding = ([it, "--weighting", weighting, BOOK] for it in ("compact", "expand"))
+    runs.printed([*make, table, data], lines, keys)
+    runs.printed(compacting, keys, compact)
+    runs.printed(expanding, compact, again)
+    if not same(keys, again):
+        sys.exit(f"{lines}: the keys of the compact keys are others")
+    megabytes = digits(keys) / 2e6
+    making = runs.seconds([*make, table, data], lines)
+    both = [megabytes / runs.seconds(words, given) for words, given in ((compacting, keys), (expanding, compact))]
+    direct = beside_keys(runs, [*make, "--compact", BOOK, table, data], lines, compact, again, making)
+    print(f"| {os.path.basename(lines)} | {weighting} | {megabytes:.1f} | {making:.3f} | {both[0]:.0f} | {both[1]:.0f} | {direct} |", flush=True)
+
+
+def beside_keys(runs, words, lines, compact, out, making):
+    """The time of `keys --compact` divided by that of `keys`. It has to print what `compact` prints."""
+    if not has_option(runs.program):
+        return "not there"
+    runs.printed(words, lines, out)
+    if not same(out, compact):
+        sys.exit(f"{lines}: keys --compact prints others than compact")
+    return f"{runs.seconds(words, lines) / making:.2f}"
+
+
+def has_option(program):
+    said = subprocess.run([program, "keys", "--help"], check=True, stdout=subprocess.PIPE).stdout
+    return b"--compact" in said
+
+
+def main():
+    parser = argparse.ArgumentParser(description=__doc__.split("\n")[0])
+    parser.add_argument("files", nargs="*", metavar="FILE", help="a table, a data file, and files of lines")
+    parser.add_argument("--uca", default=key_bytes.PROGRAM, help="the program")
+    parser.add_argument("--runs", type=int, default=9, help="how often each is run")
+    given = parser.parse_args()
+    if len(given.files) in (1, 2):
+        parser.error("name a table, a data file, and at least one file of lines")
+    runs = Runs(given.uca, given.runs)
+    if not has_option(given.uca):
+        print("keys --compact is left out: this program has no such option")
+    with tempfile.TemporaryDirectory(prefix="uca-compact-") as work:
+        table, data, files = (given.files[0], given.files[1], given.files[2:]) if given.files else key_bytes.given_files(work)
+        print("| Lines | Weighting | Keys, MB | `keys`, s | `compact`, MB a second | `expand`, MB a second | `keys --compact` / `keys` |")
+        print("|---|---|--:|--:|--:|--:|--:|")
+        for weighting in key_bytes.WEIGHTINGS:
+            for path in files:
+                measure(runs, weighting, table, data, path, work)
+
+
+if __name__ == "__main__":
+    main()
