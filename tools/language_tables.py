@@ -13,6 +13,7 @@ from weight_lists import Draft, Element, Weight
 DONE = ("normalization on", "strength 3")
 # Which elements of Unicode's table are at a logical position such as `last primary ignorable`, by whether they have each weight.
 POSITIONS = {"tertiary ignorable": (False, False, False), "secondary ignorable": (False, False, True), "primary ignorable": (False, True, True)}
+FIRST = "\ufdd1"  # CLDR's root has such a place before each group: U+FDD1 and a character of it
 WEIGHTINGS = {"noignore": "non-ignorable", "shifted": "shifted"}
 FIRST_CASES = {"off": "", "upper": "upper", "lower": "lower"}
 
@@ -33,7 +34,7 @@ class Rules:
             self.setting(*item.name.partition(" ")[::2])
         elif isinstance(item, Reset):
             self.before = item.before
-            self.anchor = self.position(item.text) if item.is_position else self.draft.read(item.text)
+            self.anchor = self.position(item.text) if item.is_position else self.group(item.text[1:]) if item.text[:1] == FIRST else self.draft.read(item.text)
         else:
             self.relation(item)
 
@@ -65,6 +66,15 @@ class Rules:
         if not found:
             return [Element(False, [None, None, None])]
         return [(min if end == "first" else max)(found, key=lambda it: [weight.old or 0 if weight else 0 for weight in it.weights]).copy()]
+
+    def group(self, character: str) -> list[Element]:
+        """A place before the group or script of a character, at the end of the one before it."""
+        row = self.draft.rows.get(character)
+        if not row or not isinstance(row[0].weights[0], Weight):
+            raise CldrError(f"U+FDD1 comes before {character!r}, which has no weight of its own")
+        level, group = self.draft.levels[0], row[0].weights[0].group
+        first = next(it for it in level if it.group == group)
+        return [self.draft.element(level.insert(Weight(group=first.before.group or group), first))]
 
     def relation(self, item: Relation):
         """A difference at level 4 is none: CLDR's collations look at three levels."""
@@ -130,6 +140,7 @@ class Made:
         self.tag = tag
         self.draft = Draft(table, data)
         script_order.set_groups(self.draft, script_order.scripts())
+        script_order.make_root(self.draft)
         han_order.begin(self.draft)
         self.rules = Rules(self.draft)
         self.kind = kind_and_rules(cldr, tag.name, is_short)[0]
@@ -152,7 +163,6 @@ class Made:
     def finish(self):
         """Changes what does not depend on single rules."""
         draft, rules = self.draft, self.rules
-        script_order.make_root(draft)
         if rules.first_case:
             script_order.put_case_first(draft, rules.first_case)
         rules.contract()

@@ -10,7 +10,7 @@ perhaps a collation and settings (UTS #35 Part 5, section 3.3): `de-u-co-phonebk
 says that it is well-formed, and accepts the changes from Unicode's table to it. With --short the lists of Chinese are the short ones, which ICU has too.
 
 `rules TAG TABLE` prints rules of a locale or of one of its collations, in the profile that `uca` reads (docs/FORMATS.md). They fit the table that is given: a
-comment at the head names what CLDR says and the profile cannot. The rules are planned and audited before they are printed.
+comment at the head names what CLDR says and the profile cannot. The rules are planned and audited before they are printed. Where they are more than 5,000 relations, --part prints a part: --part 2 is for the table that part 1 made.
 
 `keep SCRIPT TABLE DATA NEW CERTIFICATE` prints changes from one table to another, and writes their certificate. Like `uca changes` does, but the letters of the
 script stay, and the letters that they pass are listed. `uca audit-changes` accepts them before they are printed.
@@ -33,7 +33,7 @@ from typing import NamedTuple
 sys.dont_write_bytecode = True
 import script_order
 import unicode_files
-from cldr_rules import CldrError, Relation, items_of
+from cldr_rules import CldrError, Relation, Reset, items_of
 from kept_changes import kept_changes
 from language_tables import table_of
 from language_tags import read_tag, script_codes
@@ -112,10 +112,26 @@ def write_by(call, path, *given):
 # ---- Rules
 
 
-def translated(options, name, table):
-    """The relations of a locale over a table. A locale of more relations than `uca` takes is not translated at all: None."""
-    items = list(items_of(options.cldr, name))
-    return Translation(items, table) if sum(isinstance(it, Relation) for it in items) <= MOST_RELATIONS else None
+def parts_of(items):
+    """The items in parts of at most as many relations as `uca` takes. A part that begins inside a chain goes on after the target before it."""
+    found, count, last = [[]], 0, ""
+    for item in items:
+        if isinstance(item, Relation):
+            if count == MOST_RELATIONS:
+                found.append([Reset(0, last, False)])
+                count = 0
+            count += 1
+            last = item.prefix + item.target
+        found[-1].append(item)
+    return found
+
+
+def translated(options, name, table, part=None):
+    """The relations of a locale over a table, or of one of its parts. A locale of several parts without a part is not translated: None."""
+    parts = parts_of(items_of(options.cldr, name))
+    if part is not None and not 1 <= part <= len(parts):
+        raise CldrError(f"{name}: there is no part {part}: it has {len(parts)}")
+    return Translation(parts[(part or 1) - 1], table) if part or len(parts) == 1 else None
 
 
 def head(name, translation):
@@ -135,9 +151,9 @@ def rules_of(name, translation):
 
 def print_rules(options):
     tag = read_tag(options.cldr, options.tag, ("co",))
-    translation = translated(options, tag.name, Table(options.table))
+    translation = translated(options, tag.name, Table(options.table), options.part)
     if translation is None:
-        raise CldrError(f"{tag.text}: more than {MOST_RELATIONS} relations, which is more than uca takes. `tools/languages.py table` makes its table")
+        raise CldrError(f"{tag.text}: more than {MOST_RELATIONS} relations, which is more than uca takes at once: take a part by --part 1, or `tools/languages.py table`")
     rules = rules_of(tag.text, translation)
     with tempfile.TemporaryDirectory() as folder:
         data = write_by(unicode_files.print_data, os.path.join(folder, "data"), unicode_files.FOLDER)
@@ -203,6 +219,7 @@ def main():
         command.add_argument("table", help="Unicode's table")
     for command in (table, keep):
         command.add_argument("data", help="the data file")
+    rules.add_argument("--part", type=int, help="a part of more than 5,000 relations: part 2 is for the table that part 1 made")
     table.add_argument("--short", action="store_true", help="the short lists of Chinese")
     keep.add_argument("new", help="the new table")
     keep.add_argument("certificate", help="the file of the certificate, which is replaced")

@@ -1,8 +1,8 @@
 """The order of scripts, CLDR's root, and upper or lower case first, over a Draft. Part of tools/languages.py.
 
 In Unicode's table the primary weights of each script stand together. Before the letters come groups of signs. CLDR's root is that table with some changes
-(UTS #35 Part 5, section 2): numbers that are no digits stand after the currency signs; ₨ and ﷼ are currency signs, and U+10A7F is punctuation; only spaces and
-punctuation are variable. (CLDR also has weights for U+FFFE and U+FFFF, which are no characters. They are not made.)
+(UTS #35 Part 5, section 2). Numbers that are no digits stand after the currency signs. ₨ and ﷼ are currency signs, and U+10A7F is punctuation. Only spaces and
+punctuation are variable. CLDR also has weights for U+FFFE and U+FFFF, which are no characters: these are not made.
 """
 import os
 import unicodedata

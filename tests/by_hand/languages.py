@@ -8,6 +8,7 @@
 
 - Each wrong tag and each broken file of CLDR gets the error that it should, and nothing is printed.
 - CLDR's own test of the root is in order under the table of `und`.
+- The rules of Korean and Japanese in two parts are accepted. The changes that keep Cyrillic letters in a Russian table list no Cyrillic line.
 - For each collation `tools/languages.py table` makes a table. All relations of CLDR hold under it (relations.py): this needs no ICU.
 - Beside ICU: the row of docs/LANGUAGES.md is the same in this run. The page says what the columns are. Without `gcc` and `libicu-dev` this part is not run.
 
@@ -45,7 +46,7 @@ QUICK = ["da", "de-u-co-phonebk", "el", "ja", "ko", "my", "sv", "und-u-co-eor", 
 # Tags with settings.
 SETTINGS = ["da-u-kf-false", "el-u-kf-upper", "en-u-ka-shifted", "en-u-kf-lower", "en-u-kr-grek-digit", "ja-u-kr-latn-kana", "ru-u-kf-upper"]
 SETTINGS += ["sv-u-kf-upper", "und-u-kr-zzzz-latn-symbol", "vi-u-kf-lower", "zh-u-kr-latn-hani"]
-LOCALES = languages.CLDR
+LOCALES, TOOL = languages.CLDR, f"{TOP}/tools/languages.py"
 # CLDR 41 is of Unicode 14. These have other weights since Unicode 15, and the last two have weights in CLDR alone.
 OTHERS = {0x0F82, 0x0F83, 0x101FD, 0x1D89, 0x2B739, 0xFFFE, 0xFFFF}
 TESTS = (("CollationTest_CLDR_NON_IGNORABLE_SHORT.txt", "non-ignorable"), ("CollationTest_CLDR_SHIFTED_SHORT.txt", "shifted"))
@@ -272,6 +273,45 @@ def root_in_order(setup, table, name, weighting):
     return [one for one, below, above in zip(lines[1:], keys, keys[1:]) if above < below], len(lines)
 
 
+# ---- Two tailorings in a row
+
+
+def in_parts(setup, folder, name, see):
+    """Plans and audits the parts of the rules of a locale in a row. The relations have to hold under the last table; of Japanese some are left out."""
+    options, table = argparse.Namespace(uca=setup.uca, cldr=LOCALES), setup.table
+    count = len(languages.parts_of(items_of(LOCALES, name)))
+    for part in range(1, count + 1):
+        inside = os.path.join(folder, f"{name}_{part}")
+        os.mkdir(inside)
+        rules = languages.rules_of(name, languages.translated(options, name, Table(table), part))
+        judged = languages.planned(options, inside, rules, table, setup.data)
+        if judged.error:
+            see(False, f"{name}: part {part} of {count}: {judged.error}")
+            return
+        table = judged.table
+    counts = Relations(list(items_of(LOCALES, name)), lambda lines: keys_of(setup, table, lines), []).count()
+    see(count > 1 and (not counts.failed or name == "ja"), f"{name}: {count} parts are accepted; {counts.hold} relations hold, {len(counts.failed)} do not")
+
+
+# ---- Changes that keep a script
+
+
+def letters_stay(setup, folder, see):
+    """From Unicode's table to that of Russian: the changes that keep Cyrillic list no line of Cyrillic letters alone, and the others do."""
+    text = "".join(f"{it}\n" for it in Made(read_tag(LOCALES, "ru"), setup.table, setup.data, LOCALES).lines())
+    new, certificate = languages.write(os.path.join(folder, "russian"), text), os.path.join(folder, "certificate")
+    lines = [it for it in language_lines.real(LOCALES, "ru", 20_000) if re.fullmatch("[А-Яа-яЁё0-9 -]+", it)]
+    files = [setup.table, setup.data, new, setup.data]
+    for what, words in (("keep Cyrl", [TOOL, "--uca", setup.uca, "keep", "Cyrl", *files[:3], certificate]), ("uca changes", [setup.uca, "changes", *files, certificate])):
+        out, said = languages.run(words)
+        changes = languages.write(os.path.join(folder, "changes"), out)
+        accepted, _ = languages.run([setup.uca, "audit-changes", *files, changes, certificate])
+        affected, _ = languages.run([setup.uca, "affected", "--changes", setup.data, changes], "".join(f"{it}\n" for it in lines))
+        count = affected.count("\n")
+        is_right = count == 0 if what == "keep Cyrl" else count > len(lines) // 2
+        see(not said and accepted == "accepted\n" and is_right, f"ru by {what}: {accepted.strip() or said}, {count} of {len(lines)} Cyrillic lines are affected")
+
+
 # ---- The page
 
 
@@ -364,6 +404,9 @@ def main():
         if not options.names:
             language_errors.test(setup, see)
             root_test(setup, folder, see)
+            in_parts(setup, folder, "ko", see)
+            in_parts(setup, folder, "ja", see)
+            letters_stay(setup, folder, see)
         names = options.names or (QUICK if options.quick else all_names())
         with ProcessPoolExecutor(options.jobs) as pool:
             for it in pool.map(tried, [setup] * len(names), names):

@@ -1,7 +1,7 @@
 """Whether CLDR's relations hold under a table, by the keys that `uca` makes. Part of tests/by_hand/languages.py. It trusts neither the maker of the table nor ICU.
 
 The target of a relation differs from its anchor first at the level of its sign, on its side. If the anchor has one weight at each level, no other character with
-one weight at each level comes between. A relation is not tried in three cases: its anchor is a position such as `[last regular]`; its anchor has new weights later on; or
+one weight at each level comes between. A relation is not tried in three cases: its anchor is a position such as `[last regular]`, or the place before a group; its anchor has new weights later on; or
 its target comes again.
 """
 import bisect
@@ -9,6 +9,7 @@ from typing import NamedTuple
 
 from cldr_rules import Relation, Reset
 from profile_rules import holds as occurs
+from language_tables import FIRST
 from script_order import CASES, case_of_text
 
 LEVELS = 3
@@ -42,7 +43,7 @@ def said_by(items):
     found, anchor, before = [], None, 0
     for item in items:
         if isinstance(item, Reset):
-            anchor, before = None if item.is_position else Text(item.text), item.before
+            anchor, before = None if item.is_position or item.text[0] == FIRST else Text(item.text), item.before
         elif isinstance(item, Relation):
             target = Text(item.target, item.prefix, item.expansion)
             found.append(Said(anchor, target, item.strength % 4, bool(before)))
