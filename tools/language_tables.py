@@ -178,7 +178,11 @@ class Made:
         """The table, with comments at its head."""
         version, *rest = self.draft.lines(han_order.single(self.draft, self.kind))
         yield f"# The order of {self.tag.text}, made from Unicode's table and CLDR's files by tools/languages.py."
-        yield from (version, f"@variable {self.rules.weighting}", *(it for it in rest if not it.startswith("@variable")))
+        yield f"# CLDR takes the weighting {self.rules.weighting} with it."
+        yield version
+        if "ka" in self.tag.settings:
+            yield f"@variable {self.rules.weighting}"
+        yield from (it for it in rest if not ("ka" in self.tag.settings and it.startswith("@variable")))
 
 
 def table_of(tag: Tag, table: str, data: str, cldr: str, is_short: bool = False) -> str:

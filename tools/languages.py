@@ -24,6 +24,7 @@ import argparse
 import contextlib
 import io
 import os
+import re
 import shutil
 import subprocess
 import sys
@@ -86,8 +87,19 @@ def planned(options, folder, rules, table, data):
     return Judged(names["tailored"], "" if out == "accepted\n" else out.strip() or said)
 
 
+def with_setting(folder, text, table):
+    """The given table, with the weighting that a new one names. Tables of two weightings have no changes: all keys differ."""
+    setting = re.search("^@variable .*\n", text, re.M)
+    with open(table, encoding="utf-8") as file:
+        old = file.read()
+    if not setting or setting[0] in old:
+        return table
+    return write(os.path.join(folder, "base"), re.sub("^(@version .*\n)", lambda it: it[0] + setting[0], re.sub("^@variable .*\n", "", old, flags=re.M), flags=re.M))
+
+
 def changed(options, folder, text, table, data):
     """Judges a whole table: it is well-formed, and the changes from the given one are found and accepted."""
+    table = with_setting(folder, text, table)
     uca, new, certificate = program(options), os.path.join(folder, "new"), os.path.join(folder, "certificate")
     write(new, text)
     out, said = run([uca, "check", new, data])

@@ -98,4 +98,4 @@ def test(setup, see):
             rejects(setup, see, ["--cldr", folder, "table", "sv", setup.table, setup.data], wanted)
         os.remove(f"{folder}/collation/root.xml")
         rejects(setup, see, ["--cldr", folder, "table", "sv", setup.table, setup.data], "there is no file collation/root.xml")
-    rejects(setup, see, ["table", "sv", "/none", setup.data], "/none")
+    rejects(setup, see, ["table", "sv", "/none", setup.data], "the table that is given")

@@ -1,8 +1,8 @@
 #!/usr/bin/env python3
 """Tests tools/languages.py: CLDR's relations, the tables and the rules beside ICU, and its errors.
 
-    tests/by_hand/languages.py               all collations of CLDR (ten minutes, with three processors)
-    tests/by_hand/languages.py --quick       some of them, over fewer lines (a minute)
+    tests/by_hand/languages.py               all collations of CLDR (six minutes with --jobs 4, on four processors)
+    tests/by_hand/languages.py --quick       some of them, over fewer lines
     tests/by_hand/languages.py sv zh         these alone
     tests/by_hand/languages.py --page        writes the table of docs/LANGUAGES.md again
 
@@ -33,7 +33,7 @@ import language_errors
 import language_lines
 import languages
 import packages
-from cldr_rules import KINDS, CldrError, Relation, escaped, items_of, kind_and_rules, nfd, rules_text
+from cldr_rules import KINDS, CldrError, Relation, collations, escaped, items_of, kind_and_rules, nfd, rules_text
 from language_tables import Made
 from language_tags import read_tag
 from profile_rules import LEFT_OUT, Table
@@ -55,9 +55,9 @@ TESTS = (("CollationTest_CLDR_NON_IGNORABLE_SHORT.txt", "non-ignorable"), ("Coll
 class Sizes(NamedTuple):
     """How many lines: of the language's letters, of several scripts, and real ones."""
 
-    made: int = 2000
-    mixed: int = 1000
-    real: int = 5000
+    made: int = 1000
+    mixed: int = 500
+    real: int = 1000
 
 
 class Setup(NamedTuple):
@@ -110,8 +110,7 @@ def all_names():
     found, short = [], {kind: key for key, kind in KINDS.items()}
     for file in sorted(os.listdir(os.path.join(LOCALES, "collation"))):
         locale = file.removesuffix(".xml")
-        root = xml.etree.ElementTree.parse(os.path.join(LOCALES, "collation", file)).getroot()
-        kinds = {it.get("type") for it in root.iter("collation") if not it.get("type").startswith("private-")}
+        kinds = {it for it in collations(LOCALES, locale)[0] if not it.startswith("private-")}
         base = "und" if locale == "root" else locale.replace("_", "-")
         default, rules = kind_and_rules(LOCALES, locale)
         found.append(base + ("-u-kb-false" if "[backwards 2]" in rules else ""))
@@ -414,10 +413,10 @@ def main():
                     see(holds, said)
                 if it.row:
                     rows.append(it.row)
-                    if not options.page and not options.quick:
+                    if options.page or options.quick:
+                        print("   ", it.row.line(), flush=True)
+                    else:
                         see(it.row.line() in written, f"docs/LANGUAGES.md has the row {it.row.line()}")
-                    elif not options.page:
-                        print("   ", it.row.line())
         if options.page and not options.names and setup.icu:
             write_page(setup, rows)
     skipped = 0 if setup.icu else len(names)
