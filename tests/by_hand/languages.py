@@ -21,6 +21,7 @@ import re
 import subprocess
 import sys
 import tempfile
+import textwrap
 import xml.etree.ElementTree
 from concurrent.futures import ProcessPoolExecutor
 from typing import NamedTuple
@@ -333,12 +334,15 @@ def version_line(setup):
 
 
 def summary(rows):
-    """What the table comes to."""
-    zeros = [sum(getattr(row, it) == "0" for row in rows) for it in ("made", "made_own", "real_own", "rules")]
-    return (
-        f"{len(rows)} orders. Tables: {zeros[0]} have no line elsewhere beside ICU with the same rules, {zeros[1]} none beside ICU's own order, "
-        f"{zeros[2]} none of the real lines. Rules: {zeros[3]} have none."
-    )
+    """What the table comes to: how many of the compared orders have no line elsewhere."""
+
+    def zeros(field):
+        found = [getattr(row, field) for row in rows if getattr(row, field) not in ("", "not in ICU")]
+        return f"{found.count('0')} of {len(found)}"
+
+    text = f"{len(rows)} orders. No line is elsewhere in {zeros('made')} tables beside ICU with the same rules, and in {zeros('made_own')} beside ICU's own order. "
+    text += f"No real line is elsewhere in {zeros('real_own')}. By `rules` it is so in {zeros('rules')}."
+    return "\n".join(textwrap.wrap(text, 120))
 
 
 def write_page(setup, rows):

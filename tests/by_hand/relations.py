@@ -1,8 +1,8 @@
 """Whether CLDR's relations hold under a table, by the keys that `uca` makes. Part of tests/by_hand/languages.py. It trusts neither the maker of the table nor ICU.
 
 The target of a relation differs from its anchor first at the level of its sign, on its side. If the anchor has one weight at each level, no other character with
-one weight at each level comes between. A relation is not tried in some cases: its anchor is a position such as `[last regular]`, or the place before a group; its anchor has new weights later on; its
-target comes again; or both are one text in Normalization Form D.
+one weight at each level comes between. A relation is not tried in four cases. Its anchor is a position such as `[last regular]`, or the place before a group. Its anchor has new weights later on. Its
+target comes again. Both are one text in Normalization Form D.
 """
 import bisect
 from typing import NamedTuple
