@@ -1,6 +1,5 @@
 """CLDR's collation files: which rules a locale has, and what their text says (UTS #35 Part 5, section 3). Part of tools/languages.py."""
 import os
-import sys
 import unicodedata
 import xml.etree.ElementTree
 from typing import NamedTuple
@@ -13,6 +12,10 @@ STRENGTHS = {"<": 1, "<<": 2, "<<<": 3, "<<<<": 4, "=": 0, ";": 2, ",": 3}
 KINDS = {"phonebk": "phonebook", "trad": "traditional", "dict": "dictionary", "gb2312": "gb2312han"}
 # The parents that are not found by cutting off the last part of a name.
 PARENTS = {"nb": "no", "nn": "no", "sr_Latn": "root", "bs_Cyrl": "root", "ff_Adlm": "root"}
+
+
+class CldrError(Exception):
+    """What is wrong with a language tag, with CLDR's files or with what is asked of them, in words for the user."""
 
 
 class Setting(NamedTuple):
@@ -59,31 +62,44 @@ def chain(locale):
     yield "root"
 
 
-def collations(folder, locale):
-    """The rules of each kind in a locale's file, and the kind that it takes by default."""
+def collations(folder, locale, is_short=False):
+    """The rules of each kind in a locale's file, and the kind that it takes by default. Where a kind has a short list too, `is_short` chooses it."""
     path = os.path.join(folder, "collation", locale + ".xml")
     if not os.path.exists(path):
         return {}, None
-    root = xml.etree.ElementTree.parse(path).getroot()
+    try:
+        root = xml.etree.ElementTree.parse(path).getroot()
+    except (OSError, xml.etree.ElementTree.ParseError) as error:
+        raise CldrError(f"{path}: {error}") from error
     found = {}
     for it in root.iter("collation"):
-        if it.get("alt") is None:
+        unknown = {one.tag for one in it.iter()} - {"collation", "cr"}
+        if unknown:
+            raise CldrError(f"{path}: <{min(unknown)}> in a collation is not known")
+        if it.get("alt") is None or is_short and it.get("alt") == "short":
             found[it.get("type")] = "".join(cr.text or "" for cr in it.iter("cr"))
     default = root.find("collations/defaultCollation")
     return found, None if default is None else default.text
 
 
-def rules_text(folder, name):
+def rules_text(folder, name, is_short=False):
     """The rules of a locale such as `sv` or `de-u-co-phonebk`; the kind is that of the locale where none is named."""
+    return kind_and_rules(folder, name, is_short)[1]
+
+
+def kind_and_rules(folder, name, is_short=False):
+    """The kind of collation of a locale, and its rules."""
     locale, kind = locale_and_kind(name)
-    if not os.path.isdir(os.path.join(folder, "collation")):
-        sys.exit(f"{folder}: no such folder of CLDR. Debian has it in the package unicode-cldr-core.")
-    read = [collations(folder, it) for it in chain(locale)]
+    if not os.path.exists(os.path.join(folder, "collation", "root.xml")):
+        raise CldrError(f"{folder}: there is no file collation/root.xml of CLDR. Debian has it in the package unicode-cldr-core.")
     if locale != "root" and not any(os.path.exists(os.path.join(folder, "collation", f"{it}.xml")) for it in chain(locale) if it != "root"):
-        sys.exit(f"{name}: CLDR has no collation of this name: name a language by its code, such as pl")
-    kind = kind or next(default for _, default in read if default)
+        raise CldrError(f"{name}: CLDR has no collation of this name: name a language by its code, such as pl")
+    read = [collations(folder, it, is_short) for it in chain(locale)]
+    kind = kind or next((default for _, default in read if default), "standard")
     text = next((found[kind] for found, _ in read if kind in found), None)
-    return sys.exit(f"{name}: CLDR has no such collation") if text is None else text
+    if text is None:
+        raise CldrError(f"{name}: CLDR has no such collation")
+    return kind, text
 
 
 # ---- The text of rules
@@ -117,6 +133,8 @@ def escape(text, at):
     """The character of a backslash, and how many characters that takes."""
     digits = {"u": 4, "U": 8}.get(text[at + 1], 0)
     if digits:
+        if len(text) < at + 2 + digits:
+            raise ValueError("an escape without its digits")
         return chr(int(text[at + 2 : at + 2 + digits], 16)), 2 + digits
     return text[at + 1], 2
 
@@ -257,14 +275,25 @@ class Reader:
             elif sign in "<=;,":
                 yield from self.relations()
             else:
-                sys.exit(f"rules that this script cannot read: {self.text[self.at : self.at + 20]!r}")
+                raise CldrError(f"rules that this script cannot read: {self.text[self.at : self.at + 20]!r}")
 
 
-def items_of(folder, name):
+def read_items(folder, name, is_short):
+    """The settings, resets and relations of a locale's own rules. Text that ends too early is an error."""
+    try:
+        return list(Reader(rules_text(folder, name, is_short)).items())
+    except (IndexError, ValueError, KeyError) as error:
+        raise CldrError(f"{name}: the rules of CLDR cannot be read: {error}") from error
+
+
+def items_of(folder, name, is_short=False, importing=()):
     """The settings, resets and relations of a locale; those of an import take its place."""
-    for item in Reader(rules_text(folder, name)).items():
+    if name in importing:
+        raise CldrError(f"{name}: its rules import themselves: {' > '.join((*importing, name))}")
+    for item in read_items(folder, name, is_short):
         if isinstance(item, Setting) and item.name.startswith("import "):
             imported = item.name.split()[1]
-            yield from items_of(folder, imported if "-u-co-" in imported else imported + "-u-co-standard")
+            imported = imported if "-u-co-" in imported else imported + "-u-co-standard"
+            yield from items_of(folder, imported, is_short, (*importing, name))
         else:
             yield item

@@ -52,4 +52,5 @@ for page in "$top"/docs/*.md "$top"/examples/* "$top"/examples/*/*; do
     put_documents 644 "${page#"$top"/}"
 done
 put_documents 755 tools/unicode_files.py tools/languages.py
-put_documents 644 tools/cldr_rules.py tools/profile_rules.py
+put_documents 644 tools/cldr_rules.py tools/profile_rules.py tools/language_tags.py tools/language_tables.py
+put_documents 644 tools/weight_lists.py tools/script_order.py tools/han_order.py tools/kept_changes.py

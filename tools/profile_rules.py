@@ -165,6 +165,8 @@ class Translation:
                 self.relation(item, chain)
 
     def reset(self, item):
+        if item.text[:1] == "\ufdd1":  # CLDR's root has such a place before each group
+            return Chain(None, position=f"the place before {item.text[1:]}")
         if not item.is_position:
             return Chain(item.text, item.before)
         anchor = self.table.position(item.text)

@@ -32,6 +32,8 @@ BRINGS = {
     "postgresql-server-dev-15": "/usr/include/postgresql/15/server/postgres.h",
     "perl-modules-5.36": OLD_KEYS,
     "unicode-data": NEW_KEYS,
+    "unicode-cldr-core": "/usr/share/unicode/cldr/common/collation/root.xml",
+    "libicu-dev": "/usr/include/unicode/ucol.h",
     "iso-codes": "/usr/share/iso-codes/json/iso_3166-1.json",
     "wamerican": f"{WORDS}/american-english",
     **{package: f"{WORDS}/{name}" for package, name in LISTS.items()},

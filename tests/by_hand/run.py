@@ -27,6 +27,7 @@ TESTS = {
     "books": [],
     "bindings": [],
     "unicode_tables": [],
+    "languages": ["--quick"],
     "editions": [],
     "changed_files": ["--jobs", str(os.cpu_count())],
     "refusals": [],
