@@ -32,10 +32,10 @@ _uca_options_of() {
         changes) echo "-h --help" ;;
         audit-changes) echo "-h --help" ;;
         rekey) echo "--weighting --identical --from --to -h --help" ;;
-        compact) echo "--weighting --identical -h --help" ;;
-        expand) echo "--weighting --identical -h --help" ;;
+        compact) echo "--weighting --identical --from --to -h --help" ;;
+        expand) echo "--weighting --identical --from --to -h --help" ;;
         book) echo "-h --help" ;;
-        fingerprint) echo "--weighting --identical -h --help" ;;
+        fingerprint) echo "--weighting --identical --compact -h --help" ;;
     esac
 }
 
@@ -57,7 +57,7 @@ _uca_read() {
     for ((at = 1; at < COMP_CWORD; at++)); do
         case ${COMP_WORDS[at]} in
             *[\<\>]) ((at++)) ;;
-            --weighting | --from | --to)
+            --weighting | --from | --to | --compact)
                 [[ ${COMP_WORDS[at + 1]} == = ]] && ((at++))
                 ((at++))
                 ;;
@@ -79,6 +79,7 @@ _uca() {
         *' --weighting = ') _uca_words "$current" "non-ignorable shifted" ;;
         *' --from ' | *' --from = ') ;;
         *' --to ' | *' --to = ') ;;
+        *' --compact ' | *' --compact = ') ;;
         *)
             if [[ $current == -* && ! $ended ]]; then
                 _uca_options "$command" "$current" "$before"
