@@ -32,10 +32,10 @@ _uca_options_of() {
         changes) echo "-h --help" ;;
         audit-changes) echo "-h --help" ;;
         rekey) echo "--weighting --identical --from --to -h --help" ;;
-        compact) echo "--weighting --identical -h --help" ;;
-        expand) echo "--weighting --identical -h --help" ;;
+        compact) echo "--weighting --identical --from --to -h --help" ;;
+        expand) echo "--weighting --identical --from --to -h --help" ;;
         book) echo "-h --help" ;;
-        fingerprint) echo "--weighting --identical -h --help" ;;
+        fingerprint) echo "--weighting --identical --compact -h --help" ;;
     esac
 }
 
@@ -80,6 +80,7 @@ _uca() {
         *' --compact ' | *' --compact = ') ;;
         *' --from ' | *' --from = ') ;;
         *' --to ' | *' --to = ') ;;
+        *' --compact ' | *' --compact = ') ;;
         *)
             if [[ $current == -* && ! $ended ]]; then
                 _uca_options "$command" "$current" "$before"

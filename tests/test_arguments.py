@@ -67,7 +67,7 @@ class Help(ProgramTest):
             ("compact", missing("BOOK", "compact <BOOK>")),
             ("expand", missing("BOOK", "expand <BOOK>")),
             ("compact b b", unexpected("b", "compact [OPTIONS] <BOOK>")),
-            ("expand --from x b", unexpected("--from", "expand [OPTIONS] <BOOK>")),
+            ("expand --lines b", unexpected("--lines", "expand [OPTIONS] <BOOK>")),
             ("book c", missing("BOOK", "book <CERTIFICATE> <BOOK>")),
             ("book --identical c b", unexpected("--identical", "book <CERTIFICATE> <BOOK>")),
             ("fingerprint t", missing("DATA", "fingerprint <TABLE> <DATA>")),
@@ -96,10 +96,10 @@ class Model:
         "changes": (5, []),
         "audit-changes": (6, []),
         "rekey": (1, ["--weighting", "--identical", "--from", "--to"]),
-        "compact": (1, ["--weighting", "--identical"]),
-        "expand": (1, ["--weighting", "--identical"]),
+        "compact": (1, ["--weighting", "--identical", "--from", "--to"]),
+        "expand": (1, ["--weighting", "--identical", "--from", "--to"]),
         "book": (2, []),
-        "fingerprint": (2, ["--weighting", "--identical"]),
+        "fingerprint": (2, ["--weighting", "--identical", "--compact"]),
     }
 
     def __init__(self, line):
@@ -122,7 +122,7 @@ class Model:
                 are_texts = True
             elif name not in options or name in self.options:
                 return False
-            elif name in ("--weighting", "--from", "--to"):
+            elif name in ("--weighting", "--from", "--to", "--compact"):
                 # a value may not look like an option, but for the single hyphen
                 if not equals and (not words or words[0].startswith("-") and words[0] != "-"):
                     return False
@@ -155,13 +155,15 @@ audit-changes b d t d h c
 rekey --weighting shifted c --identical
 rekey --from {0} c --to={0}
 compact --weighting non-ignorable k
+compact --from {0} --to={0} k
 expand k --identical
 book c k
-fingerprint --identical t --weighting=shifted d""".format("0123456789abcdef" * 4).splitlines()
+fingerprint --identical t --weighting=shifted d
+fingerprint t --compact k d""".format("0123456789abcdef" * 4).splitlines()
 
 PUT_IN = """check keys sort compare tailor audit affected changes audit-changes rekey compact expand book fingerprint help order t - -- ---
 --weighting --weighting= --weighting=shifted --weightings shifted non-ignorable Shifted --identical --identical= --lines --linest
---changes --changes= --change --header --from --to={} -i -h --help -V --version é =""".format("0123456789abcdef" * 4).split()
+--changes --changes= --change --header --compact --compact= --from --to={} -i -h --help -V --version é =""".format("0123456789abcdef" * 4).split()
 
 
 class Lines(ProgramTest):

@@ -2,7 +2,7 @@
 once."""
 import hashlib
 
-from program import DATA, TABLE, ProgramTest
+from program import DATA, TABLE, TOP, ProgramTest
 
 # Cells of one weight: 1C47, 1C60 and, at level 4, 0209. So level 1 has the cells 0001 to 1C46, 1C47, 1C48 to 1C5F, 1C60,
 # 1C61 to 1FFF and 2000 to FFFF, and level 4 has 0001 to 0208, 0209 and 020A to FFFE.
@@ -62,6 +62,18 @@ KEYS = [
 LINES = "a\nA\nab\na b\nb\nba\n\n \na\u0301\nA\u0301\na\u0300\u0323\na \u0301b\n一\n一a\n\U00020000\n\U00010000\nbaaaaaaaaaaaaaaaaaaaaaaaaaaa\u0301\n"
 
 
+# By examples/books/neutral.book 1C47 is the offset 47 in the cell 1C00 to 1CFF, which is 23 or 25, and the space 0209 the offset 09
+# in the cell 02.
+NEUTRAL = [
+    ("--weighting non-ignorable", "1C47 0000 0020 0000 0002", "234702"),
+    ("", "1C47 0000 0020 0000 0002 0000 FFFF", "254703"),
+    ("", "1C47 1C60 0000 0020 0020 0000 0002 0002 0000 FFFF 0209 FFFF", "254725600203020902"),
+    # the first cell, and the last one; the only cell of more than 256 weights, 7500 to 7FFF, whose offsets have two bytes
+    ("--weighting non-ignorable", "0001 FFFF 0000 0020 0020 0000 0002 0002", "0700FCFF02"),
+    ("--weighting non-ignorable", "7FFF 0000 0020 0000 0002", "7C0AFF02"),
+]
+
+
 class Keys(ProgramTest):
     def setUp(self):
         super().setUp()
@@ -73,6 +85,11 @@ class Keys(ProgramTest):
             self.expect(words, key + "\n", out=compact + "\n")
             self.expect(words, digits, out=compact + "\n")
             self.expect(words, f"{key}\tb 1C60\t1C60\n{digits}\n{digits}\t\n", out=f"{compact}\tb 1C60\t1C60\n{compact}\n{compact}\t\n")
+
+    def test_neutral_book(self):
+        for options, key, compact in NEUTRAL:
+            self.expect(["compact", *options.split(), f"{TOP}/examples/books/neutral.book"], key + "\n", out=compact + "\n")
+            self.expect(["expand", *options.split(), f"{TOP}/examples/books/neutral.book"], compact + "\n", out=key.replace(" ", "") + "\n")
 
     def test_expand(self):
         for options, key, compact in KEYS:

@@ -11,6 +11,12 @@ VALUES = [
     ("--identical --weighting non-ignorable", "ee2df62493dacb2a89b38ad344000dd14ad965b91dca7e249d5a4a7724c9fa1c"),
 ]
 
+# What `sha256sum` printed of the text for compact keys: the fingerprint above, and the sum of examples/books/general.book.
+COMPACT_VALUES = [
+    ("", "ccd5e4f422ee569350143008ed232fa3b6f65f74da9f20fa68497b01ef2df594"),
+    ("--identical", "90afd5594c23fd20fe321c2c9c9a336ddb1dd881d6e09dfd75dbcc98a0cb73dc"),
+]
+
 SETTINGS = [(weighting, depth) for weighting in ("shifted", "non-ignorable") for depth in ("weights", "identical")]
 
 
@@ -22,6 +28,13 @@ def fingerprint(table, data, weighting, depth):
 
     made_by = ["uca keys 1", "unicode 18.0.0", f"weighting {weighting}", f"depth {depth}", f"table {digits(table)}", f"data {digits(data)}"]
     return digits("".join(line + "\n" for line in made_by)) + "\n"
+
+
+def compact_fingerprint(table, data, book, weighting, depth):
+    """The same for compact keys by a book."""
+    keys = fingerprint(table, data, weighting, depth)
+    text = f"uca compact keys 1\nkeys {keys}book {hashlib.sha256(book.encode()).hexdigest()}\n"
+    return hashlib.sha256(text.encode()).hexdigest() + "\n"
 
 
 def options_of(weighting, depth):
@@ -95,4 +108,55 @@ class Fingerprints(ProgramTest):
         self.write(t=TABLE, d=DATA)
         with open("/dev/full", "wb") as full:
             ended = self.run_uca("fingerprint", "t", "d", stdout=full)
+        self.assertEqual((ended.status, ended.err), (3, b"output: Write\n"))
+
+
+class CompactFingerprints(ProgramTest):
+    def setUp(self):
+        super().setUp()
+        self.write(t=TABLE, d=DATA, b="@book 1\n")
+
+    def test_values_of_sha256sum(self):
+        self.write(t=example("table.txt"), d=example("data.txt"), b=example("books/general.book"))
+        for options, printed in COMPACT_VALUES:
+            self.expect(f"fingerprint {options} --compact b t d", out=printed + "\n")
+
+    def test_settings_and_books(self):
+        """Each book, each weighting and each depth has a fingerprint of its own."""
+        books = ["@book 1\n", "@book 1\n1 0002\n", "@book 1\n4 0002\n", "@book 1\n1 0002\n1 FFFF\n4 0002\n4 FFFE\n", example("books/general.book")]
+        printed = set()
+        for book in books:
+            self.write(b=book)
+            for weighting, depth in SETTINGS:
+                out = compact_fingerprint(TABLE, DATA, book, weighting, depth)
+                self.expect(["fingerprint", *options_of(weighting, depth), "--compact", "b", "t", "d"], out=out)
+                printed.add(out)
+        self.assertEqual(len(printed), len(books) * 4)
+
+    def test_the_longest_book(self):
+        starts = [f"1 {start:04X}\n" for start in range(2, 247)] + [f"4 {start:04X}\n" for start in range(0x1000, 0x10FF)]
+        book = "@book 1\n" + "".join(starts)
+        self.write(b=book)
+        self.expect("fingerprint --compact b t d", out=compact_fingerprint(TABLE, DATA, book, "shifted", "weights"))
+
+    def test_files_that_are_rejected(self):
+        """The table is read first, and the book last. Nothing is printed."""
+        for table, data, book, said in [
+            ("", "", "", "table line 1: Order\n"),
+            (TABLE, "", "", "data line 1: Order\n"),
+            (TABLE, DATA, "", "book line 1: Order\n"),
+            (TABLE, DATA, "@book 1\n1 0001\n", "book line 2: Weight\n"),
+            (TABLE, DATA, "@book 1\n1 0002", "book line 2: Line\n"),
+        ]:
+            self.write(t=table, d=data, b=book)
+            self.expect("fingerprint --compact b t d", status=1, err=said)
+
+    def test_files_that_do_not_open(self):
+        for words, said in [("none none none", "table"), ("none t none", "data"), ("none t d", "book")]:
+            self.expect(f"fingerprint --compact {words}", status=3, err=f"{said}: Open\n")
+        self.expect("fingerprint --compact . t d", status=3, err="book line 1: Read\n")
+
+    def test_an_output_that_fails(self):
+        with open("/dev/full", "wb") as full:
+            ended = self.run_uca("fingerprint", "--compact", "b", "t", "d", stdout=full)
         self.assertEqual((ended.status, ended.err), (3, b"output: Write\n"))

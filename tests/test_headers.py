@@ -1,4 +1,4 @@
-"""The header of key lines: `uca keys --header` writes it, and `uca rekey --from --to` tests it and writes another one."""
+"""The header of key lines: `uca keys --header` writes it. `rekey`, `compact` and `expand` test it by `--from`, and write another one by `--to`."""
 import hashlib
 
 from program import DATA, TABLE, ProgramTest
@@ -131,3 +131,81 @@ class Rekey(ProgramTest):
         """The arguments are judged before a file is opened."""
         for options in f"--from {OTHER}", f"--to {OTHER}", f"--from {OTHER} --to {OTHER[1:]}", f"--from {OTHER.upper()} --to {OTHER}", f"--from {OTHER} --to={OTHER}0":
             self.expect(f"rekey {options} missing", "", status=2, err="fingerprint: unknown\n")
+
+
+# The book has a cell for 1C60, which is 0A. So the key of `b` is 0A, and 03 says that all later levels are plain.
+BOOK = "@book 1\n1 1C60\n1 1C61\n"
+COMPACT = "0A03"
+
+
+def compact_header(weighting="shifted", depth="weights", digits=OTHER):
+    return f"#uca compact 1 {weighting} {depth} {digits}\n"
+
+
+class Compact(ProgramTest):
+    """The header of keys becomes one of compact keys, and the other way round."""
+
+    def setUp(self):
+        super().setUp()
+        self.write(t=TABLE, d=DATA, k=BOOK)
+        self.ask = f"--from {fingerprint()} --to {OTHER} k"
+        self.back = f"--from {OTHER} --to {fingerprint()} k"
+
+    def test_compact(self):
+        new = compact_header()
+        self.expect(f"compact {self.ask}", header() + KEY + "\tb\n", out=new + COMPACT + "\tb\n")
+        for lines in header(), header().rstrip("\n"):
+            self.expect(f"compact {self.ask}", lines, out=new)
+        self.expect(f"compact {self.ask}", header() + KEY, out=new + COMPACT + "\n")
+
+    def test_expand(self):
+        key = KEY.replace(" ", "")
+        self.expect(f"expand {self.back}", compact_header() + COMPACT + "\tb\n", out=header() + key + "\tb\n")
+        for lines in compact_header(), compact_header().rstrip("\n"):
+            self.expect(f"expand {self.back}", lines, out=header())
+
+    def test_settings(self):
+        options = "--weighting non-ignorable --identical"
+        old, new = header("non-ignorable", "identical"), compact_header("non-ignorable", "identical")
+        key, compact = "1C6000000020000000020000000062", "080262"
+        asked = fingerprint("non-ignorable", "identical")
+        self.expect(f"compact {options} --from {asked} --to {OTHER} k", old + key + "\n", out=new + compact + "\n")
+        self.expect(f"expand {options} --from {OTHER} --to {asked} k", new + compact + "\n", out=old + key + "\n")
+
+    def test_what_keys_and_fingerprint_print(self):
+        """All three fingerprints belong together, and the way back is the whole way."""
+        made = self.run_uca("keys", "--header", "--lines", "t", "d", given="b\na\n\n").out
+        digits = self.run_uca("fingerprint", "--compact", "k", "t", "d").out.decode().strip()
+        ended = self.run_uca("compact", "--from", fingerprint(), "--to", digits, "k", given=made)
+        self.assertEqual((ended.status, ended.out.split(b"\n")[0]), (0, compact_header(digits=digits).rstrip("\n").encode()))
+        self.expect(f"expand --from {digits} --to {fingerprint()} k", ended.out, out=made)
+
+    def test_other_headers(self):
+        """Each is rejected at line 1, and nothing is written. A header of the other kind is one of them."""
+        for lines in ["", "\n", KEY + "\n", header("non-ignorable"), header("shifted", "identical"), header(digits=OTHER), header().replace("keys 1", "keys 2"),
+                      header().replace("\n", " \n"), compact_header(digits=fingerprint())]:
+            self.expect(f"compact {self.ask}", lines + KEY + "\n" if lines else "", status=1, err="input line 1: Header\n")
+        for lines in [COMPACT + "\n", compact_header("non-ignorable"), compact_header(digits=fingerprint()), header(digits=OTHER)]:
+            self.expect(f"expand {self.back}", lines + COMPACT + "\n", status=1, err="input line 1: Header\n")
+
+    def test_headers_that_are_not_asked_for(self):
+        """A header never passes as a key, and there is one header."""
+        self.expect("compact k", header() + KEY + "\n", status=1, err="input line 1: NoKey\n")
+        self.expect("expand k", compact_header() + COMPACT + "\n", status=1, err="input line 1: NoKey\n")
+        self.expect(f"compact {self.ask}", header() * 2, out=compact_header(), status=1, err="input line 2: NoKey\n")
+
+    def test_errors_after_the_header(self):
+        self.expect(f"compact {self.ask}", header() + KEY + "\nx\n", out=compact_header() + COMPACT + "\n", status=1, err="input line 3: NoKey\n")
+        self.expect(f"compact {self.ask}", header() + "1C60\n", out=compact_header(), status=1, err="input line 2: OtherKey\n")
+        self.expect(f"expand {self.back}", compact_header() + "FF\n", out=header(), status=1, err="input line 2: NoCompactKey\n")
+        self.write(x="?\n")
+        self.expect(f"compact --from {OTHER} --to {OTHER} x", header(), status=1, err="book line 1: Order\n")
+        with open("/dev/full", "wb") as full:
+            ended = self.run_uca("compact", *self.ask.split(), given=header() + KEY + "\n", stdout=full)
+            self.assertEqual((ended.status, ended.err), (3, b"output: Write\n"))
+
+    def test_fingerprints(self):
+        """The arguments are judged before a file is opened."""
+        for command in "compact", "expand":
+            for options in f"--from {OTHER}", f"--to {OTHER}", f"--from {OTHER} --to {OTHER[1:]}":
+                self.expect(f"{command} {options} missing", "", status=2, err="fingerprint: unknown\n")

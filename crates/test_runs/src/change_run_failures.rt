@@ -1,6 +1,8 @@
 //! What fails, and what is then returned and written.
 
-use crate::change_runs::{COMPACT, EXPANDED, End, IMAGE, KEYS, MOVED, Run, call, rekey};
+use crate::change_runs::{
+    COMPACT, EXPANDED, End, HEADED_COMPACT, HEADED_EXPANDED, IMAGE, KEYS, MOVED, Run, call, rekey,
+};
 use std::alloc::Global;
 use std::io::ErrorKind;
 use std::test::Fail;
@@ -56,6 +58,16 @@ const LINES: &[Case<'static>] = &[
         run: Run::Expand,
         places: "book memory input",
         whole: EXPANDED,
+    },
+    Case {
+        run: Run::HeadedCompact,
+        places: "book memory input",
+        whole: HEADED_COMPACT,
+    },
+    Case {
+        run: Run::HeadedExpand,
+        places: "book memory input",
+        whole: HEADED_EXPANDED,
     },
 ];
 

@@ -9,7 +9,7 @@ use uca_certificates::write_certificate;
 use uca_change_files::write_changes;
 use uca_change_runs::{run_affected_by_changes_in, run_audit_changes, run_changes};
 use uca_editions::FoundChanges;
-use uca_rekey::{run_compact, run_expand, run_rekey};
+use uca_rekey::{run_compact, run_expand, run_headed_compact, run_headed_expand, run_rekey};
 use uca_run_parts::RunFault;
 use uca_weights::Depth::Weights;
 use uca_weights::Weighting::NonIgnorable;
@@ -48,6 +48,26 @@ pub const COMPACT: &str = "0A02\n080A02\tab\n02\n";
 /// The lines with stored keys, without spaces.
 pub const EXPANDED: &str = "1C600000002000000002\n1C471C60000000200020000000020002\tab\n00000000\n";
 
+/// The fingerprints of the headers that come before the lines with stored keys, and before those with compact keys.
+const OF_KEYS: [u8; 32] = [0x1A; 32];
+
+const OF_COMPACT: [u8; 32] = [0x2B; 32];
+
+/// The lines with stored keys, after their header.
+const HEADED: &str =
+    "#uca keys 1 non-ignorable weights 1a1a1a1a1a1a1a1a1a1a1a1a1a1a1a1a1a1a1a1a1a1a1a1a1a1a1a1a1a1a1a1a\n\
+    1C60 0000 0020 0000 0002\n1C471C60000000200020000000020002\tab\n0000 0000\n";
+
+/// The lines with their compact keys, after their header.
+pub const HEADED_COMPACT: &str =
+    "#uca compact 1 non-ignorable weights 2b2b2b2b2b2b2b2b2b2b2b2b2b2b2b2b2b2b2b2b2b2b2b2b2b2b2b2b2b2b2b2b\n\
+    0A02\n080A02\tab\n02\n";
+
+/// The lines with stored keys, without spaces, after their header.
+pub const HEADED_EXPANDED: &str =
+    "#uca keys 1 non-ignorable weights 1a1a1a1a1a1a1a1a1a1a1a1a1a1a1a1a1a1a1a1a1a1a1a1a1a1a1a1a1a1a1a1a\n\
+    1C600000002000000002\n1C471C60000000200020000000020002\tab\n00000000\n";
+
 /// A run.
 #[derive(Clone, Copy)]
 pub enum Run {
@@ -63,6 +83,10 @@ pub enum Run {
     Compact,
     /// It expands the compact keys of lines.
     Expand,
+    /// It compacts the keys of lines after a header.
+    HeadedCompact,
+    /// It expands the compact keys of lines after a header.
+    HeadedExpand,
     /// It prints the image of a book.
     Book,
 }
@@ -137,6 +161,32 @@ fn expand(tried: &Refusing, out: &mut Sink<Vec<u8>>) -> End {
     run_expand(tried, &mut book, &mut input, out, NonIgnorable, Weights)
 }
 
+fn headed_compact(tried: &Refusing, out: &mut Sink<Vec<u8>>) -> End {
+    run_headed_compact(
+        tried,
+        &mut Source::new(BOOK.as_bytes()),
+        &mut Source::new(HEADED.as_bytes()),
+        out,
+        NonIgnorable,
+        Weights,
+        &OF_KEYS,
+        &OF_COMPACT,
+    )
+}
+
+fn headed_expand(tried: &Refusing, out: &mut Sink<Vec<u8>>) -> End {
+    run_headed_expand(
+        tried,
+        &mut Source::new(BOOK.as_bytes()),
+        &mut Source::new(HEADED_COMPACT.as_bytes()),
+        out,
+        NonIgnorable,
+        Weights,
+        &OF_COMPACT,
+        &OF_KEYS,
+    )
+}
+
 fn book(tried: &Refusing, out: &mut Sink<Vec<u8>>) -> End {
     let mut book = Source::new(BOOK.as_bytes());
     run_book(tried, &mut file(5), &mut book, out)
@@ -154,6 +204,8 @@ pub fn call(ample: Global, tried: &Refusing, run: Run, out: &mut Sink<Vec<u8>>) 
         Run::Rekey => rekey(tried, &mut Source::new(KEYS.as_bytes()), out),
         Run::Compact => compact(tried, out),
         Run::Expand => expand(tried, out),
+        Run::HeadedCompact => headed_compact(tried, out),
+        Run::HeadedExpand => headed_expand(tried, out),
         Run::Book => book(tried, out),
     }
 }

@@ -49,8 +49,8 @@ use Rattle.uca_change_runs.specs.AuditRun.{AuditsChanges}
 use Rattle.uca_change_runs.specs.AffectedRun.{PrintsAffectedByChanges}
 use Rattle.uca_rekey.specs.HeadedRun.{RekeysHeaded}
 use Rattle.uca_rekey.specs.RekeyRun.{RekeysLines}
-use Rattle.uca_rekey.specs.ChangeRun.{CompactsLines, ExpandsLines}
-use Rattle.uca_fingerprint_runs.specs.FingerprintRun.{PrintsFingerprint}
+use Rattle.uca_rekey.specs.ChangeRun.{CompactsHeaded, CompactsLines, ExpandsHeaded, ExpandsLines}
+use Rattle.uca_fingerprint_runs.specs.FingerprintRun.{PrintsCompactFingerprint, PrintsFingerprint}
 use Rattle.uca_book_runs.specs.BookRun.{PrintsBookImage}
 use Rattle.uca_host.specs.NamedFiles.{FileSystem, NamedFile, file_for, table_and_data, tailor_files, affected_files, audit_files, edition_files, change_files, AreOpened, DoesNotOpen, AreOthers, IsFirstSame, KeepsCertificate}
 use Rattle.uca_tailor_runs.specs.AuditRun.{Audits}
@@ -169,13 +169,28 @@ DoesCompare files old new words out out_new result =
     (λ olds news. Ran (done_result {A = Unit {0}})
     (Compares (comparing words.weighting words.depth words.left.now words.right.now) olds news out out_new) result) result
 
+-- a table, a data file and a book
+abbrev pub booked_files : List ℕ → List ℕ → List ℕ → List NamedFile
+booked_files table properties book = file_for roles.Table table ∷ file_for roles.Data properties ∷ file_for roles.Book book ∷ []
+
+-- the files that `fingerprint` reads: with `--compact` a book comes last
+abbrev pub fingerprint_files : Option (Bor (List ℕ)) → List ℕ → List ℕ → List NamedFile
+fingerprint_files None table properties = table_and_data table properties
+fingerprint_files (Some book) table properties = booked_files table properties book.now
+
+-- the run of `fingerprint`: with `--compact` it is that of compact keys
+abbrev pub Fingerprinted : Option (Bor (List ℕ)) → Option Weighting → Depth → List SourceState → List SourceState
+    → SinkState → SinkState → Result (Unit {0}) RunFault → Type 0
+Fingerprinted None weighting depth olds news out out_new run = PrintsFingerprint weighting depth olds news out out_new run
+Fingerprinted (Some book) weighting depth olds news out out_new run = PrintsCompactFingerprint weighting depth olds news out out_new run
+
 -- what `fingerprint` does
 abbrev pub DoesFingerprint : {O F M : Type 0} → FileSystem O F M → O → O → FingerprintWords → SinkState → SinkState
     → Result ℕ RunFault → Type 0
 DoesFingerprint files old new words out out_new result =
-    OpensAndRuns files old new (table_and_data words.table.now words.properties.now) (out_new ≡ out)
+    OpensAndRuns files old new (fingerprint_files words.book words.table.now words.properties.now) (out_new ≡ out)
     (λ olds news. Ran (done_result {A = Unit {0}})
-    (PrintsFingerprint words.weighting words.depth olds news out out_new) result) result
+    (Fingerprinted words.book words.weighting words.depth olds news out out_new) result) result
 
 -- ---- Tailor and changes
 
@@ -331,13 +346,30 @@ DoesRekey files old new words start end result =
 
 -- ---- Compact keys
 
+-- The run of `compact`. With fingerprints, the input begins with a header of keys that has the old one. The output begins with a header of
+-- compact keys that has the new one.
+abbrev pub Compacts : Weighting → Depth → Option Fingerprints → List SourceState → List SourceState → SourceState → SourceState
+    → SinkState → SinkState → Result (Unit {0}) RunFault → Type 0
+Compacts weighting depth None olds news input input_new out out_new run =
+    CompactsLines weighting depth olds news input input_new out out_new run
+Compacts weighting depth (Some given) olds news input input_new out out_new run =
+    CompactsHeaded weighting depth given.from given.to olds news input input_new out out_new run
+
+-- the run of `expand`: with fingerprints, the header of compact keys comes first, and that of keys is written in its place
+abbrev pub Expands : Weighting → Depth → Option Fingerprints → List SourceState → List SourceState → SourceState → SourceState
+    → SinkState → SinkState → Result (Unit {0}) RunFault → Type 0
+Expands weighting depth None olds news input input_new out out_new run =
+    ExpandsLines weighting depth olds news input input_new out out_new run
+Expands weighting depth (Some given) olds news input input_new out out_new run =
+    ExpandsHeaded weighting depth given.from given.to olds news input input_new out out_new run
+
 -- what `compact` does: the weighting is the one that is asked for, or else shifted
 abbrev pub DoesCompact : {O F M : Type 0} → FileSystem O F M → O → O → BookWords → Streams → Streams
     → Result ℕ RunFault → Type 0
 DoesCompact files old new words start end result =
     OpensAndRuns files old new (file_for roles.Book words.book.now ∷ []) (end ≡ start)
     (λ olds news. Ran (done_result {A = Unit {0}})
-    (CompactsLines (unwrap_or words.weighting Shifted) words.depth olds news start.input end.input start.out end.out) result) result
+    (Compacts (unwrap_or words.weighting Shifted) words.depth words.fingerprints olds news start.input end.input start.out end.out) result) result
 
 -- what `expand` does: the weighting is the one that is asked for, or else shifted
 abbrev pub DoesExpand : {O F M : Type 0} → FileSystem O F M → O → O → BookWords → Streams → Streams
@@ -345,7 +377,7 @@ abbrev pub DoesExpand : {O F M : Type 0} → FileSystem O F M → O → O → Bo
 DoesExpand files old new words start end result =
     OpensAndRuns files old new (file_for roles.Book words.book.now ∷ []) (end ≡ start)
     (λ olds news. Ran (done_result {A = Unit {0}})
-    (ExpandsLines (unwrap_or words.weighting Shifted) words.depth olds news start.input end.input start.out end.out) result) result
+    (Expands (unwrap_or words.weighting Shifted) words.depth words.fingerprints olds news start.input end.input start.out end.out) result) result
 
 -- what `book` does
 abbrev pub DoesBook : {O F M : Type 0} → FileSystem O F M → O → O → BookImageWords → SinkState → SinkState

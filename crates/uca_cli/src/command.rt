@@ -2,20 +2,20 @@
 
 ghost use Rattle.std.specs.Prelude.{None, ◌∷◌, [], ⊤, ℕ, Bool, List, Result, ◌≡◌};
 ghost use Rattle.clap.specs.Walk.{texts};
-ghost use Rattle.uca_cli.specs.Command.{DoesAffected, DoesAudit, DoesCheck, DoesCommand, DoesCompare, DoesFingerprint, DoesKeys, DoesKeysBy, DoesSort, DoesTailor, DoesWords, EndsWith, KeepsAndPrints, KeepsMade, MakesOpened, Prints, PrintsLines, files_of_tailor, made_table, streams};
+ghost use Rattle.uca_cli.specs.Command.{DoesAffected, DoesAudit, DoesCheck, DoesCommand, DoesCompare, DoesKeys, DoesKeysBy, DoesSort, DoesTailor, DoesWords, EndsWith, KeepsAndPrints, KeepsMade, MakesOpened, Prints, PrintsLines, files_of_tailor, made_table, streams};
 ghost use Rattle.uca_host.specs.NamedFiles.{affected_role, file_system};
 ghost use Rattle.uca_tailor_runs.specs.TailorRun.{TailorsFiles};
 
 use crate::book_commands::{compact, expand, print_book};
 use crate::change_commands::{audit_changes, changes, rekey};
 use crate::compact_keys::keys_by_book;
+use crate::fingerprint_commands::fingerprint;
 use crate::printing::print_table;
 use crate::statuses::{checked, done};
 use std::alloc::Global;
 use std::io::{Read, Write};
 use uca_certificates::Certificate;
 use uca_change_runs::run_affected_by_changes;
-use uca_fingerprint_runs::run_fingerprint;
 use uca_host::files::keeping::{find_certificate, keep_certificate};
 use uca_host::files::opening::{open_audit_files, open_files, open_three, open_two};
 use uca_host::{Opens, report};
@@ -28,8 +28,8 @@ use uca_tailor_runs::{run_audit, run_tailor};
 use uca_values::Table;
 use uca_weights::{Sink, Source};
 use uca_words::{
-    AffectedWords, AuditWords, CheckWords, CompareWords, FingerprintWords, KeysWords, SortWords,
-    TailorWords, Words, read_words,
+    AffectedWords, AuditWords, CheckWords, CompareWords, KeysWords, SortWords, TailorWords, Words,
+    read_words,
 };
 
 fn check<O: Opens, W: Write>(
@@ -151,28 +151,6 @@ fn compare<O: Opens, W: Write>(
             &mut properties,
             words.left,
             words.right,
-            out,
-            words.weighting,
-            words.depth,
-        )),
-        Err(role) => Err(RunFault::Open(role)),
-    }
-}
-
-fn fingerprint<O: Opens, W: Write>(
-    alloc: Global,
-    opener: &mut O,
-    words: &FingerprintWords,
-    out: &mut Sink<W>,
-) -> Result<u8, RunFault>
-    ensures { DoesFingerprint (file_system O.calls O.File.remaining O.Made.contents)
-        opener.old opener.new words.now out.old out.new result }
-{
-    match open_files(opener, words.table, words.properties) {
-        Ok((mut table, mut properties)) => done(run_fingerprint(
-            alloc,
-            &mut table,
-            &mut properties,
             out,
             words.weighting,
             words.depth,

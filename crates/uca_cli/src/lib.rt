@@ -7,6 +7,7 @@ mod book_commands;
 mod change_commands;
 pub mod command;
 mod compact_keys;
+mod fingerprint_commands;
 mod printing;
 mod statuses;
 
@@ -16,7 +17,7 @@ pub use uca_change_runs::{
     affected_by_changes_are_the_others, run_affected_by_changes, run_affected_by_changes_in,
     run_audit_changes, run_changes,
 };
-pub use uca_fingerprint_runs::run_fingerprint;
+pub use uca_fingerprint_runs::{run_compact_fingerprint, run_fingerprint};
 pub use uca_host::{MakeFault, OpenFault, Opens, STREAM_FAILED, report};
 pub use uca_key_runs::{
     affected_texts_are_the_others, canonically_equivalent_lines_have_one_key_line, compare_words,
@@ -26,7 +27,10 @@ pub use uca_key_runs::{
     run_headed_lines_in, run_keyed_lines, run_keyed_lines_in, run_keys, run_keys_in, run_sort,
     run_sort_in, sort_lines, untouched_lines_keep_their_order,
 };
-pub use uca_rekey::{lines_move_with_keys, run_compact, run_expand, run_headed_rekey, run_rekey};
+pub use uca_rekey::{
+    lines_move_with_keys, run_compact, run_expand, run_headed_compact, run_headed_expand,
+    run_headed_rekey, run_rekey,
+};
 pub use uca_run_parts::{
     Affects, FileFault, InputKind, Role, RunFault, StoredKeyKind, print_affected, run_affected,
     run_affected_in, run_check,

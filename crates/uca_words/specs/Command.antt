@@ -73,13 +73,17 @@ changes_app = with_rule (with_editions (new_app (codes "changes"))) (word_rule (
 abbrev pub audit_changes_app : App
 audit_changes_app = with_rule (with_rule (with_editions (new_app (codes "audit-changes"))) (word_rule (codes "changes"))) (word_rule (codes "certificate"))
 
+-- `[--weighting W] [--identical] [--from FINGERPRINT] [--to FINGERPRINT]` come next
+abbrev pub with_fingerprints : App → App
+with_fingerprints app = with_rule (with_rule (with_settings app) (value_rule (codes "from"))) (value_rule (codes "to"))
+
 -- `rekey [--weighting W] [--identical] [--from FINGERPRINT] [--to FINGERPRINT] CERTIFICATE`
 abbrev pub rekey_app : App
-rekey_app = with_rule (with_rule (with_rule (with_settings (new_app (codes "rekey"))) (value_rule (codes "from"))) (value_rule (codes "to"))) (word_rule (codes "certificate"))
+rekey_app = with_rule (with_fingerprints (new_app (codes "rekey"))) (word_rule (codes "certificate"))
 
--- `[--weighting W] [--identical] BOOK` come next
+-- `[--weighting W] [--identical] [--from FINGERPRINT] [--to FINGERPRINT] BOOK` come next
 abbrev pub with_book : App → App
-with_book app = with_rule (with_settings app) (word_rule (codes "book"))
+with_book app = with_rule (with_fingerprints app) (word_rule (codes "book"))
 
 abbrev pub compact_app : App
 compact_app = with_book (new_app (codes "compact"))
@@ -91,9 +95,9 @@ expand_app = with_book (new_app (codes "expand"))
 abbrev pub book_app : App
 book_app = with_rule (with_rule (new_app (codes "book")) (word_rule (codes "certificate"))) (word_rule (codes "book"))
 
--- `fingerprint [--weighting W] [--identical] TABLE DATA`
+-- `fingerprint [--weighting W] [--identical] [--compact BOOK] TABLE DATA`
 abbrev pub fingerprint_app : App
-fingerprint_app = with_options (new_app (codes "fingerprint"))
+fingerprint_app = with_rule (with_options (new_app (codes "fingerprint"))) (value_rule (codes "compact"))
 
 -- The command before its subcommands: one of them has to be named. It has a version, so `clap` adds `--version`, and it
 -- adds the subcommand `help`, which is always an error.

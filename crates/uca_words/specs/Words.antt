@@ -52,9 +52,10 @@ HasEditions rows names =
     HasWord rows (codes "old") names.old × HasWord rows (codes "old-data") names.old_data
     × HasWord rows (codes "new") names.new × HasWord rows (codes "new-data") names.new_data
 
--- the weighting and the depth that are given, and a book
+-- the weighting, the depth and the fingerprints that are given, and a book
 abbrev pub HasBook : List Row → BookWords → Type 0
-HasBook rows words = HasWeighting rows words.weighting × HasDepth rows words.depth × HasWord rows (codes "book") words.book
+HasBook rows words =
+    HasWeighting rows words.weighting × HasDepth rows words.depth × HasFingerprints rows words.fingerprints × HasWord rows (codes "book") words.book
 
 -- the subcommand of this name, with these rows of its arguments, says these `Words`
 abbrev pub Says : Text → List Row → Words → Type 0
@@ -89,7 +90,8 @@ Says name rows (words.Expand words) = (name ≡ codes "expand") × HasBook rows 
 Says name rows (words.Book words) =
     (name ≡ codes "book") × HasWord rows (codes "certificate") words.certificate × HasWord rows (codes "book") words.book
 Says name rows (words.Fingerprint words) =
-    (name ≡ codes "fingerprint") × HasWeighting rows words.weighting × HasDepth rows words.depth × HasFiles rows words.table words.properties
+    (name ≡ codes "fingerprint") × HasWeighting rows words.weighting × HasDepth rows words.depth × HasOption rows (codes "compact") words.book
+    × HasFiles rows words.table words.properties
 
 -- the subcommand that was met, with the rows of its arguments, says these `Words`
 abbrev pub SayWords : Option (Text × List Row) → Words → Type 0

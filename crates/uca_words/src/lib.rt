@@ -59,13 +59,16 @@ pub enum Words<'a> {
     /// `rekey [--weighting W] [--identical] [--from FINGERPRINT] [--to FINGERPRINT] CERTIFICATE`: put the key of each line of
     /// standard input through the maps of a certificate.
     Rekey(RekeyWords<'a>),
-    /// `compact [--weighting W] [--identical] BOOK`: put compact keys in place of the keys of standard input.
+    /// `compact [--weighting W] [--identical] [--from FINGERPRINT] [--to FINGERPRINT] BOOK`: put compact keys in place of the
+    /// keys of standard input.
     Compact(BookWords<'a>),
-    /// `expand [--weighting W] [--identical] BOOK`: put keys in place of the compact keys of standard input.
+    /// `expand [--weighting W] [--identical] [--from FINGERPRINT] [--to FINGERPRINT] BOOK`: put keys in place of the compact
+    /// keys of standard input.
     Expand(BookWords<'a>),
     /// `book CERTIFICATE BOOK`: print the image of a book under the map of level 1 of a certificate.
     Book(BookImageWords<'a>),
-    /// `fingerprint [--weighting W] [--identical] TABLE DATA`: print the fingerprint of what keys are made by.
+    /// `fingerprint [--weighting W] [--identical] [--compact BOOK] TABLE DATA`: print the fingerprint of what keys are made by,
+    /// or of what compact keys are.
     Fingerprint(FingerprintWords<'a>),
 }
 
@@ -228,6 +231,8 @@ pub struct BookWords<'a> {
     pub weighting: Option<Weighting>,
     /// The depth that made the keys: `Identical` if `--identical` is given.
     pub depth: Depth,
+    /// The fingerprints of the old header and of the new one: `--from` and `--to` are given.
+    pub fingerprints: Option<Fingerprints>,
     /// The name of the file of the book.
     pub book: &'a str,
 }
@@ -248,6 +253,8 @@ pub struct FingerprintWords<'a> {
     pub weighting: Option<Weighting>,
     /// How far texts are compared: `Identical` if `--identical` is given.
     pub depth: Depth,
+    /// The name of the file of the book of compact keys, if `--compact` is given.
+    pub book: Option<&'a str>,
     /// The name of the table file.
     pub table: &'a str,
     /// The name of the data file.
@@ -530,29 +537,45 @@ fn rekey_words<'a>(
 }
 
 // The arguments of a subcommand over a book.
-fn book_words<'a>(found: &ArgMatches<'a>, weighting: Option<Weighting>) -> BookWords<'a>
+fn book_words<'a>(
+    found: &ArgMatches<'a>,
+    weighting: Option<Weighting>,
+    fingerprints: Option<Fingerprints>,
+) -> BookWords<'a>
     requires { has_words compact_app (rows_of (found_of found.now)) ≡ true }
-    ensures { HasWeighting (rows_of (found_of found.now)) weighting → HasBook (rows_of (found_of found.now)) result }
+    ensures { HasWeighting (rows_of (found_of found.now)) weighting → HasFingerprints (rows_of (found_of found.now)) fingerprints →
+        HasBook (rows_of (found_of found.now)) result }
 {
     BookWords {
         weighting,
         depth: given_depth(found),
+        fingerprints,
         book: word_of(found, "book"),
     }
 }
 
-fn compact_words<'a>(found: &ArgMatches<'a>, weighting: Option<Weighting>) -> Words<'a>
+fn compact_words<'a>(
+    found: &ArgMatches<'a>,
+    weighting: Option<Weighting>,
+    fingerprints: Option<Fingerprints>,
+) -> Words<'a>
     requires { has_words compact_app (rows_of (found_of found.now)) ≡ true }
-    ensures { HasWeighting (rows_of (found_of found.now)) weighting → Says (codes "compact") (rows_of (found_of found.now)) result }
+    ensures { HasWeighting (rows_of (found_of found.now)) weighting → HasFingerprints (rows_of (found_of found.now)) fingerprints →
+        Says (codes "compact") (rows_of (found_of found.now)) result }
 {
-    Words::Compact(book_words(found, weighting))
+    Words::Compact(book_words(found, weighting, fingerprints))
 }
 
-fn expand_words<'a>(found: &ArgMatches<'a>, weighting: Option<Weighting>) -> Words<'a>
+fn expand_words<'a>(
+    found: &ArgMatches<'a>,
+    weighting: Option<Weighting>,
+    fingerprints: Option<Fingerprints>,
+) -> Words<'a>
     requires { has_words expand_app (rows_of (found_of found.now)) ≡ true }
-    ensures { HasWeighting (rows_of (found_of found.now)) weighting → Says (codes "expand") (rows_of (found_of found.now)) result }
+    ensures { HasWeighting (rows_of (found_of found.now)) weighting → HasFingerprints (rows_of (found_of found.now)) fingerprints →
+        Says (codes "expand") (rows_of (found_of found.now)) result }
 {
-    Words::Expand(book_words(found, weighting))
+    Words::Expand(book_words(found, weighting, fingerprints))
 }
 
 fn book_image_words<'a>(found: &ArgMatches<'a>) -> Words<'a>
@@ -573,6 +596,7 @@ fn fingerprint_words<'a>(found: &ArgMatches<'a>, weighting: Option<Weighting>) -
     Words::Fingerprint(FingerprintWords {
         weighting,
         depth: given_depth(found),
+        book: value_of(found, "compact"),
         table,
         properties,
     })
@@ -600,8 +624,8 @@ fn subcommand_words<'a>(
         "changes" => changes_words(found),
         "audit-changes" => audit_changes_words(found),
         "rekey" => rekey_words(found, weighting, fingerprints),
-        "compact" => compact_words(found, weighting),
-        "expand" => expand_words(found, weighting),
+        "compact" => compact_words(found, weighting, fingerprints),
+        "expand" => expand_words(found, weighting, fingerprints),
         "book" => book_image_words(found),
         "fingerprint" => fingerprint_words(found, weighting),
         _ => unreachable!(),

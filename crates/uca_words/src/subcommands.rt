@@ -87,6 +87,24 @@ const TO: Argument<'static> = Argument::Value {
     help: "Print a header with this fingerprint, that of the new table and data file",
 };
 
+const TO_COMPACT: Argument<'static> = Argument::Value {
+    id: "to",
+    name: "FINGERPRINT",
+    help: "Print a header of compact keys with this fingerprint",
+};
+
+const TO_KEYS: Argument<'static> = Argument::Value {
+    id: "to",
+    name: "FINGERPRINT",
+    help: "Print a header of keys with this fingerprint",
+};
+
+const OF_COMPACT: Argument<'static> = Argument::Value {
+    id: "compact",
+    name: "BOOK",
+    help: "Print the fingerprint of compact keys that are made by this book",
+};
+
 const CHANGED: Argument<'static> = Argument::Flag {
     id: "changes",
     help: "RULES is a file of changes, and DATA the new data file",
@@ -317,9 +335,11 @@ const COMPACT_COMMAND: Subcommand<'static> = Subcommand {
            compact key by BOOK, without blanks. The rest of the line stays. Compact keys are in the order of the\n\
            keys, and `uca expand` makes the keys again. `--weighting` and `--identical` have to be those that made\n\
            the keys. Any book keeps the order, and a good one makes short keys. Keep it with the keys: compact keys\n\
-           of two books do not mix.",
+           of two books do not mix. `--from` and `--to` belong together: the input then begins with a header of\n\
+           keys of that weighting, depth and fingerprint, and the output with one of compact keys, with the other\n\
+           fingerprint, as `uca fingerprint --compact BOOK` prints it.",
     example: "Example: uca compact my.book < keyed.tsv > compact.tsv",
-    arguments: &[MADE_WEIGHTING, MADE_IDENTICAL, BOOK],
+    arguments: &[MADE_WEIGHTING, MADE_IDENTICAL, FROM, TO_COMPACT, BOOK],
 };
 
 const EXPAND_COMMAND: Subcommand<'static> = Subcommand {
@@ -327,9 +347,10 @@ const EXPAND_COMMAND: Subcommand<'static> = Subcommand {
     line: "Make the keys of the compact keys on standard input",
     text: "Reads lines as `uca compact` prints them. In place of the compact key of each it prints the key, without\n\
            blanks. The rest of the line stays. `--weighting`, `--identical` and BOOK have to be those that made the\n\
-           compact keys.",
+           compact keys. `--from` and `--to` belong together: the input then begins with a header of compact keys\n\
+           of that weighting, depth and fingerprint, and the output with one of keys, with the other fingerprint.",
     example: "Example: uca expand my.book < compact.tsv > keyed.tsv",
-    arguments: &[MADE_WEIGHTING, MADE_IDENTICAL, BOOK],
+    arguments: &[MADE_WEIGHTING, MADE_IDENTICAL, FROM, TO_KEYS, BOOK],
 };
 
 const BOOK_COMMAND: Subcommand<'static> = Subcommand {
@@ -349,9 +370,12 @@ const FINGERPRINT_COMMAND: Subcommand<'static> = Subcommand {
     text: "Prints the fingerprint of what `uca keys` makes keys by, as 64 hexadecimal digits. It is the SHA-256 of\n\
            a text that names the edition of the normalization, the weighting, the depth, and both files by their\n\
            SHA-256. Keep it beside stored keys: two runs with one fingerprint make the same keys. It changes with\n\
-           each byte of a file, also in a comment.",
-    example: "Example: uca fingerprint allkeys.txt data.txt",
-    arguments: &[WEIGHTING, IDENTICAL, TABLE, DATA],
+           each byte of a file, also in a comment. With `--compact` it is the fingerprint of compact keys: the\n\
+           SHA-256 of a text that names the fingerprint of the keys, and the book by its SHA-256.",
+    example: "Examples:\n\
+         \x20 uca fingerprint allkeys.txt data.txt\n\
+         \x20 uca fingerprint --compact my.book allkeys.txt data.txt",
+    arguments: &[WEIGHTING, IDENTICAL, TABLE, DATA, OF_COMPACT],
 };
 
 /// The subcommands that read a table, and lines or texts, in the order of the help.

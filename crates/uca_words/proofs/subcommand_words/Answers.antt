@@ -112,10 +112,10 @@ pub returns-in-rekey : goal.returns-in-rekey
 returns-in-rekey c weighs prints = of_name _ _ (rows_of (found_of c.args.found.now)) _ c.in-rekey.is (c.rekey_words.ensures weighs prints)
 
 pub returns-in-compact : goal.returns-in-compact
-returns-in-compact c weighs prints = of_name _ _ (rows_of (found_of c.args.found.now)) _ c.in-compact.is (c.compact_words.ensures weighs)
+returns-in-compact c weighs prints = of_name _ _ (rows_of (found_of c.args.found.now)) _ c.in-compact.is (c.compact_words.ensures weighs prints)
 
 pub returns-in-expand : goal.returns-in-expand
-returns-in-expand c weighs prints = of_name _ _ (rows_of (found_of c.args.found.now)) _ c.in-expand.is (c.expand_words.ensures weighs)
+returns-in-expand c weighs prints = of_name _ _ (rows_of (found_of c.args.found.now)) _ c.in-expand.is (c.expand_words.ensures weighs prints)
 
 pub returns-in-book : goal.returns-in-book
 returns-in-book c weighs prints = of_name _ _ (rows_of (found_of c.args.found.now)) _ c.in-book.is c.book_image_words.ensures

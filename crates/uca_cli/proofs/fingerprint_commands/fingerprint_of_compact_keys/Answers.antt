@@ -1,0 +1,11 @@
+-- The three files are opened, and then run over.
+use Rattle.std.proofs.Common.{[], ◌∷◌, inr}
+use Rattle.uca_cli.proofs.fingerprint_commands.fingerprint_of_compact_keys.Goals as goal
+
+pub returns-in-Ok : goal.returns-in-Ok
+returns-in-Ok g c = inr (record {
+  before = c.in-Ok.table ∷ c.in-Ok.properties ∷ c.in-Ok.book ∷ [];
+  after = c.run_compact_fingerprint.new.table ∷ c.run_compact_fingerprint.new.properties ∷ c.run_compact_fingerprint.new.book ∷ [];
+  opened = c.in-Ok.ensures;
+  runs = record { run = c.run_compact_fingerprint.result; runs = c.run_compact_fingerprint.ensures; status = c.done.ensures };
+})

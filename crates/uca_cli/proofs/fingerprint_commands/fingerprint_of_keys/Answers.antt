@@ -1,0 +1,11 @@
+-- Both files are opened, and then run over.
+use Rattle.std.proofs.Common.{[], ◌∷◌, inr}
+use Rattle.uca_cli.proofs.fingerprint_commands.fingerprint_of_keys.Goals as goal
+
+pub returns-in-Ok : goal.returns-in-Ok
+returns-in-Ok g c = inr (record {
+  before = c.in-Ok.table ∷ c.in-Ok.properties ∷ [];
+  after = c.run_fingerprint.new.table ∷ c.run_fingerprint.new.properties ∷ [];
+  opened = c.in-Ok.ensures;
+  runs = record { run = c.run_fingerprint.result; runs = c.run_fingerprint.ensures; status = c.done.ensures };
+})
