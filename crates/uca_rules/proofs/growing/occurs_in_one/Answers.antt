@@ -1,4 +1,4 @@
-use Rattle.std.proofs.Common.{List, ℕ, Contains, ◌∙◌, sym, subst}
+use Rattle.std.proofs.Common.{List, ℕ, Contains, ◌∙◌, sym, subst, rules}
 use Rattle.std.proofs.lemmas.Bool.{false≢true}
 use Rattle.std.proofs.lemmas.List.{take_all}
 use Rattle.uca_text.specs.Occurring.{OccursInOrder}
@@ -15,3 +15,6 @@ loop-text-preserved g c =
 pub returns-clause-none : goal.returns-clause-none
 returns-clause-none g c = λ none text contained.
     c.loop-text.invariant text (subst (λ (texts : List (List ℕ)). Contains texts text) (sym (take_all c.loop-text.text-index c.args.texts.now c.loop-text-test.false)) contained)
+
+pub returns-then-occurs_in_order-clause-none : goal.returns-then-occurs_in_order-clause-none
+returns-then-occurs_in_order-clause-none g c = search rules

@@ -1,4 +1,4 @@
-use Rattle.std.proofs.Common.{◌≡◌, ◌++◌, ◌∷◌, [], ◌↔◌, ◌⊎◌, List, ℕ, Contains, ap, subst, sym, refl, ◌∙◌, true, false}
+use Rattle.std.proofs.Common.{◌≡◌, ◌++◌, ◌∷◌, [], ◌↔◌, ◌⊎◌, List, ℕ, Contains, ap, subst, sym, refl, ◌∙◌, true, false, rules}
 use Rattle.uca_relations.specs.declared.Relation.{Relation}
 use Rattle.uca_relations.specs.Relations.{IsTarget}
 use Rattle.uca_rules.specs.inside.Growing.{held_texts}
@@ -19,3 +19,6 @@ returns-in_ok-push g c =
       held = (λ t. subst (λ (l : List (List ℕ)). Contains l t ↔ (Contains old t ⊎ ((t ≡ text) × ¬ (IsTarget c.args.self.now.relations.items text)))) (sym is)
           (holds_one old text (¬ (IsTarget c.args.self.now.relations.items text)) other t));
     }
+
+pub returns-else-not-is_target : goal.returns-else-not-is_target
+returns-else-not-is_target g c = search rules
