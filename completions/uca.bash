@@ -80,7 +80,6 @@ _uca() {
         *' --compact ' | *' --compact = ') ;;
         *' --from ' | *' --from = ') ;;
         *' --to ' | *' --to = ') ;;
-        *' --compact ' | *' --compact = ') ;;
         *)
             if [[ $current == -* && ! $ended ]]; then
                 _uca_options "$command" "$current" "$before"
