@@ -110,7 +110,8 @@ SET search_path = pg_catalog, pg_temp AS $$
         FROM once JOIN pg_class c ON class = 'pg_class'::regclass AND c.oid = object WHERE relkind = 'i'
         UNION ALL
         SELECT 2, depth, CASE WHEN attgenerated = 's' THEN 'generated column' ELSE 'default' END, format('%s.%I', attrelid::regclass, attname),
-            -- It is computed again where a column that it reads is written. A trigger or a rule could leave out rows.
+            -- It is computed again where a column that it reads is written. A trigger or a rule could leave out rows. A foreign key could
+            -- refer to another row afterwards, whose new key is the old one of its row.
             (SELECT format('UPDATE ONLY %s SET %I = %I', attrelid::regclass, b.attname, b.attname)
              FROM pg_attrdef JOIN pg_depend d ON d.classid = 'pg_attrdef'::regclass AND d.objid = pg_attrdef.oid AND d.refclassid = 'pg_class'::regclass
                  JOIN pg_attribute b ON b.attrelid = adrelid AND b.attnum = d.refobjsubid
@@ -118,6 +119,7 @@ SET search_path = pg_catalog, pg_temp AS $$
                  AND b.attidentity <> 'a' AND relkind <> 'f'
                  AND NOT EXISTS (SELECT FROM pg_trigger WHERE tgrelid = adrelid AND tgtype & 16 <> 0 AND tgenabled <> 'D' AND NOT tgisinternal)
                  AND NOT EXISTS (SELECT FROM pg_rewrite WHERE ev_class = adrelid AND ev_type = '2' AND ev_enabled <> 'D')
+                 AND NOT EXISTS (SELECT FROM pg_constraint WHERE contype = 'f' AND confrelid = adrelid AND a.attnum = ANY (confkey))
              ORDER BY b.attnum LIMIT 1), relowner
         FROM once JOIN pg_attribute a ON class = 'pg_class'::regclass AND part > 0 AND attrelid = object AND attnum = part
             JOIN pg_class c ON c.oid = attrelid AND (relkind <> 'p' OR attgenerated = '')
