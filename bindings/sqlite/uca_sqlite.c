@@ -8,7 +8,8 @@
    is as if it were not there. Where a fingerprint is given, the files and settings have to have it. 'unchecked' is none. Say the
    fingerprint is e7f5..:
 
-     uca_key(text, 'e7f5..')                  the sort key, a blob; NULL for NULL; an error for a blob and for a text that is rejected
+     uca_key(text, 'e7f5..')                  the sort key, a blob; NULL for NULL; an error for a blob, for a real number, and for a text
+                                              that is rejected
      uca_key(text, 'e7f5..', levels)          the key through 1 or 2 levels: of letters, or of letters and accents; 1 with a book
      uca_range_low(text, 'e7f5..', levels)    where the keys begin whose first levels are those of the text, as many as for uca_key
      uca_range_high(text, 'e7f5..', levels)   where they end: these keys are from the low end up to, and without, the high end
@@ -271,16 +272,29 @@ static void make_of_bytes(sqlite3_context *context, loaded *it, const request *a
     }
 }
 
+/* What a value of this type is in place of a key, or NULL for a blob. */
+static const char *what_is_no_key(int type)
+{
+    return type == SQLITE_BLOB ? NULL : "no blob, so it is no key";
+}
+
+/* What a value of this type is in place of a text, or NULL. Which text a blob is depends on the encoding of the database, and which
+   digits a real number has depends on the version of SQLite. */
+static const char *what_is_no_text(int type)
+{
+    return type == SQLITE_BLOB ? "a blob, not a text" : type == SQLITE_FLOAT ? "a real number, not a text" : NULL;
+}
+
 /* Returns what a function makes of a value by a fingerprint. */
 static void make(sqlite3_context *context, sqlite3_value *value, sqlite3_value *fingerprint, const request *asked)
 {
     int takes_key = asked->made == COMPACT_KEY || asked->made == EXPANDED_KEY, type = sqlite3_value_type(value);
+    const char *what = takes_key ? what_is_no_key(type) : what_is_no_text(type);
     loaded *it = find_value(context, asked->name, fingerprint);
     if (!it || type == SQLITE_NULL) {
         return;
     }
-    if (takes_key != (type == SQLITE_BLOB)) { /* which text a blob is depends on the encoding of the database */
-        const char *what = takes_key ? "no blob, so it is no key" : "a blob, not a text";
+    if (what) {
         give_error(context, sqlite3_mprintf("%s: the first argument is %s", asked->name, what));
         return;
     }
