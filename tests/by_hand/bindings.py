@@ -494,7 +494,9 @@ def sqlite_arguments(work):
         takes_key = name in ("uca_expand", "uca_compact")
         same(sqlite_says(work, f"SELECT {name}(NULL, '{fingerprint}'{more}) IS NULL;", load=load), "1\n", f"{name} of NULL")
         given, other, error = ("x'0A03'", "'0A03'", "no blob, so it is no key") if takes_key else ("'a'", "x'61'", "a blob, not a text")
-        sqlite_fails(work, f"{name}: the first argument is {error}", f"SELECT {name}({other}, '{fingerprint}'{more});", load=load)
+        of_real = error if takes_key else "a real number, not a text"
+        for value, what in ((other, error), ("0.1 + 0.2", of_real), ("1e0", of_real)):
+            sqlite_fails(work, f"{name}: the first argument is {what}", f"SELECT {name}({value}, '{fingerprint}'{more});", load=load)
         not_loaded = f"{name}: the files of fingerprint {OTHER} are not loaded; loaded: {fingerprint}"
         for wrong, error in ((OTHER, not_loaded), ("", f"{name}: the second argument {NO_FINGERPRINT}")):
             for value in (given, "NULL"):
@@ -508,11 +510,11 @@ def sqlite_arguments(work):
 
 
 # Texts of an index on keys, and what some ranges have of them, in order.
-LOOKED_THROUGH = "('a'), ('Á'), ('ab'), ('A-'), ('Abc'), ('b'), ('ch')"
-LOOKUPS = [("uca_range_{}('A', 1)", "a A- Á"), ("uca_prefix_{}('Ab')", "ab Abc"), ("uca_prefix_{}('c')", ""), ("uca_prefix_{}('')", "a A- Á ab Abc b ch"),
-           ("uca_range_{}('A', 2)", "a A-")]
+LOOKED_THROUGH = "('a'), ('Á'), ('ab'), ('A-'), ('-'), ('Abc'), ('b'), ('ch')"
+LOOKUPS = [("uca_range_{}('A', 1)", "a A- Á"), ("uca_prefix_{}('Ab')", "ab Abc"), ("uca_prefix_{}('c')", ""), ("uca_prefix_{}('')", "- a A- Á ab Abc b ch"),
+           ("uca_prefix_{}(' ')", "- a A- Á ab Abc b ch"), ("uca_range_{}(' ', 1)", "-"), ("uca_range_{}('A', 2)", "a A-")]
 # Texts that go into a unique index on keys through so many levels, and one that does not.
-UNIQUES = [(1, "('a'), ('b'), ('ab')", "('Á')"), (2, "('a'), ('á'), ('b')", "('A')")]
+UNIQUES = [(1, "('a'), ('b'), ('ab')", "('Á')"), (1, "('a'), (' '), (NULL), (NULL)", "('')"), (2, "('a'), ('á'), ('b')", "('A')")]
 
 
 def without_book(them, book):
@@ -1071,7 +1073,11 @@ def postgresql_dependents(work):
              f"CREATE FOREIGN TABLE far(word text, {key.format('word')}) SERVER none;")
         same(says("SELECT object, statement FROM uca_dependents();"),
              "public.both_kinds.key|UPDATE ONLY public.both_kinds SET word = word\npublic.far.key|\npublic.numbered.key|\n", "columns that no UPDATE makes again")
-        says("DROP TABLE numbered, both_kinds; DROP FOREIGN TABLE far;")
+        says("DROP TABLE numbered, both_kinds; DROP FOREIGN TABLE far;"
+             f"CREATE TABLE referred(word text, {key.format('word, 1')} UNIQUE); CREATE TABLE refers(key bytea REFERENCES referred(key));")
+        its_statement = "SELECT object, statement IS NULL FROM uca_dependents();"
+        same(says(f"{its_statement} DROP TABLE refers; {its_statement}"), "public.referred.key|t\npublic.referred.key|f\n", "a column that a foreign key refers to")
+        says("DROP TABLE referred;")
         says(VIEWS)
         listed = "SET statement_timeout = '20s'; SELECT object, statement IS NULL FROM uca_dependents() WHERE kind = 'materialized view';"
         same(says(listed), 'public.z|f\npublic."A"|f\n', "views over views")
@@ -1199,10 +1205,14 @@ def postgresql_lookups(says, book):
         plan = says(f"SET enable_seqscan = off; SET enable_bitmapscan = off; EXPLAIN (costs off) SELECT word FROM words WHERE {where};")
         if not plan.startswith("Index Scan using by_key on words\n  Index Cond: "):
             raise AssertionError(f"a query without its index: {where}: {plan}")
-    for levels, goes_in, error in without_book(UNIQUES, book):
-        says(f"CREATE TABLE one{levels}(word text); CREATE UNIQUE INDEX ON one{levels}(uca_key(word, {levels})); INSERT INTO one{levels} VALUES {goes_in};")
-        if "duplicate key value violates unique constraint" not in says(f"INSERT INTO one{levels} VALUES {error};", fails=True):
+    for number, (levels, goes_in, error) in enumerate(without_book(UNIQUES, book)):
+        says(f"CREATE TABLE one{number}(word text); CREATE UNIQUE INDEX ON one{number}(uca_key(word, {levels})); INSERT INTO one{number} VALUES {goes_in};")
+        if "duplicate key value violates unique constraint" not in says(f"INSERT INTO one{number} VALUES {error};", fails=True):
             raise AssertionError(f"a second text of the same {levels} levels")
+    low, high = re.findall(r"`('\\x00' \|\| uca_range_\w+\(.*?\))`", content(f"{TOP}/docs/BINDINGS.md").decode())
+    made = f"CREATE TABLE all_words AS SELECT * FROM words; INSERT INTO all_words VALUES ({RUN_OF_65}); CREATE INDEX ON all_words(uca_any_key(word));"
+    any_range = f"SELECT string_agg(word, ' ') FROM all_words WHERE uca_any_key(word) >= {low} AND uca_any_key(word) < {high};"
+    same(says(made + any_range), "ab\n", "the page's range of any keys")
 
 
 def postgresql_books(work):
