@@ -125,8 +125,9 @@ SET search_path = pg_catalog, pg_temp AS $$
             JOIN pg_class c ON c.oid = attrelid AND (relkind <> 'p' OR attgenerated = '')
         UNION ALL
         SELECT 3, depth, 'check', format('%I on %s', conname, coalesce(nullif(conrelid, 0)::regclass::text, contypid::regtype::text)),
-            -- One that a parent has too is kept and not tested again, while the parent's is dropped and added.
-            CASE WHEN coninhcount > 0 THEN NULL WHEN contypid = 0
+            -- One that a parent has too is kept and not tested again, while the parent's is dropped and added. Nor is one tested that is NOT
+            -- VALID or of a foreign table.
+            CASE WHEN coninhcount > 0 OR NOT convalidated OR relkind = 'f' THEN NULL WHEN contypid = 0
             THEN format('ALTER TABLE %s DROP CONSTRAINT %I, ADD CONSTRAINT %I %s', conrelid::regclass, conname, conname, pg_get_constraintdef(k.oid))
             ELSE format('ALTER DOMAIN %s DROP CONSTRAINT %I; ALTER DOMAIN %s ADD CONSTRAINT %I %s',
                         contypid::regtype, conname, contypid::regtype, conname, pg_get_constraintdef(k.oid)) END,

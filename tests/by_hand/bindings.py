@@ -1070,14 +1070,20 @@ def postgresql_dependents(work):
         says(f"CREATE TABLE numbered(id integer GENERATED ALWAYS AS IDENTITY, {key.format('id::text')});"
              f"CREATE TABLE both_kinds(id integer GENERATED ALWAYS AS IDENTITY, word text, {key.format('id::text || word')});"
              "CREATE FOREIGN DATA WRAPPER none; CREATE SERVER none FOREIGN DATA WRAPPER none;"
-             f"CREATE FOREIGN TABLE far(word text, {key.format('word')}) SERVER none;")
+             f"CREATE FOREIGN TABLE far(word text CONSTRAINT its CHECK (uca_key(word) > ''), {key.format('word')}) SERVER none;")
         same(says("SELECT object, statement FROM uca_dependents();"),
-             "public.both_kinds.key|UPDATE ONLY public.both_kinds SET word = word\npublic.far.key|\npublic.numbered.key|\n", "columns that no UPDATE makes again")
+             "public.both_kinds.key|UPDATE ONLY public.both_kinds SET word = word\npublic.far.key|\npublic.numbered.key|\nits on public.far|\n",
+             "columns that no UPDATE makes again, and a CHECK that tests no rows")
         says("DROP TABLE numbered, both_kinds; DROP FOREIGN TABLE far;"
              f"CREATE TABLE referred(word text, {key.format('word, 1')} UNIQUE); CREATE TABLE refers(key bytea REFERENCES referred(key));")
         its_statement = "SELECT object, statement IS NULL FROM uca_dependents();"
         same(says(f"{its_statement} DROP TABLE refers; {its_statement}"), "public.referred.key|t\npublic.referred.key|f\n", "a column that a foreign key refers to")
-        says("DROP TABLE referred;")
+        says("DROP TABLE referred;"
+             "CREATE TABLE late(word text, key bytea); ALTER TABLE late ADD CONSTRAINT its CHECK (key = uca_key(word)) NOT VALID;"
+             "CREATE DOMAIN later AS text; ALTER DOMAIN later ADD CONSTRAINT its CHECK (uca_key(VALUE) > '') NOT VALID;")
+        validated = "ALTER TABLE late VALIDATE CONSTRAINT its; ALTER DOMAIN later VALIDATE CONSTRAINT its;"
+        same(says(f"{its_statement} {validated} {its_statement}"), "its on public.late|t\nits on public.later|t\nits on public.late|f\nits on public.later|f\n", "a CHECK that is NOT VALID")
+        says("DROP TABLE late; DROP DOMAIN later;")
         says(VIEWS)
         listed = "SET statement_timeout = '20s'; SELECT object, statement IS NULL FROM uca_dependents() WHERE kind = 'materialized view';"
         same(says(listed), 'public.z|f\npublic."A"|f\n', "views over views")
