@@ -658,6 +658,14 @@ def page_statements(work, database, block, load=sqlite_load(TAILORED)):
     same(sqlite_says(work, load, "PRAGMA integrity_check;", database=f"{work}/{database}"), "ok\n", database)
 
 
+def page_error(work, database, block, *tables):
+    """Where the files are not found, the page's statements end, also without -bail. Three rows are in each of these tables then."""
+    ran = subprocess.run(["sqlite3", f"{work}/{database}"], input=block.replace("tailored.txt", "none.txt"), capture_output=True, text=True, cwd=TOP)
+    if "uca_load: the table 'examples/none.txt': it is not found" not in ran.stderr:
+        raise AssertionError(f"the page's statements without their files: {ran.stderr}")
+    same(sqlite_says(work, *(f"SELECT count(*) FROM {it};" for it in tables), database=f"{work}/{database}"), "3\n" * len(tables), f"the rows of {tables}")
+
+
 def sqlite_page(work):
     """The statements of docs/BINDINGS.md: the first ones, those with a book, those after a change of files, and those for a database that was made
     before."""
@@ -666,9 +674,12 @@ def sqlite_page(work):
     sqlite_says(work, "SELECT 1;")
     page_statements(work, "page.db", first)
     page_statements(work, "book.db", with_book, load=sqlite_load(book=BOOK))
+    page_error(work, "page.db", changed, "words")
     page_statements(work, "page.db", changed)
-    database_made_before(f"{work}/before.db")
+    for it in ("before.db", "before-error.db"):
+        database_made_before(f"{work}/{it}")
     sqlite_fails(work, "wrong number of arguments to function uca_key()", "SELECT word FROM words;", database=f"{work}/before.db")
+    page_error(work, "before-error.db", before, "words", "old_names")
     page_statements(work, "before.db", before)
     constraint = re.search(r"`(CHECK \(.*?\))`", text).group(1).replace("e7f5..", USED)
     made = f"CREATE TABLE plain(word TEXT, key BLOB {constraint}); INSERT INTO plain VALUES ('a', uca_key('a', '{USED}')), (NULL, NULL);"
