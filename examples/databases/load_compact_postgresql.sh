@@ -17,7 +17,7 @@ uca keys --lines "$@" "$table" "$data" < "$lines" > "$keyed"
 uca compact "$@" "$book" < "$keyed" > "$compact"
 
 # The same signs as in load_postgresql.sh. -1 makes one transaction of it.
-sed -e 's/\\/\\\\/g' -e 's/\t/\\t/2g' -e 's/\r/\\r/g' -e 's/^/\\\\x/' "$compact" |
+sed -e 's/\\/\\\\/g' -e 's/\x00/\\000/g' -e 's/\t/\\t/2g' -e 's/\r/\\r/g' -e 's/^/\\\\x/' "$compact" |
     psql -q -1 -v ON_ERROR_STOP=1 \
         -c 'create table compact_words (number bigint generated always as identity, key bytea not null, word text not null)' \
         -c 'create table compact_made_by (header text not null, book text not null)' \

@@ -4,8 +4,8 @@
 #     examples/databases/mend_postgresql.sh TABLE DATA RULES TAILORED CERTIFICATE [OPTION OF uca keys..]
 #
 # The table `words` is one that load_postgresql.sh made. Its keys have to be those of TABLE, DATA and the options, and `uca audit` has to
-# accept the tailoring. The certificate may move no weight, since old keys would not mix with new ones. Otherwise the script changes
-# nothing and ends with status 1.
+# accept the tailoring. The certificate may move no weight, since old keys would not mix with new ones. No text may have a line feed.
+# Otherwise the script changes nothing and ends with status 1.
 set -euo pipefail
 table=$1 data=$2 rules=$3 tailored=$4 certificate=$5
 shift 5
@@ -22,6 +22,12 @@ if ! said=$(uca audit "$table" "$data" "$rules" "$tailored" "$certificate"); the
 fi
 if ! awk '$2 != $3 { moved = 1 } END { exit moved }' "$certificate"; then
     echo 'the certificate moves weights: make all keys again' >&2
+    exit 1
+fi
+
+# The texts are read as lines.
+if [ "$(psql -v ON_ERROR_STOP=1 -Atc 'select exists (select from words where strpos(word, chr(10)) > 0)')" != f ]; then
+    echo 'a text has a line feed' >&2
     exit 1
 fi
 

@@ -112,8 +112,23 @@ def level_one(bench, text):
 # ---- Databases
 
 
+def zero_bytes(bench, kind, *database):
+    """The scripts that load lines reject U+0000, also in the last line."""
+    lines, book = bench.path("zero.txt"), bench.path("zero.book")
+    for name, bytes_of in ((lines, b"c\na\0b\n"), (book, b"@book 1\n")):
+        with open(name, "wb") as file:
+            file.write(bytes_of)
+    for script, given in ((f"load_{kind}.sh", []), (f"load_compact_{kind}.sh", [book])):
+        try:
+            bench.example(script, bench.table, bench.data, *given, lines, *database)
+            bench.check(f"{kind}: {script} rejects U+0000", False)
+        except Failed as it:
+            bench.check(f"{kind}: {script} rejects U+0000", "rror" in str(it) or "ERROR" in str(it))
+
+
 def try_sqlite(bench):
     """Order, ties and a lookup in SQLite."""
+    zero_bytes(bench, "sqlite", bench.path("zero.db"))
     for name, options in [("order", []), ("order with --identical", ["--identical"]), ("non-ignorable order", ["--weighting", "non-ignorable"])]:
         database = bench.path("words.db")
         bench.example("load_sqlite.sh", bench.table, bench.data, bench.lines, database, *options)
@@ -141,6 +156,7 @@ def try_postgresql(bench):
     """Order, ties, a lookup and long texts in a PostgreSQL server of its own."""
     with PostgreSQL(bench.room) as server:
         bench.environment.update(server.environment)
+        zero_bytes(bench, "postgresql")
         for name, options in [("order with --identical", ["--identical"]), ("order", [])]:
             bench.run(["psql", "-qc", "drop table if exists words"])
             bench.example("load_postgresql.sh", bench.table, bench.data, bench.lines, *options)
@@ -344,6 +360,13 @@ def mend(bench, kind, query, script, database):
             bench.check(f"tailoring: {kind}: {what}", False)
         except Failed as it:
             bench.check(f"tailoring: {kind}: {what}", said in str(it) and bench.run(query) == before)
+    bench.run([*query[:-1], "insert into words (key, word) values ('', 'b\nbh')"])
+    try:
+        bench.example(*script, bench.table, bench.data, rules, table, certificate, *database)
+        bench.check(f"tailoring: {kind}: a text with a line feed is seen", False)
+    except Failed as it:
+        bench.check(f"tailoring: {kind}: a text with a line feed is seen", "a text has a line feed" in str(it))
+    bench.run([*query[:-1], "delete from words where key = ''"])
     bench.example(*script, bench.table, bench.data, rules, table, certificate, *database)
     affected = bench.uca("affected", bench.data, rules, lines=lines)
     said = f"{affected.count(10):,} of {lines.count(10):,} lines are affected"
