@@ -22,5 +22,4 @@ pub mod LevelSteps
 pub mod KeySteps
 pub mod ExpandedKeys
 pub mod KeyBytes
-pub mod TextKeys
 pub mod Lengths
