@@ -87,7 +87,7 @@ class Model:
     # How many names and texts a command takes, and which options.
     TAKES = {
         "check": (2, []),
-        "keys": (2, ["--weighting", "--identical", "--lines", "--header"]),
+        "keys": (2, ["--weighting", "--identical", "--lines", "--header", "--compact"]),
         "sort": (2, ["--weighting", "--identical"]),
         "compare": (4, ["--weighting", "--identical"]),
         "tailor": (4, []),
@@ -143,6 +143,7 @@ LINES = """check t d
 keys t d
 keys --weighting shifted t d --identical --lines
 keys --header t d
+keys t --compact k d --lines
 sort --weighting=non-ignorable --identical t d
 compare t d a b
 compare --identical t d --weighting non-ignorable -- -a --b

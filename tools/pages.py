@@ -20,7 +20,7 @@ import sys
 import tempfile
 
 TOP = os.path.dirname(os.path.dirname(os.path.realpath(__file__)))
-PAGES = ["README.md", "examples/README.md", *(f"docs/{it}" for it in sorted(os.listdir(f"{TOP}/docs")) if it.endswith(".md"))]
+PAGES = ["README.md", "examples/README.md", "examples/books/README.md", *(f"docs/{it}" for it in sorted(os.listdir(f"{TOP}/docs")) if it.endswith(".md"))]
 END = "== end of output"
 ALLKEYS, CLDR = "/usr/share/unicode/allkeys.txt", "/usr/share/unicode/cldr/common/collation"
 

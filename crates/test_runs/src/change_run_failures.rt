@@ -1,7 +1,8 @@
 //! What fails, and what is then returned and written.
 
 use crate::change_runs::{
-    COMPACT, EXPANDED, End, HEADED_COMPACT, HEADED_EXPANDED, IMAGE, KEYS, MOVED, Run, call, rekey,
+    COMPACT, COMPACT_WORDS, EXPANDED, End, HEADED_COMPACT, HEADED_COMPACT_KEYS, HEADED_EXPANDED,
+    IMAGE, KEYS, MOVED, Run, call, rekey,
 };
 use std::alloc::Global;
 use std::io::ErrorKind;
@@ -68,6 +69,16 @@ const LINES: &[Case<'static>] = &[
         run: Run::HeadedExpand,
         places: "book memory input",
         whole: HEADED_EXPANDED,
+    },
+    Case {
+        run: Run::CompactLines,
+        places: "table data book memory input",
+        whole: COMPACT_WORDS,
+    },
+    Case {
+        run: Run::HeadedCompactKeys,
+        places: "table data book memory input",
+        whole: HEADED_COMPACT_KEYS,
     },
 ];
 

@@ -1,5 +1,5 @@
-//! Runs over the small files of a change: they find it, audit it, print affected lines or rekey lines. Two more compact
-//! stored keys and expand them, and one prints the image of their book.
+//! Runs over the small files of a change: they find it, audit it, print affected lines or rekey lines. Others compact
+//! stored keys and expand them, print compact keys of lines, and print the image of a book.
 
 use std::alloc::{Allocator, Global};
 use std::io::{Read, Write};
@@ -9,6 +9,7 @@ use uca_certificates::write_certificate;
 use uca_change_files::write_changes;
 use uca_change_runs::{run_affected_by_changes_in, run_audit_changes, run_changes};
 use uca_editions::FoundChanges;
+use uca_key_runs::{run_compact_lines, run_headed_compact_keys};
 use uca_rekey::{run_compact, run_expand, run_headed_compact, run_headed_expand, run_rekey};
 use uca_run_parts::RunFault;
 use uca_weights::Depth::Weights;
@@ -68,6 +69,16 @@ pub const HEADED_EXPANDED: &str =
     "#uca keys 1 non-ignorable weights 1a1a1a1a1a1a1a1a1a1a1a1a1a1a1a1a1a1a1a1a1a1a1a1a1a1a1a1a1a1a1a1a\n\
     1C600000002000000002\n1C471C60000000200020000000020002\tab\n00000000\n";
 
+/// Lines of the letters of the old table, and what has their compact keys before them.
+const WORDS: &str = "b\nab\n\n";
+
+pub const COMPACT_WORDS: &str = "0A02\tb\n080A02\tab\n02\t\n";
+
+/// The compact keys of these lines after their header. Its fingerprint was made by `sha256sum`.
+pub const HEADED_COMPACT_KEYS: &str =
+    "#uca compact 1 non-ignorable weights c509f42d0229d44a02199297f3b48fa85ef30bdc247caf21fe0adc0d6532e24a\n\
+    0A02\n080A02\n02\n";
+
 /// A run.
 #[derive(Clone, Copy)]
 pub enum Run {
@@ -87,6 +98,10 @@ pub enum Run {
     HeadedCompact,
     /// It expands the compact keys of lines after a header.
     HeadedExpand,
+    /// It prints lines after their compact keys.
+    CompactLines,
+    /// It prints the compact keys of lines after a header.
+    HeadedCompactKeys,
     /// It prints the image of a book.
     Book,
 }
@@ -192,6 +207,34 @@ fn book(tried: &Refusing, out: &mut Sink<Vec<u8>>) -> End {
     run_book(tried, &mut file(5), &mut book, out)
 }
 
+fn compact_lines(ample: Global, tried: &Refusing, out: &mut Sink<Vec<u8>>) -> End {
+    run_compact_lines(
+        tried,
+        ample,
+        &mut file(0),
+        &mut file(1),
+        &mut Source::new(BOOK.as_bytes()),
+        &mut Source::new(WORDS.as_bytes()),
+        out,
+        Some(NonIgnorable),
+        Weights,
+    )
+}
+
+fn headed_compact_keys(ample: Global, tried: &Refusing, out: &mut Sink<Vec<u8>>) -> End {
+    run_headed_compact_keys(
+        tried,
+        ample,
+        &mut file(0),
+        &mut file(1),
+        &mut Source::new(BOOK.as_bytes()),
+        &mut Source::new(WORDS.as_bytes()),
+        out,
+        Some(NonIgnorable),
+        Weights,
+    )
+}
+
 /// Makes a run over these files. Texts in Normalization Form D are in ample memory.
 pub fn call(ample: Global, tried: &Refusing, run: Run, out: &mut Sink<Vec<u8>>) -> End {
     let mut lines = Source::new(LINES.as_bytes());
@@ -206,6 +249,8 @@ pub fn call(ample: Global, tried: &Refusing, run: Run, out: &mut Sink<Vec<u8>>) 
         Run::Expand => expand(tried, out),
         Run::HeadedCompact => headed_compact(tried, out),
         Run::HeadedExpand => headed_expand(tried, out),
+        Run::CompactLines => compact_lines(ample, tried, out),
+        Run::HeadedCompactKeys => headed_compact_keys(ample, tried, out),
         Run::Book => book(tried, out),
     }
 }

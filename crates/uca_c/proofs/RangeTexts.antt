@@ -1,5 +1,5 @@
 -- What is read of the key of a text for a range: its letters, and where its first two levels end.
-use Rattle.std.proofs.Common.{◌≡◌, ◌∙◌, ℕ, zero, suc, List, [], ◌∷◌, Bool, true, Option, Some, None, option_map, refl, ap, sym, subst, arith}
+use Rattle.std.proofs.Common.{◌≡◌, ◌∙◌, ℕ, zero, suc, List, [], ◌∷◌, Bool, true, false, Option, Some, None, option_map, if◌then◌else◌, refl, ap, sym, subst, arith}
 use Rattle.uca_weights.specs.declared.Depth.{Depth}
 use Rattle.uca_weights.specs.declared.Settings.{Settings}
 use Rattle.uca_weights.specs.declared.Weighting.{Weighting}
@@ -41,6 +41,16 @@ letters_by depth Shifted t key h = first_level depth 3 (stored_level key) (text_
 pub letters_are_read : (s : Settings) (t : ReadText) (key : List ℕ) → AreBytes key → IsKeyOf s t key
     → option_map (λ l. l.weights) (stored_level key) ≡ Some (letters_in s.weighting t)
 letters_are_read s t key are is = letters_by s.depth s.weighting t key (parts_are_read s t key are is)
+
+-- whether they are found, and which are
+told : (o : Option (List ℕ)) (x y : List ℕ) (found : Bool) → o ≡ Some x → o ≡ (if found then Some y else None) → (found ≡ true) × (y ≡ x)
+told o x y true is h = (refl, sym (same_some x y (sym is ∙ h)))
+told o x y false is h = nothing (sym h ∙ is)
+
+pub letters_told : (s : Settings) (t : ReadText) (key letters : List ℕ) (found : Bool) → AreBytes key → IsKeyOf s t key
+    → option_map (λ l. l.weights) (stored_level key) ≡ (if found then Some letters else None) → (found ≡ true) × (letters ≡ letters_in s.weighting t)
+letters_told s t key letters found are is h =
+    told (option_map (λ l. l.weights) (stored_level key)) (letters_in s.weighting t) letters found (letters_are_read s t key are is) h
 
 -- its first two levels
 two_begin : (depth : Depth) (weighting : Weighting) (t : ReadText) → LevelsBegin (letters_in weighting t ∷ accents_in weighting t ∷ []) (text_parts depth weighting t).levels

@@ -1,14 +1,16 @@
 //! The ends of the ranges of keys that a lookup by a text scans.
 
-ghost use Rattle.std.specs.Prelude.{◌≡◌, ◌≢◌, ◌↔◌, ◌⊎◌, ◌∷◌, [], Some, None, Option, IfOk, OnOk, option_map};
+ghost use Rattle.std.specs.Prelude.{◌≡◌, ◌≢◌, ◌↔◌, ◌⊎◌, ◌∷◌, [], Some, None, Option, IfOk, IfErr, OnOk, option_map};
 ghost use Rattle.uca_order.specs.Depths.{ReadText};
 ghost use Rattle.uca_compact.specs.Forms.{AreWeights};
 ghost use Rattle.uca_c.specs.CompactCalls.{IsOneTooSmall, WritesOne};
-ghost use Rattle.uca_c.specs.OpenCollators.{keying_at};
+ghost use Rattle.uca_c.specs.OpenCollators.{keying_at, text_of};
 ghost use Rattle.uca_c.specs.declared.numbers.End.{End};
 ghost use Rattle.uca_c.specs.declared.numbers.RangeOf.{RangeOf};
 ghost use Rattle.uca_c.specs.RangeCalls.{letters_in, whole_end, compact_end, end_by, AsksNoEnd, IsEndOf};
-ghost use Rattle.uca_c.specs.Statuses.{IsKeyStatus};
+ghost use Rattle.uca_owned.specs.Causes.{IsAcceptedText, IsKeyCause};
+ghost use Rattle.uca_owned.specs.Owned.{key_in};
+ghost use Rattle.uca_c.specs.Statuses.{IsErrorStatus, IsKeyStatus, key_status};
 ghost use Rattle.uca_c.specs.inside.TextKeys.{IsKeyOf, IsTextKey};
 
 use crate::numbers::{End, RangeOf, asked_end, asked_range};
@@ -71,6 +73,45 @@ fn compact_range(
     }
 }
 
+// The letters of a text, by its key.
+fn letters_of(alloc: Global, settings: Settings, key: &[u8]) -> Result<Vec<u16>, AllocError>
+    requires { IsTextKey settings key.now }
+    ensures letters { (t : ReadText) → IsKeyOf settings t key.now → IfOk result (λ letters. letters.items ≡ letters_in settings.weighting t) }
+    ensures weights { IfOk result (λ letters. AreWeights letters.items) }
+{
+    let mut letters = Vec::new(alloc);
+    // The key is that of a text, so level 1 is found.
+    match read_letters(key, &mut letters) {
+        Ok(_) => Ok(letters),
+        Err(error) => Err(error),
+    }
+}
+
+// Both ends of a range, by the key of a text and its letters.
+fn write_range(
+    settings: Settings,
+    book: Option<&Book>,
+    range: RangeOf,
+    key: &[u8],
+    letters: &[u16],
+    low: &mut Vec<u8>,
+    high: &mut Vec<u8>,
+) -> Result<(), AllocError>
+    requires text { IsTextKey settings key.now }
+    requires letters { (t : ReadText) → IsKeyOf settings t key.now → letters.now ≡ letters_in settings.weighting t }
+    requires weights { AreWeights letters.now }
+    requires range { book ≢ None → range ≢ RangeOf.SameAccents }
+    ensures low { (t : ReadText) → IsKeyOf settings t key.now →
+        OnOk result (low.new.items ≡ end_by (option_map (λ b. b.now) book.entry) range End.Low settings.weighting t) }
+    ensures high { (t : ReadText) → IsKeyOf settings t key.now →
+        OnOk result (high.new.items ≡ end_by (option_map (λ b. b.now) book.entry) range End.High settings.weighting t) }
+{
+    match book {
+        None => whole_range(settings, range, key, letters, low, high),
+        Some(book) => compact_range(book, settings.weighting, range, letters, low, high),
+    }
+}
+
 // An end of a range, by the key of a text.
 fn end_bytes(
     alloc: Global,
@@ -83,30 +124,50 @@ fn end_bytes(
     requires text { IsTextKey settings key.now }
     requires range { book ≢ None → range ≢ RangeOf.SameAccents }
     ensures { (t : ReadText) → IsKeyOf settings t key.now →
-        IfOk result (λ bytes. bytes.items ≡ end_by (option_map (λ b. b.now) book) range end settings.weighting t) }
+        IfOk result (λ bytes. bytes.items ≡ end_by (option_map (λ b. b.now) book.entry) range end settings.weighting t) }
 {
-    let mut letters = Vec::new(alloc);
+    let letters = letters_of(alloc, settings, key)?;
     let mut low = Vec::new(alloc);
     let mut high = Vec::new(alloc);
-    let found = read_letters(key, &mut letters)?;
-    prove!(found);
-    match book {
-        None => whole_range(settings, range, key, &letters, &mut low, &mut high)?,
-        Some(book) => {
-            compact_range(
-                book,
-                settings.weighting,
-                range,
-                &letters,
-                &mut low,
-                &mut high,
-            )?
-        }
-    }
+    write_range(settings, book, range, key, &letters, &mut low, &mut high)?;
     match end {
         End::Low => Ok(low),
         End::High => Ok(high),
     }
+}
+
+// An end of a range, by the key that was made last.
+fn last_end(
+    alloc: Global,
+    collator: &OpenCollator,
+    range: RangeOf,
+    end: End,
+) -> Result<Vec<u8>, AllocError>
+    requires text { IsTextKey (keying_at collator.now).settings (key_in collator.now.collator) }
+    requires range { collator.now.book ≢ None → range ≢ RangeOf.SameAccents }
+    ensures { (t : ReadText) → IsKeyOf (keying_at collator.now).settings t (key_in collator.now.collator) →
+        IfOk result (λ bytes. bytes.items ≡ end_by collator.now.book range end (keying_at collator.now).settings.weighting t) }
+{
+    let key = collator.collator.key();
+    let settings = collator.collator.settings();
+    match &collator.compacter {
+        None => end_bytes(alloc, settings, None, key, range, end),
+        Some(compacter) => end_bytes(alloc, settings, Some(compacter.book()), key, range, end),
+    }
+}
+
+// Makes the key of a text.
+fn make_key(collator: &mut OpenCollator, text: &[u8]) -> Result<(), u32>
+    ensures key { OnOk result (IsKeyOf (keying_at collator.old).settings (text_of (keying_at collator.old) text.now) (key_in collator.new.collator)) }
+    ensures accepted { OnOk result (IsAcceptedText (keying_at collator.old).collation.properties text.now) }
+    ensures rejected { IfErr result (IsErrorStatus (IsKeyCause (keying_at collator.old).collation.properties text.now) key_status) }
+    ensures keying { keying_at collator.new ≡ keying_at collator.old }
+    ensures book { collator.new.book ≡ collator.old.book }
+{
+    if let Err(fault) = collator.collator.make_key(text) {
+        return Err(status_of_text(fault));
+    }
+    Ok(())
 }
 
 // Writes an end of a range where it has room, and how many bytes it has.
@@ -135,15 +196,10 @@ pub fn write_end(
     let Some(end) = asked_end(end) else {
         return ARGUMENT;
     };
-    if let Err(fault) = collator.collator.make_key(text) {
-        return status_of_text(fault);
+    if let Err(status) = make_key(collator, text) {
+        return status;
     }
-    let settings = collator.collator.settings();
-    let book = match &collator.compacter {
-        None => None,
-        Some(compacter) => Some(compacter.book()),
-    };
-    match end_bytes(alloc, settings, book, collator.collator.key(), range, end) {
+    match last_end(alloc, collator, range, end) {
         Ok(bytes) => copy_out(&bytes, out, needed),
         Err(_) => MEMORY,
     }

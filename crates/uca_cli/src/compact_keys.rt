@@ -25,7 +25,7 @@ pub(crate) fn keys_by_book<O: Opens, I: Read, W: Write>(
     out: &mut Sink<W>,
 ) -> Result<u8, RunFault>
     ensures { DoesKeysBy (file_system O.calls O.File.remaining O.Made.contents)
-        opener.old opener.new words.now (Some book) (streams input.old out.old) (streams input.new out.new) result }
+        opener.old opener.new words.now (Some book.entry) (streams input.old out.old) (streams input.new out.new) result }
 {
     match open_three(
         opener,
