@@ -6,6 +6,7 @@ use Rattle.std.specs.declared.cmp.Ordering.{Ordering}
 use Rattle.std.specs.declared.cmp.Ordering.TheVariants.{Less, Equal, Greater}
 use Rattle.uca_weights.specs.declared.Depth.{Depth}
 use Rattle.uca_weights.specs.declared.Weighting.{Weighting}
+use Rattle.uca_weights.specs.declared.Weighting.TheVariants.{NonIgnorable, Shifted}
 use Rattle.uca_order.specs.Levels.{lexicographic, level_count}
 use Rattle.uca_books.specs.Books.{BookContent, IsBook}
 use Rattle.uca_compact.specs.Forms.{Form, AreForms, AreWeights, AreLevels, forms_of}
@@ -14,11 +15,11 @@ use Rattle.uca_compact.specs.CompactKeys.{end_of, later_levels, compact, compact
 use Rattle.uca_compact.proofs.Below.{IsBelow}
 use Rattle.uca_compact.proofs.LevelsOrder.{levels_order, order_turned, end_bounds}
 use Rattle.uca_compact.proofs.Forms.{forms_fit, forms_count}
-use Rattle.uca_lookups.specs.Ranges.{InRange, LevelsBegin, plain_levels, levels_after, with_last, compact_levels_low, compact_levels_high}
+use Rattle.uca_lookups.specs.Ranges.{InRange, LevelsBegin, plain_levels, levels_after, with_last, plain_key, compact_levels_low, compact_levels_high}
 use Rattle.uca_lookups.specs.Laws.{CompactKeysByLevels}
 use Rattle.uca_lookups.proofs.Ranges.{both_hold, neither_holds, iff_then, range_as, range_between, below_low, past_last, below_longer, below_longer_right}
 use Rattle.uca_lookups.proofs.CompactLetters.{utf8_part, compact_is}
-use Rattle.uca_lookups.proofs.FirstLevels.{first_code, forms_after, code_is, HasEnding, first_ending, plain_count, plain_end, plain_bytes}
+use Rattle.uca_lookups.proofs.FirstLevels.{HaveRoom, forms_have_room, first_code, forms_after, code_is, HasEnding, first_ending, plain_count, plain_end, plain_bytes}
 use Rattle.uca_lookups.proofs.FirstOrder.{IsNear, AreFirst, first_below, equal_levels, order_itself}
 
 -- ---- What other levels make of an end
@@ -61,6 +62,43 @@ plain_is f forms count a fs tie e =
     ∙ e.is (λ n. end_of plain_level n (a ∷ fs) plains) more
     ∙ ap (λ (n : ℕ). e.front ++ (e.base + n) ∷ more) (plain_end e.last (a ∷ fs) count)
     ∙ ap (λ (xs : List ℕ). e.front ++ (e.base + e.last) ∷ xs) (plain_bytes (forms_after forms fs) (a ∷ fs) count)
+
+-- forms are a first one and others
+first_form : (forms : List Form) → 0 < length forms → (f : Form) × (more : List Form) × (forms ≡ f ∷ more)
+first_form [] some = absurd (omega arith)
+first_form (f ∷ more) some = (f, more, refl)
+
+-- the forms of each weighting have room
+all_have_room : (weighting : Weighting) (b : BookContent) → HaveRoom (forms_of weighting b)
+all_have_room NonIgnorable b = ((omega arith, omega arith, refl, (omega arith, omega arith, refl, (omega arith, omega arith, refl, tt))))
+all_have_room Shifted b =
+    ((omega arith, omega arith, refl, (omega arith, omega arith, refl, (omega arith, omega arith, refl, (omega arith, omega arith, refl, tt)))))
+
+-- the key of these levels and plain ones ends in such a byte
+pub record EndsInByte (weighting : Weighting) (b : BookContent) (firsts : List (List ℕ)) : Type 0 where
+  pub front : List ℕ
+  pub end : ℕ
+  pub room : levels_after weighting firsts ≤ end
+  pub top : end + suc (levels_after weighting firsts) < 256
+  pub is : plain_key weighting b firsts ≡ front ++ end ∷ []
+
+pub ends_in_byte : (weighting : Weighting) (b : BookContent) (firsts : List (List ℕ)) → 0 < length firsts → length firsts ≤ level_count weighting
+    → EndsInByte weighting b firsts
+ends_in_byte weighting b [] some few = absurd (omega arith)
+ends_in_byte weighting b (a ∷ fs) some few =
+    let count = levels_after weighting (a ∷ fs) in
+    let all : length (forms_of weighting b) ≡ level_count weighting = forms_count weighting b in
+    let form = first_form (forms_of weighting b) (omega (arith, all, few)) in
+    let forms : length (forms_of weighting b) ≡ suc (length form.1) = ap length form.2 in
+    let tie : length form.1 ≡ length fs + count = omega (arith, all, forms, few) in
+    let e = first_ending plain_level form.0 form.1 count a fs tie (subst HaveRoom form.2 (all_have_room weighting b)) in
+    record {
+      front = e.front;
+      end = e.base + e.last;
+      room = omega (arith, e.room);
+      top = omega (arith, e.top);
+      is = ap (λ (l : List Form). compact plain_level l ((a ∷ fs) ++ plain_levels (a ∷ fs) count)) form.2 ∙ plain_is form.0 form.1 count a fs tie e;
+    }
 
 -- ---- Keys in the range
 
@@ -173,11 +211,6 @@ begins_if firsts front rest long = (
 
 -- ---- Keys
 
--- forms are a first one and others
-first_form : (forms : List Form) → 0 < length forms → (f : Form) × (more : List Form) × (forms ≡ f ∷ more)
-first_form [] some = absurd (omega arith)
-first_form (f ∷ more) some = (f, more, refl)
-
 -- a key that is cut so
 key_found : (depth : Depth) (weighting : Weighting) (b : BookContent) (f : Form) (forms : List Form) (a d : List ℕ) (fs gs rest : List (List ℕ)) (points : List ℕ)
     → AreForms (f ∷ forms) → forms_of weighting b ≡ f ∷ forms → length forms ≡ length fs + levels_after weighting (a ∷ fs)
@@ -187,7 +220,7 @@ key_found : (depth : Depth) (weighting : Weighting) (b : BookContent) (f : Form)
 key_found depth weighting b f forms a d fs gs rest points fits is tie few long fw gw =
     let count = levels_after weighting (a ∷ fs) in
     let ext = utf8_part depth points in
-    let e = first_ending plain_level f forms count a fs tie in
+    let e = first_ending plain_level f forms count a fs tie (forms_have_room (f ∷ forms) fits) in
     let ends = λ (n : ℕ). end_of plain_level n (d ∷ gs) rest in
     let more = later_levels plain_level (forms_after forms gs) (d ∷ gs) rest in
     let plains = (a ∷ fs) ++ plain_levels (a ∷ fs) count in

@@ -1,15 +1,18 @@
 -- The first levels of a compact key, whatever comes after them.
-use Rattle.std.proofs.Common.{◌≡◌, ◌⊎◌, inl, inr, ℕ, zero, suc, ◌+◌, ◌*◌, ◌≤◌, List, [], ◌∷◌, ◌++◌, Bool, cond, length, bytes_eq, refl, ap, sym, ◌∙◌, arith, append_assoc, append-nil, length-append}
+use Rattle.std.proofs.Common.{◌≡◌, ◌⊎◌, inl, inr, ℕ, zero, suc, ◌+◌, ◌*◌, ◌<◌, ◌≤◌, List, [], ◌∷◌, ◌++◌, Bool, true, false, cond, nat_eq, length, bytes_eq, refl, ap, sym, ◌∙◌, arith, append_assoc, append-nil, length-append}
+use Rattle.std.specs.Prelude.{⊤}
 use Rattle.std.specs.Ordering.{nat_cmp, is_eq}
 use Rattle.std.specs.declared.cmp.Ordering.{Ordering}
 use Rattle.std.specs.declared.cmp.Ordering.TheVariants.{Less, Equal, Greater}
+use Rattle.std.proofs.lemmas.Bool.Decides.{nat_tests}
 use Rattle.std.proofs.lemmas.Map.Text.{is_eq-slice_cmp}
 use Rattle.uca_order.specs.Levels.{lexicographic}
 use Rattle.uca_order.proofs.KeyOrder.{lexicographic_itself}
 use Rattle.uca_weights.proofs.Tests.{same_bytes}
-use Rattle.uca_compact.specs.Forms.{Form, step}
+use Rattle.uca_compact.specs.Forms.{Form, step, full, ends_before, IsForm, AreForms}
 use Rattle.uca_compact.specs.PlainLevels.{plain_level}
 use Rattle.uca_compact.specs.CompactKeys.{Plain, written, run_after, level_code, end_by, end_of, ended_level, later_levels, compact}
+use Rattle.uca_compact.proofs.RunOrder.{room}
 use Rattle.uca_lookups.specs.Ranges.{plain_levels}
 
 -- ---- Levels before `count` others
@@ -103,23 +106,48 @@ code_is plain f forms count a levels rest tie long =
 
 -- ---- The end of these levels, and what comes before and after it
 
+-- Levels of these forms end in bytes.
+abbrev pub HaveRoom : List Form → Type 0
+HaveRoom [] = ⊤
+HaveRoom (f ∷ forms) = (0 < f.longest) × (full f < 256) × (f.ends ≡ ends_before (length forms)) × HaveRoom forms
+
+-- all forms do
+pub forms_have_room : (forms : List Form) → AreForms forms → HaveRoom forms
+forms_have_room [] are = tt
+forms_have_room (f ∷ forms) are =
+    let form : IsForm f = are.0 in
+    (form.longest, omega (arith, form.few_greater), are.1, forms_have_room forms are.2)
+
 -- These bytes, then the end that the others make, and then their bytes.
 pub record HasEnding (count : ℕ) (code : (ℕ → ℕ) → List ℕ → List ℕ) : Type 0 where
   pub front : List ℕ
   pub base : ℕ
   pub last : ℕ
   pub room : count ≤ last
+  pub top : base + last + suc count < 256
   pub is : (ends : ℕ → ℕ) (more : List ℕ) → code ends more ≡ front ++ (base + ends last) ∷ more
 
+-- a run stays shorter than a full one
+run_short : (f : Form) (run : ℕ) (o : Ordering) → 0 < f.longest → run < f.longest → run_after f run o < f.longest
+run_short f run Less some short = some
+run_short f run Equal some short = equal_by (nat_eq (suc run) f.longest) refl
+  where
+    equal_by : (t : Bool) → nat_eq (suc run) f.longest ≡ t → cond t 0 (suc run) < f.longest
+    equal_by true is = some
+    equal_by false is = grind (arith, nat_tests)
+run_short f run Greater some short = some
+
 -- a level is some bytes, and then its end
-level_end : (f : Form) (run : ℕ) (ws : List ℕ) → (front : List ℕ) × (base : ℕ) × ((end : ℕ) → level_code f end run ws ≡ front ++ (base + end) ∷ [])
-level_end f run [] = ([], run * step f, (λ end. refl))
-level_end f run (w ∷ ws) =
+level_end : (f : Form) (run : ℕ) (ws : List ℕ) → 0 < f.longest → run < f.longest
+    → (front : List ℕ) × (base : ℕ) × (base + f.ends < full f) × ((end : ℕ) → level_code f end run ws ≡ front ++ (base + end) ∷ [])
+level_end f run [] some short = ([], run * step f, omega (arith, room run f.longest (step f) short), (λ end. refl))
+level_end f run (w ∷ ws) some short =
     let o = nat_cmp w f.common in
-    let more = level_end f (run_after f run o) ws in (
+    let more = level_end f (run_after f run o) ws some (run_short f run o some short) in (
       written f run w o ++ more.0,
       more.1,
-      (λ end. ap (λ (xs : List ℕ). written f run w o ++ xs) (more.2 end) ∙ sym (append_assoc (written f run w o) more.0 ((more.1 + end) ∷ []))),
+      more.2,
+      (λ end. ap (λ (xs : List ℕ). written f run w o ++ xs) (more.3 end) ∙ sym (append_assoc (written f run w o) more.0 ((more.1 + end) ∷ []))),
     )
 
 -- Later levels are all plain, or have an end of their own. Then what is after them does not change the end before them.
@@ -135,22 +163,23 @@ HasOwnEnd plain forms count earlier levels =
 
 -- a level that is written, by what comes after it
 written_ending : (plain : Plain) (f : Form) (forms : List Form) (count all : ℕ) (earlier later : List (List ℕ)) (level : List ℕ) → count ≤ all
-    → AllPlain plain forms count earlier later ⊎ HasOwnEnd plain forms count earlier later
+    → 0 < f.longest → full f < 256 → f.ends ≡ ends_before all → AllPlain plain forms count earlier later ⊎ HasOwnEnd plain forms count earlier later
     → HasEnding count (λ ends more. ended f (first_end plain count ends all earlier later) level (first_later plain forms count ends more earlier later))
-written_ending plain f forms count all earlier later level room (inl h) =
-    let code = level_end f 0 level in
+written_ending plain f forms count all earlier later level fits some short ends_are (inl h) =
+    let code = level_end f 0 level some some in
     record {
       front = code.0;
       base = code.1;
       last = all;
-      room = room;
+      room = fits;
+      top = omega (arith, fits, code.2, short, ends_are);
       is = λ ends more.
           (ap (λ (n : ℕ). ended f n level (first_later plain forms count ends more earlier later)) (h.0 all ends)
           ∙ ap (λ (xs : List ℕ). ended f (ends all) level xs) (h.1 ends more)
-          ∙ ap (λ (xs : List ℕ). xs ++ more) (code.2 (ends all))
+          ∙ ap (λ (xs : List ℕ). xs ++ more) (code.3 (ends all))
           ∙ append_assoc code.0 ((code.1 + ends all) ∷ []) more);
     }
-written_ending plain f forms count all earlier later level room (inr h) =
+written_ending plain f forms count all earlier later level fits some short ends_are (inr h) =
     let same = λ (n : ℕ). n in
     let here = level_code f (first_end plain count same all earlier later) 0 level in
     record {
@@ -158,6 +187,7 @@ written_ending plain f forms count all earlier later level room (inr h) =
       base = h.1.base;
       last = h.1.last;
       room = h.1.room;
+      top = h.1.top;
       is = λ ends more.
           (ap (λ (n : ℕ). ended f n level (first_later plain forms count ends more earlier later)) (h.0 all ends same)
           ∙ ap (λ (xs : List ℕ). here ++ xs) (h.1.is ends more)
@@ -175,31 +205,32 @@ code_with plain f forms count o level earlier later ends more =
 
 -- such levels are all plain or have an end
 ending_by : (plain : Plain) (f : Form) (forms : List Form) (count : ℕ) (level : List ℕ) (earlier later : List (List ℕ)) → count ≤ length forms
-    → AllPlain plain forms count earlier later ⊎ HasOwnEnd plain forms count earlier later → (o : Ordering)
+    → HaveRoom (f ∷ forms) → AllPlain plain forms count earlier later ⊎ HasOwnEnd plain forms count earlier later → (o : Ordering)
     → (((all : ℕ) (ends : ℕ → ℕ) → end_with plain count o earlier later ends all ≡ ends all)
     × ((ends : ℕ → ℕ) (more : List ℕ) → code_with plain f forms count o level earlier later ends more ≡ more))
     ⊎ (((all : ℕ) (ends others : ℕ → ℕ) → end_with plain count o earlier later ends all ≡ end_with plain count o earlier later others all)
     × HasEnding count (λ ends more. code_with plain f forms count o level earlier later ends more))
-ending_by plain f forms count level earlier later room h Less =
-    inr ((λ all ends others. refl), written_ending plain f forms count (length forms) earlier later level room h)
-ending_by plain f forms count level earlier later room h Equal = h
-ending_by plain f forms count level earlier later room h Greater =
-    inr ((λ all ends others. refl), written_ending plain f forms count (length forms) earlier later level room h)
+ending_by plain f forms count level earlier later fits have h Less =
+    inr ((λ all ends others. refl), written_ending plain f forms count (length forms) earlier later level fits have.0 have.1 have.2 h)
+ending_by plain f forms count level earlier later fits have h Equal = h
+ending_by plain f forms count level earlier later fits have h Greater =
+    inr ((λ all ends others. refl), written_ending plain f forms count (length forms) earlier later level fits have.0 have.1 have.2 h)
 
 -- so are all later levels
-later_ending : (plain : Plain) (forms : List Form) (count : ℕ) (earlier levels : List (List ℕ)) → length forms ≡ length levels + count
+later_ending : (plain : Plain) (forms : List Form) (count : ℕ) (earlier levels : List (List ℕ)) → length forms ≡ length levels + count → HaveRoom forms
     → AllPlain plain forms count earlier levels ⊎ HasOwnEnd plain forms count earlier levels
-later_ending plain forms count earlier [] tie = inl ((λ all ends. refl), (λ ends more. refl))
-later_ending plain [] count earlier (level ∷ later) tie = absurd (omega (arith, tie))
-later_ending plain (f ∷ forms) count earlier (level ∷ later) tie =
-    ending_by plain f forms count level (earlier ++ level ∷ []) later (omega (arith, tie))
-    (later_ending plain forms count (earlier ++ level ∷ []) later (omega (arith, tie))) (lexicographic level (plain earlier))
+later_ending plain forms count earlier [] tie have = inl ((λ all ends. refl), (λ ends more. refl))
+later_ending plain [] count earlier (level ∷ later) tie have = absurd (omega (arith, tie))
+later_ending plain (f ∷ forms) count earlier (level ∷ later) tie have =
+    ending_by plain f forms count level (earlier ++ level ∷ []) later (omega (arith, tie)) have
+    (later_ending plain forms count (earlier ++ level ∷ []) later (omega (arith, tie)) have.3) (lexicographic level (plain earlier))
 
 -- so all of these levels have an end
 pub first_ending : (plain : Plain) (f : Form) (forms : List Form) (count : ℕ) (a : List ℕ) (levels : List (List ℕ)) → length forms ≡ length levels + count
-    → HasEnding count (λ ends more. first_code plain (f ∷ forms) count ends more (a ∷ levels))
-first_ending plain f forms count a levels tie =
-    written_ending plain f forms count (length forms) (a ∷ []) levels a (omega (arith, tie)) (later_ending plain forms count (a ∷ []) levels tie)
+    → HaveRoom (f ∷ forms) → HasEnding count (λ ends more. first_code plain (f ∷ forms) count ends more (a ∷ levels))
+first_ending plain f forms count a levels tie have =
+    written_ending plain f forms count (length forms) (a ∷ []) levels a (omega (arith, tie)) have.0 have.1 have.2
+    (later_ending plain forms count (a ∷ []) levels tie have.3)
 
 -- ---- Plain levels after some
 

@@ -158,12 +158,12 @@ first_bytes a (c ∷ fs) rest ext =
     )
 
 -- the weights of the first levels
-front_weights : (fs rest : List (List ℕ)) → AllByRecursion AreWeights (fs ++ rest) → AllByRecursion AreWeights fs
+pub front_weights : (fs rest : List (List ℕ)) → AllByRecursion AreWeights (fs ++ rest) → AllByRecursion AreWeights fs
 front_weights [] rest h = tt
 front_weights (a ∷ fs) rest h = (h.0, front_weights fs rest h.1)
 
 -- a key of these bytes
-key_length : (depth : Depth) (k : KeyParts) (firsts : List (List ℕ)) (key : List ℕ) → AllByRecursion AreWeights k.levels → key ≡ stored_key depth k
+pub key_length : (depth : Depth) (k : KeyParts) (firsts : List (List ℕ)) (key : List ℕ) → AllByRecursion AreWeights k.levels → key ≡ stored_key depth k
     → LevelsBegin firsts k.levels → 0 < length firsts
     → (levels_length (length firsts) key ≡ Some (length (levels_bytes firsts))) × (take (length (levels_bytes firsts)) key ≡ levels_bytes firsts)
 key_length depth k [] key weights is begins some = absurd (omega arith)

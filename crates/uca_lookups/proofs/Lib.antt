@@ -8,3 +8,6 @@ pub mod TextParts
 pub mod StoredReads
 pub mod OneLevel
 pub mod LevelsEnd
+pub mod PlainCounts
+pub mod PlainKeys
+pub mod CompactFinds

@@ -3,6 +3,7 @@ use Rattle.std.specs.Prelude.{◌≡◌, ◌≢◌, ℕ, zero, suc, ◌+◌, ◌
 use Rattle.std.specs.declared.cmp.Ordering.TheVariants.{Less}
 use Rattle.uca_weights.specs.declared.Depth.{Depth}
 use Rattle.uca_weights.specs.declared.Depth.TheVariants.{Weights}
+use Rattle.uca_weights.specs.declared.Settings.{Settings}
 use Rattle.uca_weights.specs.declared.Weighting.{Weighting}
 use Rattle.uca_order.specs.Levels.{lexicographic, level_count, level_bytes, levels_bytes}
 use Rattle.uca_books.specs.Books.{BookContent}
@@ -75,6 +76,12 @@ compact_levels_low weighting b firsts = with_last (λ end. end - levels_after we
 
 abbrev pub compact_levels_high : Weighting → BookContent → List (List ℕ) → List ℕ
 compact_levels_high weighting b firsts = with_last (λ end. end + suc (levels_after weighting firsts)) (plain_key weighting b firsts)
+
+-- What a program finds in a stored key for compact keys: both ends of the range of its first levels, if it has so many.
+abbrev pub FindsCompactLevels : Settings → BookContent → (count : ℕ) → (key : List ℕ) → (found : Bool) → (low high : List ℕ) → Type 0
+FindsCompactLevels s b count key found low high = (k : KeyParts) (firsts : List (List ℕ)) → AreParts s.depth s.weighting k →
+    key ≡ stored_key s.depth k → LevelsBegin firsts k.levels → length firsts ≡ count → 0 < count →
+    (found ≡ true) × (low ≡ compact_levels_low s.weighting b firsts) × (high ≡ compact_levels_high s.weighting b firsts)
 
 -- the cells of weights of level 1
 abbrev pub letters_code : Weighting → BookContent → List ℕ → List ℕ

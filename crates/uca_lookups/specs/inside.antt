@@ -1,1 +1,3 @@
 pub mod LevelsLength
+pub mod WeightCounts
+pub mod NoPoints

@@ -6,8 +6,8 @@ ghost use Rattle.uca_lookups.specs.inside.LevelsLength.{levels_length};
 
 use std::alloc::{AllocError, Allocator};
 
-// How many levels are left after two bytes.
-fn levels_left(left: usize, weight: u16) -> usize
+/// How many levels are left after two bytes.
+pub(crate) fn levels_left(left: usize, weight: u16) -> usize
     ensures { result ≡ (if nat_eq weight 0 then left - 1 else left) }
 {
     if weight == 0 {
@@ -17,8 +17,8 @@ fn levels_left(left: usize, weight: u16) -> usize
     }
 }
 
-// Where the first levels of a stored key end.
-fn levels_end(key: &[u8], count: usize) -> Option<usize>
+/// Where the first levels of a stored key end.
+pub(crate) fn levels_end(key: &[u8], count: usize) -> Option<usize>
     ensures value { result ≡ levels_length count key.now }
     ensures within { IfSome result (λ end. end ≤ length key.now) }
 {

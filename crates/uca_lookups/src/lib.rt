@@ -6,10 +6,13 @@
 #![tactic(auto)]
 
 mod compact;
+mod compact_levels;
 pub mod laws;
 mod levels;
+mod plain;
 mod stored;
 
 pub use compact::{write_compact_letters_range, write_same_compact_letters_range};
+pub use compact_levels::write_same_compact_levels_range;
 pub use levels::write_same_levels_range;
 pub use stored::{read_letters, write_letters_range, write_same_letters_range};
