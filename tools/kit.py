@@ -283,6 +283,8 @@ class Crate:
 
     def __init__(self, kit, made):
         self.kit, self.made, self.name, self.folder = kit, made, made.name, made.folder
+        # the folder of clang and the linker
+        self.toolchain = f"{kit.rtlib.KIT}/toolchain"
 
     def below(self):
         """The libraries of the repository that it uses, and those below them, each after those that it uses."""
@@ -321,7 +323,7 @@ class Crate:
     def compile(self, made, jobs):
         """Proves a static library and makes its archive, or proves a program, compiles it by LLVM and links it, in one process."""
         to = f"out/{os.path.basename(self.product())}"
-        words = [*made.words(jobs, keeps=False), "--toolchain", f"{self.kit.rtlib.KIT}/toolchain", "--backend", "llvm"]
+        words = [*made.words(jobs, keeps=False), "--toolchain", self.toolchain, "--backend", "llvm"]
         if made.is_static:
             return made.prove(["build", *words, "-o", to])
         return made.prove(["build", *words, "-o", f"{to}.o"]) or made.link(f"{to}.o", to)

@@ -35,6 +35,11 @@ BRINGS = {
     "unicode-cldr-core": "/usr/share/unicode/cldr/common/collation/root.xml",
     "libicu-dev": "/usr/include/unicode/ucol.h",
     "iso-codes": "/usr/share/iso-codes/json/iso_3166-1.json",
+    "chromium": "chromium",
+    "chromium-driver": "chromedriver",
+    "firefox-esr": "firefox-esr",
+    "nodejs": "node",
+    "binaryen": "wasm-opt",
     "wamerican": f"{WORDS}/american-english",
     **{package: f"{WORDS}/{name}" for package, name in LISTS.items()},
 }

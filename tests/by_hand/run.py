@@ -26,6 +26,8 @@ TESTS = {
     "certificates": [],
     "books": [],
     "bindings": [],
+    "page_heap": [],
+    "page": [],
     "unicode_tables": [],
     "languages": ["--quick"],
     "editions": [],

@@ -1,0 +1,3 @@
+pub mod TextLists
+pub mod MemoryFiles
+pub mod Results
