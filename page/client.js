@@ -1,4 +1,5 @@
-// The worker of the page, as calls that return promises. A worker whose module stopped is ended, and another one takes its place.
+// The worker of the page, as calls that return promises. A worker whose module stopped is ended, and another one
+// takes its place.
 
 export class Client {
   // `load` is what a new worker is told first.

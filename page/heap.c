@@ -1,7 +1,8 @@
-/* What the proved code calls by name in a WebAssembly module: a heap, and some arithmetic. Nothing here is proved. docs/PAGE.md says so.
+/* What the proved code calls by name in a WebAssembly module: a heap, and some arithmetic. Nothing here is proved.
 
-   A block has 16 bytes before it, which hold its class. A block of class c has 2^c bytes in all, those 16 too. Blocks that are given back are kept in
-   a list for each class. Other blocks are cut from the end of the memory, which is made larger as needed. */
+   A block has 16 bytes before it, which hold its class. A block of class c has 2^c bytes in all, those 16 too. Blocks
+   that are given back are kept in a list for each class. Other blocks are cut from the end of the memory, which is made
+   larger as needed. */
 typedef unsigned char u8;
 typedef unsigned long long u64;
 typedef __UINTPTR_TYPE__ address;

@@ -2,8 +2,8 @@
 
 const NAMES = ["letters", "accents", "case", "spaces and punctuation"];
 
-// The levels of a printed key: the number and the name of each, and its digits. No weight is 0000, so these digits stand between
-// two levels. With `identical` the last level has the code points.
+// The levels of a printed key: the number and the name of each, and its digits. No weight is 0000, so these digits
+// stand between two levels. With `identical` the last level has the code points.
 export function levels(key, is_identical) {
   const found = [[]];
   for (const digits of key.split(" ")) {

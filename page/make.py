@@ -33,7 +33,7 @@ from wasm_tables import with_narrow_table
 KITS = ["rattle-kit-13f"]
 EXPORTS = ["uca_run"]
 
-# The head of the kit's module, and what takes its place. Both layouts have pointers of 64 bits, and the same alignments.
+# The head of the kit's module, and what takes its place. Both layouts have pointers of 64 bits, and equal alignments.
 X86_LAYOUT = "e-m:e-p270:32:32-p271:32:32-p272:64:64-i64:64-i128:128-f80:128-n8:16:32:64-S128"
 WASM_LAYOUT = "e-m:e-p:64:64-p10:8:8-p20:8:8-i64:64-i128:128-n32:64-S128-ni:1:10:20"
 X86_TARGET, WASM_TARGET = "x86_64-unknown-linux-gnu", "wasm64-unknown-unknown"

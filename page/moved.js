@@ -28,9 +28,9 @@ function indexes(before, after) {
   return after.map((line) => places.get(line).pop());
 }
 
-// For each line of `after`: its index in `before`, and whether it moved. The lines that did not move are in the same order in
-// both lists. They are all lines that `may_move` does not have (these keep their order, as is proved), and as many others as
-// can be.
+// For each line of `after`: its index in `before`, and whether it moved. The lines that did not move are in the same
+// order in both lists. They are all lines that `may_move` does not have (these keep their order, as is proved), and
+// as many others as can be.
 export function moves(before, after, may_move) {
   const places = indexes(before, after);
   const chains = new Chains(before.length);

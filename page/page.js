@@ -13,7 +13,18 @@ const EXAMPLE = {
 };
 const UNICODE = { path: "made/table.txt", name: "Unicode's table" };
 
-const page = { client: new Client({ module: new URLSearchParams(location.search).get("module") ?? undefined }), languages: [], tables: [UNICODE], found: undefined, chosen: undefined, place: undefined };
+// `?module=uca32.wasm` asks for that module.
+const asked_module = new URLSearchParams(location.search).get("module") ?? undefined;
+
+// What was found last, the word whose key is shown, and the place of an error. Also the languages and the tables.
+const page = {
+  client: new Client({ module: asked_module }),
+  languages: [],
+  tables: [UNICODE],
+  found: undefined,
+  chosen: undefined,
+  place: undefined,
+};
 
 // ---- What the fields say
 
@@ -89,9 +100,16 @@ function choose(word) {
 
 const chosen_language = () => page.languages.find((it) => it.tag === element("language").value);
 
+const table_of = ({ name, table: path, upper }) => ({
+  name: `${name} (table)`,
+  path: `made/${path ?? upper}`,
+  upper: upper && `made/${upper}`,
+});
+
 function list_languages(languages) {
   page.languages = languages;
-  page.tables = [UNICODE, ...languages.filter((it) => it.table ?? it.upper).map(({ name, tag, table: path, upper }) => ({ name: `${name} (table)`, tag, path: `made/${path ?? upper}`, upper: upper && `made/${upper}` }))];
+  const with_table = languages.filter((it) => it.table ?? it.upper);
+  page.tables = [UNICODE, ...with_table.map(table_of)];
   element("language").append(...languages.map(({ tag, name }) => made("option", { value: tag }, `${name} [${tag}]`)));
   element("table").replaceChildren(...page.tables.map(({ path, name }) => made("option", { value: path }, name)));
 }
@@ -182,7 +200,9 @@ function show_commands({ table: path, settings: { weighting, identical } }) {
 
 function current_state() {
   const { rules, words } = asked();
-  return { rules, words, table: element("table").value === UNICODE.path ? "" : element("table").value, weighting: element("weighting").value, upper: element("upper").checked, identical: element("identical").checked };
+  const path = element("table").value;
+  const { weighting, identical } = settings();
+  return { rules, words, table: path === UNICODE.path ? "" : path, weighting, upper: element("upper").checked, identical };
 }
 
 async function copy_link() {
@@ -233,7 +253,8 @@ async function start() {
   list_languages(reply.ok ? await reply.json() : []);
   take_state(state_of(location.hash) ?? EXAMPLE);
   const { module, version, verdict } = await page.client.loaded;
-  element("about").textContent = `${version}, ${module}. uca check says of Unicode's table: ${verdict.trim()}. The program is proved; the page and its compilation for the browser are tested.`;
+  const about = [`${version}, ${module}.`, `uca check says of Unicode's table: ${verdict.trim()}.`];
+  element("about").textContent = [...about, "The program is proved. The page and its compilation for the browser are tested."].join(" ");
   await work();
 }
 

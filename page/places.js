@@ -3,8 +3,8 @@
 const encoder = new TextEncoder();
 const decoder = new TextDecoder();
 
-// The place of the character at a byte of the UTF-8 of a text: where it begins and ends in the text, its line and its column, which
-// count from 1.
+// The place of the character at a byte of the UTF-8 of a text: where it begins and ends in the text, its line and its
+// column, which count from 1.
 export function place_of_byte(text, byte) {
   const start = decoder.decode(encoder.encode(text).subarray(0, byte)).length;
   return place(text, start, start + (text.codePointAt(start) > 0xffff ? 2 : 1));
@@ -15,7 +15,8 @@ function place(text, start, end) {
   return { start, end: Math.min(end, text.length), line: before.split("\n").length, column: [...before.slice(before.lastIndexOf("\n") + 1)].length + 1 };
 }
 
-// The next part of rules from an index on: white space or a comment, a reset with its bracket, a sign, a slash, or a piece of a text.
+// The next part of rules from an index on: white space or a comment, a reset with its bracket, a sign, a slash, or a
+// piece of a text.
 const PART = /([\t-\r \u0085\u200e\u200f\u2028\u2029]+|#[^\n\f\r\u0085\u2028\u2029]*)|(&(?:\[[^\]]*\])?)|((?:<{1,3}|=)\*?)|(\/)|('(?:''|[^'])+'|''|\\u[0-9A-Fa-f]{4}|\\U[0-9A-Fa-f]{8}|\\[^]|-|[^])/gu;
 
 // The characters of a piece of a starred text.

@@ -20,11 +20,16 @@ const count_of = (count, name) => `${count.toLocaleString("en")} ${name}${count 
 
 // ---- Lists
 
-// The mark of a word that moved, with words for those who hear the page; or that of a word that may move.
+// The mark of a word that moved, or that of a word that may move.
 function mark_of({ moved, index, before }, may_move) {
-  if (!moved) return may_move ? [made("span", { className: "mark" }, made("span", { ariaHidden: "true" }, " ·"), made("span", { className: "hidden" }, ", may move"))] : [];
+  if (!moved) return may_move ? [mark(" ·", ", may move")] : [];
   const [arrow, way, places] = before > index ? ["↑", "up", before - index] : ["↓", "down", index - before];
-  return [made("span", { className: "mark" }, made("span", { ariaHidden: "true" }, ` ${arrow}${places || ""}`), made("span", { className: "hidden" }, `, moved ${way}`))];
+  return [mark(` ${arrow}${places || ""}`, `, moved ${way}`)];
+}
+
+// A sign for those who see the page, and words for those who hear it.
+function mark(sign, words) {
+  return made("span", { className: "mark" }, made("span", { ariaHidden: "true" }, sign), made("span", { className: "hidden" }, words));
 }
 
 // Fills a list with words. `marks` returns the mark of the word at an index.
@@ -61,8 +66,8 @@ export function show_orders(found, chosen, choose) {
 
 export function summary(found, moved) {
   if (!found.after) return `${count_of(found.before.length, "word")}, in the order of the table. The rules give no order yet.`;
-  const may = found.may_move.length;
-  return `${count_of(found.after.length, "word")}: ${moved ? moved.toLocaleString("en") : "none"} moved, and ${may ? may.toLocaleString("en") : "none"} may move.`;
+  const number = (count) => (count ? count.toLocaleString("en") : "none");
+  return `${count_of(found.after.length, "word")}: ${number(moved)} moved, and ${number(found.may_move.length)} may move.`;
 }
 
 // ---- Keys

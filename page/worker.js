@@ -1,7 +1,7 @@
 // The work of the page, in a thread of its own: it loads the module and the tables, and runs the commands.
 //
-// Each message has a number, what to do (`run`, `order` or `key`), and what that takes. The reply has the number, and what was
-// found or the error. A trap in the module is an error of this worker: the page then starts another one.
+// Each message has a number, what to do (`run`, `order` or `key`), and what that takes. The reply has the number, and
+// what was found or the error. A trap in the module is an error of this worker: the page then starts another one.
 
 import { Uca } from "./uca.js";
 import { levels } from "./keys.js";

@@ -34,6 +34,8 @@ import packages
 NEEDS, WANTS = ["chromium", "chromium-driver", "firefox-esr"], ["unicode-cldr-core"]
 MADE, EXAMPLES = f"{TOP}/page/made", f"{TOP}/examples"
 CLDR = "/usr/share/unicode/cldr/common/main"
+# The browsers that are told that the system is dark.
+DARK = ["firefox"]
 CONTROL, END, ENTER = "\ue009", "\ue010", "\ue007"
 
 
@@ -286,9 +288,8 @@ def see_keys(browser, counts):
     write(browser, "rules", "&z < ö")
     browser.evaluate("document.querySelectorAll('#before button')[1].focus()")
     browser.press(ENTER)
-    settled(browser)
+    browser.wait("document.getElementById('key-head').textContent === 'The key of öl'")
     rows = browser.evaluate("[...document.querySelectorAll('#key tr')].map((it) => [...it.children].map((cell) => cell.textContent))")
-    counts.see(text(browser, "key-head") == "The key of öl", text(browser, "key-head"))
     heads = ["Level", "1: letters", "2: accents", "3: case", "4: spaces and punctuation"]
     counts.see([it[0] for it in rows] == heads, f"levels: {rows}")
     counts.see(rows[1][1] != rows[1][2] and rows[3][1] == rows[3][2] or len(rows[1]) == 3, f"digits: {rows}")
@@ -372,13 +373,19 @@ def see_layout(browser, counts):
     browser.resize(1180, 1000)
 
 
+def see_colours(browser, is_dark, counts):
+    """Whether the page is dark just where the system is."""
+    found = browser.evaluate("getComputedStyle(document.body).backgroundColor.match(/\\d+/g).map(Number)")
+    counts.see((sum(found) < 3 * 64) == is_dark, f"the background, where dark is {is_dark}: {found}")
+
+
 def see_requests(browser, address, counts):
     """What the page asked for: nothing but its own files."""
     asked = browser.evaluate("performance.getEntriesByType('resource').map((it) => it.name)")
     counts.see(all(it.startswith(address) or it.startswith("data:") for it in asked), f"requests: {asked}")
 
 
-def as_a_person(browser, address, program, counts):
+def as_a_person(browser, address, program, is_dark, counts):
     ready(browser, f"{address}/page/")
     counts.see(text(browser, "verdict").startswith("accepted"), f"at the start: {text(browser, 'summary')} {text(browser, 'verdict')}")
     counts.see("well-formed" in text(browser, "about"), text(browser, "about"))
@@ -388,6 +395,7 @@ def as_a_person(browser, address, program, counts):
     save_files(browser, program, counts)
     follow_link(browser, address, counts)
     see_layout(browser, counts)
+    see_colours(browser, is_dark, counts)
     see_requests(browser, address, counts)
 
 
@@ -427,10 +435,11 @@ def main(options):
         wanted = [by_program(options.uca, case, folder) for case in cases]
         modules = [it for it in ("uca.wasm", "uca32.wasm") if os.path.exists(f"{MADE}/{it}")]
         for name in options.browser or ["chromium", "firefox"]:
-            with browsers.open_browser(name, f"{folder}/.{name}") as browser:
+            is_dark = name in DARK
+            with browsers.open_browser(name, f"{folder}/.{name}", is_dark) as browser:
                 for module in modules:
                     compare(browser, address, cases, wanted, counts, module)
-                as_a_person(browser, address, options.uca, counts)
+                as_a_person(browser, address, options.uca, is_dark, counts)
                 if options.pictures:
                     pictures(browser, name, address, options.pictures)
             print(f"{name}: {len(cases)} commands by {' and '.join(modules)}, and the page", flush=True)

@@ -1,4 +1,4 @@
-/* What tests/by_hand/page_heap.mjs calls: the heap and the arithmetic of page/heap.c, and calls by a table of functions. */
+/* What page_heap.mjs calls: the heap and the arithmetic of page/heap.c, and calls by a table of functions. */
 typedef unsigned char u8;
 typedef unsigned long long u64;
 typedef unsigned __int128 u128;

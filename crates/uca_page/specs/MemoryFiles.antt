@@ -1,5 +1,6 @@
 -- Files in the caller's memory: those that are given have names, and one can be made.
-use Rattle.std.specs.Prelude.{◌≡◌, ◌∷◌, [], ℕ, Bool, false, if◌then◌else◌, List, Option, Some, None, Result, Ok, result_ok, option_copied}
+use Rattle.std.specs.Prelude.{◌≡◌, ◌∷◌, [], ℕ, Bool, false, if◌then◌else◌, List, Option, Some, None, Result, Ok, option_copied}
+use Rattle.std.specs.Result.{result_ok}
 use Rattle.std.specs.Borrow.{Bor}
 use Rattle.std.specs.Str.{bytes_eq}
 use Rattle.uca_host.specs.FileCalls.{FileCalls}
@@ -20,8 +21,8 @@ abbrev pub file_of : List (List ℕ) → List (List ℕ) → List ℕ → Option
 file_of (given ∷ names) (file ∷ files) name = if bytes_eq given name then Some file else file_of names files name
 file_of _ _ name = None
 
--- Files are opened by their names, as often as one likes. Two names are of two files. A file can be made, and it is kept
--- whatever its name is.
+-- Files are opened by their names, as often as one likes. Two names are of two files. A file can be made, and it is
+-- kept whatever its name is.
 abbrev pub memory_calls : FileCalls MemoryState (Bor (List ℕ)) (List ℕ)
 memory_calls = record {
   gives = λ old name result new. (option_copied (result_ok result) ≡ file_of old.names old.files name) × (new ≡ old);

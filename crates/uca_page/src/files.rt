@@ -43,8 +43,7 @@ impl Write for MadeFile {
         self.bytes.write(buf)
     }
 
-    fn flush(&mut self) -> io::Result<()>
-    {
+    fn flush(&mut self) -> io::Result<()> {
         Ok(())
     }
 }
@@ -67,7 +66,7 @@ impl<'a> Model for MemoryFiles<'a> {
     ghost view = { λ it. record {
       names = map (λ name. name.now) it.names.now;
       files = map (λ file. file.now) it.files.now;
-      kept = it.kept
+      kept = it.kept;
     } };
 }
 
@@ -86,7 +85,7 @@ impl<'a> MemoryFiles<'a> {
 
     /// The bytes of the file that was made and kept.
     pub fn into_kept(self) -> Option<MadeFile>
-        ensures { result ≡ self.kept }
+        ensures { result ≡ self.entry.kept }
     {
         self.kept
     }

@@ -36,7 +36,14 @@ pub fn run(
     let mut input = Source::new(input);
     let mut out = Sink::new(Vec::new(alloc));
     let mut err = Sink::new(Vec::new(alloc));
-    let status = run_command(alloc, &mut opener, arguments, &mut input, &mut out, &mut err);
+    let status = run_command(
+        alloc,
+        &mut opener,
+        arguments,
+        &mut input,
+        &mut out,
+        &mut err,
+    );
     Ended {
         status,
         out: out.into_inner(),
