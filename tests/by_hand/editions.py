@@ -7,7 +7,7 @@
 It needs Debian's packages unicode-data (the new table, and both data files) and perl-modules-5.36 (the old table, which Perl's Unicode::Collate has).
 Without them it says so and ends with status 2. The data file of 13.0.0 is that of the new edition without the code points that came later.
 
-`uca changes` has to list at most 30 old keys, and `uca audit-changes` to accept. This script finds the affected lines by the definition, apart from the program,
+`uca changes` has to list 18 old keys, and `uca audit-changes` to accept. This script finds the affected lines by the definition, apart from the program,
 and looks whether 1,000,000 random pairs of other lines compare as before. `uca rekey` has to print what `uca keys`
 prints under the new table, byte for byte. `--keep FOLDER` keeps the files. The last line is `N passed, M failed`.
 """
@@ -169,7 +169,7 @@ def find(folder):
     listed = Listed(folder.file("changes.txt"))
     old, new = set(keys_of(folder, "old.txt")), set(keys_of(folder, "new.txt"))
     gone, added = [text for text in listed.texts if text in old], [text for text in listed.texts if text not in old]
-    see("old keys that are listed", len(gone) <= 30, f"{len(gone)} of {len(old):,}")
+    see("old keys that are listed", len(gone) == 18, f"{len(gone)} of {len(old):,}")
     see("new keys that are listed", set(added) == new - old, f"{len(added):,}, and {len(listed.ranges)} ranges of code points")
     status, out, said, seconds = folder.run("audit-changes", *files, "changes.txt", "certificate.txt")
     see("audit-changes", (status, out) == (0, b"accepted\n"), said or "%s in %.2f s" % (out.decode().strip(), seconds))
