@@ -76,10 +76,10 @@ one_written f key before out new at count more w lead none so_far within is some
       counted = λ rest. count_more lead w count more rest one ∙ so_far.counted (w ∷ rest) ∙ ap letter_count (sym (append_assoc front (w ∷ []) rest));
       code = λ end rest.
           ap (λ (xs : List ℕ). xs ++ level_code f end 0 rest) written
-              ∙ append_assoc out (cell (first_cell f) 1 f.greater 65536 w) (level_code f end 0 rest)
-              ∙ ap (λ (xs : List ℕ). out ++ xs) (sym (letter_code f end w rest none (omega (arith, some))))
-              ∙ so_far.code end (w ∷ rest)
-              ∙ ap (λ (xs : List ℕ). before ++ level_code f end 0 xs) (sym (append_assoc front (w ∷ []) rest));
+          ∙ append_assoc out (cell (first_cell f) 1 f.greater 65536 w) (level_code f end 0 rest)
+          ∙ ap (λ (xs : List ℕ). out ++ xs) (sym (letter_code f end w rest none (omega (arith, some))))
+          ∙ so_far.code end (w ∷ rest)
+          ∙ ap (λ (xs : List ℕ). before ++ level_code f end 0 xs) (sym (append_assoc front (w ∷ []) rest));
     }
 
 -- 00 00 ends the level
@@ -138,7 +138,8 @@ copies_length : (w n : ℕ) → length (copies w n) ≡ n
 copies_length w zero = refl
 copies_length w (suc n) = ap suc (copies_length w n)
 
--- these bytes begin a level that is so many times one weight, if the rest of them begins one that is it so many times less
+-- These bytes begin a level that is so many times one weight, if the rest of them begins one that is it so many times
+-- less.
 abbrev pub GoesOn : (bytes rest : List ℕ) → (w count left : ℕ) → Type 0
 GoesOn bytes rest w count left = (e : StoredEnd) → stored_level rest ≡ level_of e (copies w left) → stored_level bytes ≡ level_of e (copies w count)
 

@@ -22,7 +22,8 @@ use std::marker::Model;
 use uca_books::Book;
 use uca_weights::{Depth, Settings, Weighting};
 
-/// Makes compact keys of stored keys, and stored keys of these again. It needs no text and no table.
+/// Makes compact keys of stored keys, and stored keys of these again. It needs no text and no table. With its first
+/// compact key it takes 4,096 bytes for the cells of weights that it found.
 #[derive(Drop)]
 pub struct KeyCompacter<A: Allocator = Global> {
     book: Book<A>,

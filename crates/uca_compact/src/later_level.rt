@@ -76,8 +76,8 @@ fn read_compared<'a, A: Allocator>(
     })
 }
 
-/// Reads a level, and compares it to the plain one: so many times one weight. Unless it is that one, its weights take the place
-/// of those that were there.
+/// Reads a level, and compares it to the plain one: so many times one weight. Unless it is that one, its weights take
+/// the place of those that were there.
 pub(crate) fn read_later<'a, A: Allocator>(
     bytes: &'a [u8],
     weight: u16,

@@ -60,8 +60,8 @@ fn push_letter<A: Allocator, B: Allocator>(
     push_in_cell(out, number, 1, starts, 0x1_0000, letter, index)
 }
 
-/// Writes the weights of level 1 of a stored key, without the end of the level. It returns `None` if no 00 00 ends it: what
-/// was written is then unspecified.
+/// Writes the weights of level 1 of a stored key, without the end of the level. It returns `None` if no 00 00 ends it:
+/// what was written is then unspecified.
 pub(crate) fn push_letters<'a, A: Allocator, B: Allocator>(
     out: &mut Vec<u8, B>,
     form: &LevelForm,
