@@ -171,16 +171,16 @@ def stored_run(work):
 
 
 def page(work):
-    """The programs of docs/BINDINGS.md, which show what they print in their comments."""
+    """The programs of docs/BINDINGS.md, and that of docs/STORED_KEYS.md in Python. They show what they print in their comments."""
     need("gcc")
-    text = content(f"{TOP}/docs/BINDINGS.md").decode()
+    text, stored = (content(f"{TOP}/docs/{it}.md").decode() for it in ("BINDINGS", "STORED_KEYS"))
     for program in re.findall(r"```c\n(.*?)```", text, re.S):
         with open(f"{work}/page.c", "w", encoding="utf-8") as it:
             it.write(program)
         run(["gcc", *FLAGS, "-o", f"{work}/page", f"{work}/page.c", f"{C}/out/libuca.a"])
         wanted = re.search(r"/\* ([0-9A-F]+) \*/", program).group(1) if "printf(\"%" in program else ""
         same(run([f"{work}/page"]).decode(), wanted, f"the page's program {program}")
-    for program in re.findall(r"```python\n(.*?)```", text, re.S):
+    for program in re.findall(r"```python\n(.*?)```", text + stored, re.S):
         said = run([sys.executable, "-c", program], env=python_environment(), cwd=TOP).decode()
         same(said.splitlines(), re.findall(r"# (\S.*)", program), f"the page's program {program}")
 

@@ -9,13 +9,15 @@ Without them it says so and ends with status 2. The data file of 13.0.0 is that 
 
 `uca changes` has to list 18 old keys, and `uca audit-changes` to accept. This script finds the affected lines by the definition, apart from the program,
 and looks whether 1,000,000 random pairs of other lines compare as before. `uca rekey` has to print what `uca keys`
-prints under the new table, byte for byte. `--keep FOLDER` keeps the files. The last line is `N passed, M failed`.
+prints under the new table, byte for byte. `--keep FOLDER` keeps the files, in a folder that is made if it is not there.
+The last line is `N passed, M failed`.
 """
 import argparse
 import bisect
 import collections
 import os
 import random
+import shutil
 import subprocess
 import sys
 import tempfile
@@ -302,12 +304,25 @@ def words_are_mended(folder, listed):
     return 0
 
 
+def stop_at_wrong(options):
+    """Ends with a sentence and the status 2 where there is no program, or where the folder cannot be made."""
+    if not shutil.which(os.path.abspath(options.uca)):
+        print(f"there is no program {options.uca}: tools/build.py builds it, or --uca names another one", file=sys.stderr)
+        sys.exit(2)
+    try:
+        os.makedirs(options.keep or ".", exist_ok=True)
+    except OSError as error:
+        print(f"--keep {options.keep}: the folder cannot be made: {error.strerror}", file=sys.stderr)
+        sys.exit(2)
+
+
 def main():
     parser = argparse.ArgumentParser(description=__doc__.split("\n")[0])
     parser.add_argument("--uca", default=PROGRAM, help="the program")
-    parser.add_argument("--keep", help="the folder to make the files in")
+    parser.add_argument("--keep", help="the folder to make the files in; it is made if it is not there")
     options = parser.parse_args()
     packages.stop_without(NEEDS)
+    stop_at_wrong(options)
     chosen = random.Random(SEED)
     with tempfile.TemporaryDirectory() as temporary:
         folder = Folder(options.uca, options.keep or temporary)
