@@ -1,2 +1,3 @@
+mod InMemory
 mod OrderLemmas
 mod Rejected

@@ -8,6 +8,7 @@
 mod calls;
 mod comparing;
 mod faults;
+mod files;
 mod fingerprints;
 pub mod laws;
 mod opening;
