@@ -76,7 +76,8 @@ HasBook bytes (Some book) = books.Means bytes book
 abbrev pub RejectsBook : List ℕ → TableFault → Type 0
 RejectsBook bytes fault = (left : Option (List ℕ)) × books.Refuses bytes left fault
 
--- why nothing was opened: a table or a data file, or else a book
+-- Why nothing was opened: a number, the table, the data file or memory, as without a book. Or these could be opened, and
+-- the book could not.
 abbrev pub IsCompactOpenStatus : ℕ → ℕ → List ℕ → List ℕ → List ℕ → ℕ → ℕ → ℕ → Type 0
 IsCompactOpenStatus weighting depth table_bytes data_bytes book_bytes line kind status =
     IsOpenStatus weighting depth table_bytes data_bytes line kind status
