@@ -1,3 +1,3 @@
-mod InMemory
+pub mod InMemory
 mod OrderLemmas
 mod Rejected

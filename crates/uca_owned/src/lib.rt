@@ -16,5 +16,6 @@ mod order;
 mod owned;
 
 pub use faults::{CompareFault, KeyFault, OpenFault};
+pub use files::in_memory;
 pub use fingerprints::fingerprint_of;
 pub use owned::OwnedCollator;
