@@ -24,10 +24,17 @@ told_cause weighting depth asked at table_bytes data_bytes (faults.Table fault) 
 told_cause weighting depth asked at table_bytes data_bytes (faults.Data fault) line kind status is_weighting is_depth cause told =
     inr (inr (inl (told.2, record { fault = fault; cause = cause; line = told.0; kind = told.1 })))
 told_cause weighting depth asked at table_bytes data_bytes faults.Memory line kind status is_weighting is_depth cause told =
-    inr (inr (inr (told.2, (keying asked at cause.0 cause.1, record {
-      asked = asked;
-      at = at;
-      is_weighting = is_weighting;
-      is_depth = is_depth;
-      opens = record { table = cause.0; properties = cause.1; mean = cause.2; same = refl };
-    }), (told.0, told.1))))
+    inr (inr (inr (
+      told.2,
+      (
+        keying asked at cause.0 cause.1,
+        record {
+          asked = asked;
+          at = at;
+          is_weighting = is_weighting;
+          is_depth = is_depth;
+          opens = record { table = cause.0; properties = cause.1; mean = cause.2; same = refl };
+        },
+      ),
+      (told.0, told.1),
+    )))
