@@ -11,8 +11,8 @@ use uca_owned::KeyFault;
 use uca_run_parts::Affects;
 
 impl OwnedUpgrade {
-    /// Whether the key of a text has to be made anew: a changed text occurs in order in the text, or a changed range has
-    /// one of its code points. `uca affected --changes` prints exactly the lines of such texts.
+    /// Whether the key of a text has to be made anew: a changed text occurs in order in the text, or a changed range
+    /// has one of its code points. `uca affected --changes` prints exactly the lines of such texts.
     ///
     /// # Errors
     ///
@@ -33,16 +33,16 @@ impl OwnedUpgrade {
         }
     }
 
-    /// The fingerprint of what the stored keys were made by: the bytes of the old table and of its data file, the weighting
-    /// and the depth. The upgrade is for keys of this fingerprint alone.
+    /// The fingerprint of what the stored keys were made by: the bytes of the old table and of its data file, the
+    /// weighting and the depth. The upgrade is for keys of this fingerprint alone.
     pub fn old_fingerprint(&self) -> [u8; 32]
         ensures { result ≡ self.now.old_fingerprint }
     {
         self.old_fingerprint
     }
 
-    /// The fingerprint of what the new keys are made by: the bytes of the new table and of its data file, the weighting and
-    /// the depth.
+    /// The fingerprint of what the new keys are made by: the bytes of the new table and of its data file, the weighting
+    /// and the depth.
     pub fn new_fingerprint(&self) -> [u8; 32]
         ensures { result ≡ self.now.new_fingerprint }
     {
@@ -52,10 +52,10 @@ impl OwnedUpgrade {
     /// Puts a stored key through the maps in place, and returns `true`. So the old key of a text that is not
     /// [`affected`](OwnedUpgrade::affected) becomes its key by the new files.
     ///
-    /// It returns `false`, and the bytes stay, if a weight has no image. So it does if the bytes are no key of the weighting
-    /// and the depth that the upgrade was opened with. No other key is told from the right ones. So compare the
-    /// fingerprint of your keys with [`old_fingerprint`](OwnedUpgrade::old_fingerprint) first, and do not give it keys of
-    /// affected texts.
+    /// It returns `false`, and the bytes stay, if a weight has no image. So it does if the bytes are no key of the
+    /// weighting and the depth that the upgrade was opened with. No other key is told from the right ones. So compare
+    /// the fingerprint of your keys with [`old_fingerprint`](OwnedUpgrade::old_fingerprint) first, and do not give it
+    /// keys of affected texts.
     ///
     /// # Errors
     ///

@@ -26,8 +26,8 @@ pub enum UpgradeFault {
     /// The bytes of the certificate are rejected.
     #[error("the certificate is rejected")]
     Certificate(CertificateFault),
-    /// All files are read, and the audit rejects the change that they mean: the first condition that is not met, and the
-    /// first position where it is not.
+    /// All files are read, and the audit rejects the change that they mean: the first condition that is not met, and
+    /// the first position where it is not.
     #[error("the audit rejects the change")]
     NotMet(ChangeCondition, ChangePlace),
     /// An allocation failed, once all files were read.
