@@ -46,9 +46,9 @@ module _ (rows : Rows) (d : ClassedCodePoint) (lone : (c : ℕ) (more : List ℕ
   none_removed marks = record {
     places = length-replicate (length marks) false;
     each = λ before after c here b later split set_split same. (
-        (λ is. absurd (false≢true (sym (false_inside (length marks) here later b set_split) ∙ is))),
-        (λ taken. absurd (no_extended_key (members here before) c taken.1)),
-      );
+      (λ is. absurd (false≢true (sym (false_inside (length marks) here later b set_split) ∙ is))),
+      (λ taken. absurd (no_extended_key (members here before) c taken.1)),
+    );
   }
 
   pub reads_alone : (implicit : ℕ → List Element) (row : List Element) (t : Text) → rows (d.code ∷ []) ≡ Some row → read implicit rows (d ∷ t) ≡ row ++ read implicit rows t

@@ -48,8 +48,8 @@ digits_cmp p x y v w small other =
     by_cmp x y
     (λ h. cmp_less (x * p + v) (y * p + w) (digit_less p x y v w h small) ∙ sym (ap (λ o. ordering_then o (nat_cmp v w)) (cmp_less x y h)))
     (λ h. let same : x * p ≡ y * p = ap (λ n. n * p) h in
-        rising_cmp v w (x * p + v) (y * p + w) (λ l. omega (arith, l, same)) (λ e. omega (arith, e, same)) (λ g. omega (arith, g, same))
-        ∙ sym (ap (λ o. ordering_then o (nat_cmp v w)) (cmp_equal x y h)))
+    rising_cmp v w (x * p + v) (y * p + w) (λ l. omega (arith, l, same)) (λ e. omega (arith, e, same)) (λ g. omega (arith, g, same))
+    ∙ sym (ap (λ o. ordering_then o (nat_cmp v w)) (cmp_equal x y h)))
     (λ h. cmp_greater (x * p + v) (y * p + w) (digit_less p y x w v h other) ∙ sym (ap (λ o. ordering_then o (nat_cmp v w)) (cmp_greater x y h)))
 
 -- ---- Lists

@@ -72,7 +72,7 @@ other_branch points made coded pushed new start began place point test new_is be
     let other : is_digit (get_or points place 0) ≡ false = ap is_digit (sym same) ∙ sym tested ∙ is_not in (
       omega (arith, began_is),
       ap₂ (λ m n. m ++ left_at points n (place + 1)) new_is began_is
-      ∙ other_step points made coded pushed start place within other before.1 with_code (with_point ∙ ap (λ p. coded ++ p ∷ []) same),
+          ∙ other_step points made coded pushed start place within other before.1 with_code (with_point ∙ ap (λ p. coded ++ p ∷ []) same),
     )
 
 -- the text ends after a number, or after another code point

@@ -13,7 +13,7 @@ loop-at-preserved-in-Some g c =
       omega (arith, within),
       length-set c.loop-at.weights c.in-Some.digit c.lone_primary.result ∙ inv.1,
       one_more_digit c.args.rows.now (c.loop-at.at - 1) c.loop-at.at c.loop-at.weights c.in-Some.digit c.lone_primary.result (omega (arith, positive)) within inv.1 c.in-Some.ensures.0
-      (sym (c.key.ensures no_entry) ∙ c.in-Some.ensures.1) (c.lone_primary.ensures ∙ ap lone_primary (c.elements.ensures no_entry)) inv.2,
+          (sym (c.key.ensures no_entry) ∙ c.in-Some.ensures.1) (c.lone_primary.ensures ∙ ap lone_primary (c.elements.ensures no_entry)) inv.2,
     )
 
 pub loop-at-preserved : goal.loop-at-preserved
@@ -25,5 +25,5 @@ loop-at-preserved g c =
       omega (arith, within),
       inv.1,
       one_more_row c.args.rows.now (c.loop-at.at - 1) c.loop-at.at c.loop-at.weights (omega (arith, positive)) within
-      (λ d digit same. c.in_default.ensures d digit (c.key.ensures no_entry ∙ same)) inv.2,
+          (λ d digit same. c.in_default.ensures d digit (c.key.ensures no_entry ∙ same)) inv.2,
     )

@@ -13,8 +13,8 @@ returns-then-not-digits_are_alone g c =
     let are = weights_in c.table.inside.rows c.args.table.now.rows weights (sym same) c.digit_weights-weights.ensures.weights in (
       (λ holds. absurd (false≢true holds)),
       (λ orders. sym c.if-not-digits_are_alone.true ∙ c.digits_are_alone.ensures.1
-      (subst (AllByRecursion (λ (row : Entry). HasLoneDigits row.key)) same
-      (alone_from c.args.table.now c.args.properties.now weights c.digit_weights-weights.ensures.count are orders))),
+          (subst (AllByRecursion (λ (row : Entry). HasLoneDigits row.key)) same
+          (alone_from c.args.table.now c.args.properties.now weights c.digit_weights-weights.ensures.count are orders))),
     )
 
 pub returns : goal.returns
@@ -24,8 +24,8 @@ returns g c =
     let are = weights_in c.table.inside.rows c.args.table.now.rows weights (sym same) c.digit_weights-weights.ensures.weights in
     let ten = c.digit_weights-weights.ensures.count in (
       (λ rising. orders_from c.args.table.now c.args.properties.now weights ten are
-      (c.digits_are_starters.ensures.0 c.if-not-digits_are_starters.false)
-      (subst (AllByRecursion (λ (row : Entry). HasLoneDigits row.key)) (sym same) (c.digits_are_alone.ensures.0 c.if-not-digits_are_alone.false))
-      (c.is_rising.ensures.0 rising)),
+          (c.digits_are_starters.ensures.0 c.if-not-digits_are_starters.false)
+          (subst (AllByRecursion (λ (row : Entry). HasLoneDigits row.key)) (sym same) (c.digits_are_alone.ensures.0 c.if-not-digits_are_alone.false))
+          (c.is_rising.ensures.0 rising)),
       (λ orders. c.is_rising.ensures.1 (rising_of c.args.table.now c.args.properties.now weights ten are orders)),
     )
