@@ -71,6 +71,32 @@ class Changes(ProgramTest):
         for old, new, changes, certificate in cases:
             self.find(old, new, DATA, changes, certificate)
 
+    def test_the_move_of_most_rows(self):
+        """Each element of a row is a vote for where its weight moves. The other rows are listed. A row of many elements is not, where each moves."""
+
+        def rows(first, elements, *counts):
+            """A row for each count, which has the elements so many times."""
+            return "".join(f"{first + at:04X} ; {elements * count}\n" for at, count in enumerate(counts))
+
+        def texts(first, count):
+            return listed(*(f"text {first + at:04X}" for at in range(count)))
+
+        old, new, other = "[.2000.0020.0002]", "[.3000.0020.0002]", "[.3100.0020.0002]"
+        accent, tertiary = "[.0000.0024.0002]", "[.0000.0000.0009]"
+        cases = [
+            # rows of 8 and of 32 elements
+            (rows(0x2800, old, 8, 32), rows(0x2800, new, 8, 32), listed(), "3000"),
+            # 300 elements, and 270 against them
+            (rows(0x2800, old, *[30] * 19), rows(0x2800, new, *[30] * 10) + rows(0x280A, other, *[30] * 9), texts(0x280A, 9), "3000"),
+            (rows(0x2800, old, *[30] * 19), rows(0x2800, other, *[30] * 10) + rows(0x280A, new, *[30] * 9), texts(0x280A, 9), "3100"),
+            # one row, and two against it that have no vote, since a weight of theirs becomes 0
+            (rows(0x2800, old, 1) + rows(0x2801, old + accent, 1, 1), rows(0x2800, new, 1) + rows(0x2801, other + tertiary, 1, 1), texts(0x2801, 2), "3000"),
+            (rows(0x2800, old, 1) + rows(0x2801, old + accent, 1, 1), rows(0x2800, other, 1) + rows(0x2801, new + tertiary, 1, 1), texts(0x2801, 2), "3100"),
+        ]
+        for added, becomes, changes, weight in cases:
+            certificate = UNMOVED.replace("1 1C60 1C60 0001\n", f"1 1C60 1C60 0001\n1 2000 {weight} 0001\n")
+            self.find(TABLE + added, TABLE + becomes, DATA, changes, certificate)
+
     def test_changes_of_the_data_file(self):
         cases = [
             ("230", "231", "range 0300..0314"),

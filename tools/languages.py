@@ -60,6 +60,8 @@ def program(options):
     found = options.uca or (built if os.path.exists(built) else shutil.which("uca"))
     if not found:
         raise CldrError("there is no program crates/uca/out/uca or uca: what is made is judged by it before it is printed")
+    if not shutil.which(found):
+        raise CldrError(f"{found} is no program that can be run: --uca names the program uca")
     return found
 
 
@@ -113,6 +115,13 @@ def changed(options, folder, text, table, data):
     return Judged(new, "" if out == "accepted\n" else out.strip() or said)
 
 
+def check_table(options, table, data):
+    """Judges a table that is given and its data file, so that the reader of rows may trust their format."""
+    out, said = run([program(options), "check", table, data])
+    if out != "well-formed\n":
+        raise CldrError(f"the table that is given, {table}: {out.strip() or said}")
+
+
 def write_by(call, path, *given):
     """Writes to a file what a call of unicode_files prints."""
     printed = io.StringIO()
@@ -163,12 +172,13 @@ def rules_of(name, translation):
 
 def print_rules(options):
     tag = read_tag(options.cldr, options.tag, ("co",))
-    translation = translated(options, tag.name, Table(options.table), options.part)
-    if translation is None:
-        raise CldrError(f"{tag.text}: more than {MOST_RELATIONS} relations, which is more than uca takes at once: take a part by --part 1, or `tools/languages.py table`")
-    rules = rules_of(tag.text, translation)
     with tempfile.TemporaryDirectory() as folder:
         data = write_by(unicode_files.print_data, os.path.join(folder, "data"), unicode_files.FOLDER)
+        check_table(options, options.table, data)
+        translation = translated(options, tag.name, Table(options.table), options.part)
+        if translation is None:
+            raise CldrError(f"{tag.text}: more than {MOST_RELATIONS} relations, which is more than uca takes at once: take a part by --part 1, or `tools/languages.py table`")
+        rules = rules_of(tag.text, translation)
         error = planned(options, folder, rules, options.table, data).error
     if error:
         raise CldrError(f"{tag.text}: {error}")
@@ -179,10 +189,8 @@ def print_rules(options):
 
 
 def check_given(options):
-    """Judges the given table and data file, so that the reader of rows may trust their format."""
-    out, said = run([program(options), "check", options.table, options.data])
-    if out != "well-formed\n":
-        raise CldrError(f"the table that is given: {out.strip() or said}")
+    """Judges the given table and data file."""
+    check_table(options, options.table, options.data)
 
 
 def print_table(options):
@@ -201,6 +209,8 @@ def print_table(options):
 
 def print_kept(options):
     script = script_codes(options.cldr, options.script)
+    for given in (options.table, options.new):
+        check_table(options, given, options.data)
     of = script_order.scripts()
     old, new = (dict(read_rows(it)[1]) for it in (options.table, options.new))
     letters = {it for it in old if len(it) == 1 and of.get(ord(it)) in script}

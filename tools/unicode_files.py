@@ -38,6 +38,8 @@ def content(name):
             return file.read()
     except OSError as error:
         sys.exit(f"{name}: {error.strerror}. Debian has it in the package unicode-data.")
+    except UnicodeDecodeError:
+        sys.exit(f"{name} is not in UTF-8, so it is no file of Unicode.")
 
 
 def fields_of(text):

@@ -464,11 +464,17 @@ static void check_ranges(void)
     CHECK(opened_compact(&it, TABLE, DATA, BOOK, UCA_NON_IGNORABLE, UCA_WEIGHTS, &error) == UCA_OK);
     CHECK(IS_RANGE(&it, "A\xCC\x81", UCA_SAME_LETTERS, "\x08\0", "\x08\x05"));
     CHECK(IS_RANGE(&it, "", UCA_SAME_LETTERS, "\0", "\x05"));
+    CHECK(IS_RANGE(&it, "A\xCC\x81", UCA_SAME_ACCENTS, "\x08\x04\x63\x67\0", "\x08\x04\x63\x67\x03"));
+    CHECK(IS_RANGE(&it, "A", UCA_SAME_ACCENTS, "\x08\x01", "\x08\x04"));
+    CHECK(IS_RANGE(&it, "", UCA_SAME_ACCENTS, "\x01", "\x04"));
     CHECK(IS_RANGE(&it, "ab", UCA_BEGINS, "\x08\x0A", "\x08\x0A\xFF"));
-    CHECK(has_no_range(&it, BYTES("a"), UCA_SAME_ACCENTS, UCA_LOW, UCA_ARGUMENT));
+    CHECK(has_no_range(&it, BYTES("a"), 4, UCA_LOW, UCA_ARGUMENT));
+    CHECK(has_no_range(&it, BYTES("\xFF"), UCA_SAME_ACCENTS, UCA_HIGH, UCA_UTF8));
     uca_close(&it);
     CHECK(opened_compact(&it, TABLE, DATA, BOOK, UCA_SHIFTED, UCA_IDENTICAL, &error) == UCA_OK);
     CHECK(IS_RANGE(&it, "a", UCA_SAME_LETTERS, "\x0A\0", "\x0A\x07"));
+    CHECK(IS_RANGE(&it, "a", UCA_SAME_ACCENTS, "\x0A\x01", "\x0A\x06"));
+    CHECK(IS_RANGE(&it, "A\xCC\x81", UCA_SAME_ACCENTS, "\x0A\x06\x8B\x8F\0", "\x0A\x06\x8B\x8F\x05"));
     uca_close(&it);
 }
 

@@ -93,7 +93,7 @@ static bool is_made(uint32_t status, const uint8_t *out, size_t needed, const ui
     return status == UCA_OK;
 }
 
-/* Opens with a book, makes a key, both forms of it, and an end of a range. Returns whether nothing failed. */
+/* Opens with a book, makes a key, both forms of it, and ends of ranges. Returns whether nothing failed. */
 static bool use_compact(uca_collator *it)
 {
     uca_error error = {7, 7};
@@ -105,7 +105,7 @@ static bool use_compact(uca_collator *it)
             return false;
         }
     }
-    uint8_t key[64] = {0xEE}, compact[64] = {0xEE}, whole[64] = {0xEE}, low[64] = {0xEE};
+    uint8_t key[64] = {0xEE}, compact[64] = {0xEE}, whole[64] = {0xEE}, low[64] = {0xEE}, high[64] = {0xEE};
     size_t needed = 7;
     uint32_t status = uca_key(it, BYTES("a\xCC\x81"), key, sizeof key, &needed);
     bool is_key = is_made(status, key, needed, COMPACT_KEY, sizeof COMPACT_KEY);
@@ -114,7 +114,9 @@ static bool use_compact(uca_collator *it)
     status = uca_expand(it, COMPACT_KEY, sizeof COMPACT_KEY, whole, sizeof whole, &needed);
     bool is_whole = is_made(status, whole, needed, KEY, sizeof KEY);
     status = uca_range(it, BYTES("a\xCC\x81"), UCA_SAME_LETTERS, UCA_LOW, low, sizeof low, &needed);
-    return is_made(status, low, needed, (const uint8_t[]){8, 0}, 2) && is_key && is_compact && is_whole;
+    bool is_low = is_made(status, low, needed, (const uint8_t[]){8, 0}, 2);
+    status = uca_range(it, BYTES("a\xCC\x81"), UCA_SAME_ACCENTS, UCA_HIGH, high, sizeof high, &needed);
+    return is_made(status, high, needed, (const uint8_t[]){8, 4, 99, 103, 3}, 5) && is_key && is_compact && is_whole && is_low;
 }
 
 /* Makes a fingerprint, opens, makes a key and compares. Returns whether nothing failed. Each status is OK, or says that memory ran out. */

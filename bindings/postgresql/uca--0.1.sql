@@ -31,8 +31,7 @@ CREATE FUNCTION uca_key(text) RETURNS bytea AS 'MODULE_PATHNAME', 'uca_key_of_te
 -- The same for rejected texts too: a byte 0 and the key, or a byte 1 and the text. So rejected texts come after all others.
 CREATE FUNCTION uca_any_key(text) RETURNS bytea AS 'MODULE_PATHNAME', 'uca_any_key_of_text' LANGUAGE C IMMUTABLE STRICT PARALLEL SAFE COST 20;
 
--- The key through 1 or 2 levels. Two are equal exactly if the texts have the same letters, or the same letters and accents. Where the
--- server has a book, 2 levels are an error, also of the next functions.
+-- The key through 1 or 2 levels. Two are equal exactly if the texts have the same letters, or the same letters and accents.
 CREATE FUNCTION uca_key(text, levels integer) RETURNS bytea AS 'MODULE_PATHNAME', 'uca_range_low_of_text'
 LANGUAGE C IMMUTABLE STRICT PARALLEL SAFE COST 20;
 

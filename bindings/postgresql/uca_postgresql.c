@@ -400,8 +400,6 @@ static void value_error(Request asked, uint32 status)
     if (status == UCA_NO_BOOK)
         ereport(ERROR, (errcode(ERRCODE_OBJECT_NOT_IN_PREREQUISITE_STATE), errmsg("uca: the server has no book, so its keys are whole"),
                         errhint("Name a book in uca.book_file, and start the server again.")));
-    if (status == UCA_ARGUMENT)
-        ereport(ERROR, (errcode(ERRCODE_INVALID_PARAMETER_VALUE), errmsg("uca: the server has a book, so the number of levels is 1")));
     if (status == UCA_NO_KEY)
         ereport(ERROR, (errcode(ERRCODE_INVALID_BINARY_REPRESENTATION),
                         errmsg("uca: the bytes are rejected: %s", asked.made == EXPANDED_KEY ? "NoCompactKey" : "OtherKey")));

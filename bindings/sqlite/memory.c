@@ -205,7 +205,7 @@ int main(int count, char **words)
     snprintf(is_made_again, ROOM, "SELECT iif(uca_compact(uca_expand(uca_key('b-A', '%s'), '%s'), '%s') = uca_key('b-A', '%s'), 'yes', 'no')",
              book, book, book, book);
     snprintf(is_found, ROOM, "SELECT iif(uca_key('ab', '%s', 1) = uca_key('A-b', '%s', 1) AND uca_key('ab', '%s') >= uca_prefix_low('A', '%s')"
-             " AND uca_key('ab', '%s') < uca_range_high('A-b', '%s', 1), 'yes', 'no')", book, book, book, book, book, book);
+             " AND uca_key('ab', '%s') < uca_range_high('A-b', '%s', 2), 'yes', 'no')", book, book, book, book, book, book);
     snprintf(load, ROOM, "SELECT uca_load('%s', '%s', 'shifted', '', '%s')", words[2], words[3], used);
     snprintf(table, ROOM, "CREATE TABLE IF NOT EXISTS words(word TEXT, key BLOB AS (uca_key(word, '%s')) STORED)", used);
     snprintf(word_index, ROOM, "CREATE INDEX IF NOT EXISTS by_word ON words(word COLLATE uca_%s)", used);

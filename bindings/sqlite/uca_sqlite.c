@@ -10,7 +10,7 @@
 
      uca_key(text, 'e7f5..')                  the sort key, a blob; NULL for NULL; an error for a blob, for a real number, and for a text
                                               that is rejected
-     uca_key(text, 'e7f5..', levels)          the key through 1 or 2 levels: of letters, or of letters and accents; 1 with a book
+     uca_key(text, 'e7f5..', levels)          the key through 1 or 2 levels: of letters, or of letters and accents
      uca_range_low(text, 'e7f5..', levels)    where the keys begin whose first levels are those of the text, as many as for uca_key
      uca_range_high(text, 'e7f5..', levels)   where they end: these keys are from the low end up to, and without, the high end
      uca_prefix_low(text, 'e7f5..')           where the keys begin whose level 1 begins with the letters of the text
@@ -226,8 +226,6 @@ static void status_error(sqlite3_context *context, const request *asked, const l
         give_error(context, sqlite3_mprintf("%s: %s", asked->name, asked->made == EXPANDED_KEY ? "NoCompactKey" : "OtherKey"));
     } else if (status == UCA_NO_BOOK) {
         give_error(context, sqlite3_mprintf("%s: the files of fingerprint %s have no book", asked->name, it->fingerprint));
-    } else if (status == UCA_ARGUMENT) {
-        give_error(context, sqlite3_mprintf("%s: the files of fingerprint %s have a book, so the number of levels is 1", asked->name, it->fingerprint));
     } else {
         sqlite3_result_error_nomem(context);
     }

@@ -62,7 +62,7 @@ keys = [collator.key(it) for it in lines]
 for it in keys:
     print(it.hex().upper())
 for text in texts:
-    ranges = [collator.prefix_range(text), collator.range(text, levels=1)] + ([] if book else [collator.range(text, levels=2)])
+    ranges = [collator.prefix_range(text), collator.range(text, levels=1), collator.range(text, levels=2)]
     for low, high in ranges:
         print(" ".join(str(number) for number, key in enumerate(keys, 1) if low <= key < high))
 """
@@ -171,16 +171,16 @@ def stored_run(work):
 
 
 def page(work):
-    """The programs of docs/BINDINGS.md, which show what they print in their comments."""
+    """The programs of docs/BINDINGS.md, and that of docs/STORED_KEYS.md in Python. They show what they print in their comments."""
     need("gcc")
-    text = content(f"{TOP}/docs/BINDINGS.md").decode()
+    text, stored = (content(f"{TOP}/docs/{it}.md").decode() for it in ("BINDINGS", "STORED_KEYS"))
     for program in re.findall(r"```c\n(.*?)```", text, re.S):
         with open(f"{work}/page.c", "w", encoding="utf-8") as it:
             it.write(program)
         run(["gcc", *FLAGS, "-o", f"{work}/page", f"{work}/page.c", f"{C}/out/libuca.a"])
         wanted = re.search(r"/\* ([0-9A-F]+) \*/", program).group(1) if "printf(\"%" in program else ""
         same(run([f"{work}/page"]).decode(), wanted, f"the page's program {program}")
-    for program in re.findall(r"```python\n(.*?)```", text, re.S):
+    for program in re.findall(r"```python\n(.*?)```", text + stored, re.S):
         said = run([sys.executable, "-c", program], env=python_environment(), cwd=TOP).decode()
         same(said.splitlines(), re.findall(r"# (\S.*)", program), f"the page's program {program}")
 
@@ -439,18 +439,20 @@ THREE = "INSERT INTO words(word) VALUES ('bz'), ('bh'), ('b');"
 IN_ORDER = f"SELECT group_concat(word, ' ') FROM (SELECT word FROM words ORDER BY uca_key(word, '{USED}'));"
 
 
-# Calls without a fingerprint, and what they make by the small book and without one: hexadecimal digits. By a book there are no ranges of two levels.
+# Calls without a fingerprint, and what they make by the small book and without one: hexadecimal digits.
 MADE_BY_BOOK = [
     ("uca_key('')", "03", "000000000000"),
     ("uca_key('a')", "0A03", "1C4700000020000000020000FFFF"),
     ("uca_key('Á')", "0A068B8F04A505", "1C470000002000240000000800020000FFFFFFFF"),
     ("uca_key('b a')", "0C0A02030102", "1C601C470000002000200000000200020000FFFF0209FFFF"),
     ("uca_key('Á', 1)", "0A00", "1C47"),
-    ("uca_key('Á', 2)", None, "1C47000000200024"),
+    ("uca_key('A', 2)", "0A01", "1C4700000020"),
+    ("uca_key('Á', 2)", "0A068B8F00", "1C47000000200024"),
     ("uca_range_low('Á', 1)", "0A00", "1C47"),
     ("uca_range_high('Á', 1)", "0A07", "1C470001"),
-    ("uca_range_low('Á', 2)", None, "1C47000000200024"),
-    ("uca_range_high('Á', 2)", None, "1C470000002000240001"),
+    ("uca_range_low('Á', 2)", "0A068B8F00", "1C47000000200024"),
+    ("uca_range_high('Á', 2)", "0A068B8F05", "1C470000002000240001"),
+    ("uca_range_high('A', 2)", "0A06", "1C47000000200001"),
     ("uca_prefix_low('b Á')", "0C0A", "1C601C47"),
     ("uca_prefix_high('b Á')", "0C0AFF", "1C601C47FFFF"),
     ("uca_prefix_low('')", "", ""),
@@ -473,11 +475,7 @@ def sqlite_compact(work):
     fingerprint, load = fingerprint_of(TABLE, DATA, book=small), sqlite_load(book=small)
     for call, compact, whole in MADE_BY_BOOK:
         named, of_whole = (with_fingerprint(call, it) for it in (fingerprint, USED))
-        if compact is None:
-            error = f"{call.partition('(')[0]}: the files of fingerprint {fingerprint} have a book, so the number of levels is 1"
-            sqlite_fails(work, error, f"SELECT {named};", load=load)
-            named = "NULL"
-        same(sqlite_says(work, f"SELECT hex({named}), hex({of_whole});", load=load + sqlite_load()), f"{compact or ''}|{whole}\n", call)
+        same(sqlite_says(work, f"SELECT hex({named}), hex({of_whole});", load=load + sqlite_load()), f"{compact}|{whole}\n", call)
     for _, compact, whole in MADE_BY_BOOK[:4]:
         statement = f"SELECT hex(uca_expand(x'{compact}', '{fingerprint}')), hex(uca_compact(x'{whole}', '{fingerprint}'));"
         same(sqlite_says(work, statement, load=load), f"{whole}|{compact}\n", statement)
@@ -517,11 +515,6 @@ LOOKUPS = [("uca_range_{}('A', 1)", "a A- Á"), ("uca_prefix_{}('Ab')", "ab Abc"
 UNIQUES = [(1, "('a'), ('b'), ('ab')", "('Á')"), (1, "('a'), (' '), (NULL), (NULL)", "('')"), (2, "('a'), ('á'), ('b')", "('A')")]
 
 
-def without_book(them, book):
-    """All of them, or all but the last one, which is of two levels, where there is a book."""
-    return them[:-1] if book else them
-
-
 def sqlite_books(work):
     """Where another book or none is loaded, no row goes in, and a dump with rows is not restored."""
     small, load_it = small_book(work), sqlite_load(book=BOOK)
@@ -542,12 +535,12 @@ def sqlite_lookups(work):
     """Ranges find texts by an index, and a unique index takes no second text of the same levels, by whole keys and by compact ones."""
     for book, used in ((None, USED), (BOOK, COMPACT)):
         load, key = sqlite_load(book=book), f"uca_key(word, '{used}')"
-        for levels, goes_in, error in without_book(UNIQUES, book):
+        for levels, goes_in, error in UNIQUES:
             made = [UNIQUE.format(used, levels), f"INSERT INTO words VALUES {goes_in};"]
             sqlite_says(work, *made, load=load)
             sqlite_fails(work, "UNIQUE constraint failed", *made, f"INSERT INTO words VALUES {error};", load=load)
         made = [f"CREATE TABLE words(word TEXT); CREATE INDEX i ON words({key});", f"INSERT INTO words VALUES {LOOKED_THROUGH};"]
-        for ends, found in without_book(LOOKUPS, book):
+        for ends, found in LOOKUPS:
             low, high = (with_fingerprint(ends.format(it), used) for it in ("low", "high"))
             query = f"SELECT group_concat(word, ' ') FROM (SELECT word FROM words WHERE {key} >= {low} AND {key} < {high} ORDER BY {key});"
             same(sqlite_says(work, *made, query, load=load), f"{found}\n", query)
@@ -1171,16 +1164,13 @@ def postgresql_compact(work):
         with postgresql_server(work, book=book) as (_, says, _):
             fingerprint = fingerprint_of(TABLE, DATA, book=book)
             same(says("SELECT uca_fingerprint(); SELECT fingerprint FROM uca_files;"), f"{fingerprint}\n" * 2, "the fingerprint")
-            made = [(call, compact if book else whole) for call, compact, whole in MADE_BY_BOOK if compact or not book]
+            made = [(call, compact if book else whole) for call, compact, whole in MADE_BY_BOOK]
             statements = [f"SELECT upper(encode({call}, 'hex')), {call} = {with_fingerprint(call, fingerprint)};" for call, _ in made]
             same(says("".join(statements)), "".join(f"{wanted}|t\n" for _, wanted in made), f"keys by {book}")
-            for call in (it[0] for it in MADE_BY_BOOK if it[1] is None and book):
-                for it in (call, with_fingerprint(call, fingerprint)):
-                    same(says(f"SELECT {it};", fails=True), "ERROR:  uca: the server has a book, so the number of levels is 1", it)
             same(says("SELECT uca_any_key('Áb') = '\\x00' || uca_key('Áb');"), "t\n", f"any key by {book}")
             postgresql_expand(says, fingerprint, book)
             postgresql_arguments(says, fingerprint)
-            postgresql_lookups(says, book)
+            postgresql_lookups(says)
 
 
 def postgresql_expand(says, fingerprint, book):
@@ -1213,16 +1203,16 @@ def postgresql_arguments(says, fingerprint):
     same(says(f"SELECT uca_prefix_low({LONG});", fails=True), "ERROR:  uca: the text is rejected: TooLong", "the beginning of a text of 180 MB")
 
 
-def postgresql_lookups(says, book):
+def postgresql_lookups(says):
     """Ranges find texts by an index, and a unique index takes no second text of the same levels."""
     says(f"CREATE TABLE words(word text); CREATE INDEX by_key ON words(uca_key(word)); INSERT INTO words VALUES {LOOKED_THROUGH};")
-    for ends, found in without_book(LOOKUPS, book):
+    for ends, found in LOOKUPS:
         where = f"uca_key(word) >= {ends.format('low')} AND uca_key(word) < {ends.format('high')}"
         same(says(f"SELECT string_agg(word, ' ' ORDER BY uca_key(word)) FROM words WHERE {where};"), f"{found}\n", where)
         plan = says(f"SET enable_seqscan = off; SET enable_bitmapscan = off; EXPLAIN (costs off) SELECT word FROM words WHERE {where};")
         if not plan.startswith("Index Scan using by_key on words\n  Index Cond: "):
             raise AssertionError(f"a query without its index: {where}: {plan}")
-    for number, (levels, goes_in, error) in enumerate(without_book(UNIQUES, book)):
+    for number, (levels, goes_in, error) in enumerate(UNIQUES):
         says(f"CREATE TABLE one{number}(word text); CREATE UNIQUE INDEX ON one{number}(uca_key(word, {levels})); INSERT INTO one{number} VALUES {goes_in};")
         if "duplicate key value violates unique constraint" not in says(f"INSERT INTO one{number} VALUES {error};", fails=True):
             raise AssertionError(f"a second text of the same {levels} levels")
@@ -1358,9 +1348,9 @@ def looked_up(program, files, words, keys):
     return [(text, (begin[both[0]], same_letters[both[0]], same_accents[both])) for text, both in zip(texts, its)]
 
 
-def found_lines(lookups, book):
+def found_lines(lookups):
     """One line for each list of numbers."""
-    return "".join(" ".join(map(str, numbers)) + "\n" for _, lists in lookups for numbers in without_book(lists, book))
+    return "".join(" ".join(map(str, numbers)) + "\n" for _, lists in lookups for numbers in lists)
 
 
 def over_unicode(program, tried):
@@ -1393,7 +1383,7 @@ def python_words(work, table, data, book, keys, order, lookups):
     given = {"input": content(f"{work}/words.txt"), "env": python_environment()}
     same(run([sys.executable, "-c", SORTER, *arguments], **given).decode(), order, f"order over {table} by {book}")
     found = run([sys.executable, "-c", LOOKER, *arguments, *(text for text, _ in lookups)], **given).decode()
-    same(found, keys + found_lines(lookups, book), f"keys and lookups over {table} by {book}")
+    same(found, keys + found_lines(lookups), f"keys and lookups over {table} by {book}")
 
 
 def quoted(text):
@@ -1411,10 +1401,10 @@ def sqlite_words(work, table, data, book, keys, order, lookups):
     same(sqlite_says(work, f"SELECT hex({key}) FROM words ORDER BY rowid;", load=load, database=database), keys, f"keys over {table}")
     queries = []
     for text, _ in lookups:
-        for ends in without_book(["uca_prefix_{}({}, '{}')", "uca_range_{}({}, '{}', 1)", "uca_range_{}({}, '{}', 2)"], book):
+        for ends in ("uca_prefix_{}({}, '{}')", "uca_range_{}({}, '{}', 1)", "uca_range_{}({}, '{}', 2)"):
             low, high = (ends.format(it, quoted(text), fingerprint) for it in ("low", "high"))
             queries.append(f"SELECT coalesce(group_concat(n, ' '), '') FROM (SELECT rowid AS n FROM words WHERE {key} >= {low} AND {key} < {high} ORDER BY rowid);")
-    same(sqlite_says(work, "".join(queries), load=load, database=database), found_lines(lookups, book), f"lookups over {table} by {book}")
+    same(sqlite_says(work, "".join(queries), load=load, database=database), found_lines(lookups), f"lookups over {table} by {book}")
     unique = f"CREATE TABLE one(word TEXT); CREATE UNIQUE INDEX by_letters ON one(uca_key(word, '{fingerprint}', 1)); INSERT INTO one VALUES ('Café');"
     sqlite_fails(work, "UNIQUE constraint failed: index 'by_letters'", unique, "INSERT INTO one VALUES ('CAFÉ');", load=load)
     size = sqlite_says(work, "SELECT sum(pgsize) FROM dbstat WHERE name = 'by_key';", load=load, database=database).strip()
@@ -1429,10 +1419,10 @@ def postgresql_words(work, table, data, book, keys, order, lookups):
         same(says("SELECT upper(encode(uca_key(word), 'hex')) FROM words ORDER BY id;"), keys, f"keys over {table}")
         queries = []
         for text, _ in lookups:
-            for ends in without_book(["uca_prefix_{}({})", "uca_range_{}({}, 1)", "uca_range_{}({}, 2)"], book):
+            for ends in ("uca_prefix_{}({})", "uca_range_{}({}, 1)", "uca_range_{}({}, 2)"):
                 low, high = (ends.format(it, quoted(text)) for it in ("low", "high"))
                 queries.append(f"SELECT coalesce(string_agg(id::text, ' ' ORDER BY id), '') FROM words WHERE uca_key(word) >= {low} AND uca_key(word) < {high};")
-        same(says("SET enable_seqscan = off;" + "".join(queries)), found_lines(lookups, book), f"lookups over {table} by {book}")
+        same(says("SET enable_seqscan = off;" + "".join(queries)), found_lines(lookups), f"lookups over {table} by {book}")
         unique = "CREATE TABLE one(word text); CREATE UNIQUE INDEX by_letters ON one(uca_key(word, 1)); INSERT INTO one VALUES ('Café'); INSERT INTO one VALUES ('CAFÉ');"
         if "duplicate key value violates unique constraint" not in says(unique, fails=True):
             raise AssertionError(f"CAFÉ beside Café over {table} by {book}")

@@ -7,15 +7,17 @@
 It needs Debian's packages unicode-data (the new table, and both data files) and perl-modules-5.36 (the old table, which Perl's Unicode::Collate has).
 Without them it says so and ends with status 2. The data file of 13.0.0 is that of the new edition without the code points that came later.
 
-`uca changes` has to list at most 30 old keys, and `uca audit-changes` to accept. This script finds the affected lines by the definition, apart from the program,
+`uca changes` has to list 18 old keys, and `uca audit-changes` to accept. This script finds the affected lines by the definition, apart from the program,
 and looks whether 1,000,000 random pairs of other lines compare as before. `uca rekey` has to print what `uca keys`
-prints under the new table, byte for byte. `--keep FOLDER` keeps the files. The last line is `N passed, M failed`.
+prints under the new table, byte for byte. `--keep FOLDER` keeps the files, in a folder that is made if it is not there.
+The last line is `N passed, M failed`.
 """
 import argparse
 import bisect
 import collections
 import os
 import random
+import shutil
 import subprocess
 import sys
 import tempfile
@@ -169,7 +171,7 @@ def find(folder):
     listed = Listed(folder.file("changes.txt"))
     old, new = set(keys_of(folder, "old.txt")), set(keys_of(folder, "new.txt"))
     gone, added = [text for text in listed.texts if text in old], [text for text in listed.texts if text not in old]
-    see("old keys that are listed", len(gone) <= 30, f"{len(gone)} of {len(old):,}")
+    see("old keys that are listed", len(gone) == 18, f"{len(gone)} of {len(old):,}")
     see("new keys that are listed", set(added) == new - old, f"{len(added):,}, and {len(listed.ranges)} ranges of code points")
     status, out, said, seconds = folder.run("audit-changes", *files, "changes.txt", "certificate.txt")
     see("audit-changes", (status, out) == (0, b"accepted\n"), said or "%s in %.2f s" % (out.decode().strip(), seconds))
@@ -302,12 +304,25 @@ def words_are_mended(folder, listed):
     return 0
 
 
+def stop_at_wrong(options):
+    """Ends with a sentence and the status 2 where there is no program, or where the folder cannot be made."""
+    if not shutil.which(os.path.abspath(options.uca)):
+        print(f"there is no program {options.uca}: tools/build.py builds it, or --uca names another one", file=sys.stderr)
+        sys.exit(2)
+    try:
+        os.makedirs(options.keep or ".", exist_ok=True)
+    except OSError as error:
+        print(f"--keep {options.keep}: the folder cannot be made: {error.strerror}", file=sys.stderr)
+        sys.exit(2)
+
+
 def main():
     parser = argparse.ArgumentParser(description=__doc__.split("\n")[0])
     parser.add_argument("--uca", default=PROGRAM, help="the program")
-    parser.add_argument("--keep", help="the folder to make the files in")
+    parser.add_argument("--keep", help="the folder to make the files in; it is made if it is not there")
     options = parser.parse_args()
     packages.stop_without(NEEDS)
+    stop_at_wrong(options)
     chosen = random.Random(SEED)
     with tempfile.TemporaryDirectory() as temporary:
         folder = Folder(options.uca, options.keep or temporary)

@@ -25,6 +25,7 @@ COUNTS = re.compile(r"(\d+) passed, (\d+) failed(?:, (\d+) not run)?\n?")
 TESTS = {
     "certificates": [],
     "books": [],
+    "tool_errors": [],
     "bindings": [],
     "page_heap": [],
     "page": [],

@@ -69,7 +69,7 @@ typedef enum uca_depth {
 /* Which keys a range has. "The same letters" means that level 1 is the same, as for `cafe`, `Cafe` and `café`. */
 typedef enum uca_range_of {
     UCA_SAME_LETTERS = 1, /* the keys with the letters of the text: level 1 is the same */
-    UCA_SAME_ACCENTS = 2, /* the keys with the letters and the accents of the text: levels 1 and 2 are the same. For whole keys alone */
+    UCA_SAME_ACCENTS = 2, /* the keys with the letters and the accents of the text: levels 1 and 2 are the same */
     UCA_BEGINS = 3        /* the keys whose level 1 begins with the letters of the text */
 } uca_range_of;
 
@@ -176,7 +176,7 @@ uint32_t uca_expand(uca_collator *collator, const uint8_t *compact, size_t lengt
    has a book, else whole ones.
 
    For example, the range UCA_SAME_LETTERS of `cafe` has the keys of `cafe`, `Cafe` and `café`, and no key of `cafes`. The range
-   UCA_BEGINS of `caf` has all these, and that of `cafes`. Among whole keys, UCA_BEGINS has no key in which the weight FFFF comes
+   UCA_SAME_ACCENTS of `cafe` has those of `cafe` and `Cafe`. The range UCA_BEGINS of `caf` has all these, and that of `cafes`. Among whole keys, UCA_BEGINS has no key in which the weight FFFF comes
    after the letters of the text.
 
    The low end of UCA_SAME_LETTERS or UCA_SAME_ACCENTS can be kept as a key of its own: two texts have the same low end exactly if
@@ -184,7 +184,7 @@ uint32_t uca_expand(uca_collator *collator, const uint8_t *compact, size_t lengt
 
    UCA_OK: the first `*needed` bytes of `out` are the end, and those after them are as before.
    UCA_SMALL: the end has `*needed` bytes, and `room` is less.
-   UCA_ARGUMENT: the range or the end is none of those, or the range is UCA_SAME_ACCENTS and the collator has a book. `*needed` is 0.
+   UCA_ARGUMENT: the range or the end is none of those. `*needed` is 0.
    UCA_CLOSED, UCA_UTF8, UCA_TOO_LONG, UCA_LONG_RUN, UCA_MEMORY: `*needed` is 0.
    Unless the status is UCA_OK, `out` is as before. */
 uint32_t uca_range(uca_collator *collator, const uint8_t *text, size_t length, uint32_t range, uint32_t end, uint8_t *out,

@@ -38,7 +38,7 @@ __all__ = [
 
 _ABI = 1
 
-_OK, _CLOSED, _ARGUMENT, _TABLE, _DATA, _MEMORY, _SMALL, _BOOK, _NO_BOOK, _NO_KEY = 0, 1, 3, 4, 5, 6, 10, 11, 12, 13
+_OK, _CLOSED, _TABLE, _DATA, _MEMORY, _SMALL, _BOOK, _NO_BOOK, _NO_KEY = 0, 1, 4, 5, 6, 10, 11, 12, 13
 _ROLES = {_TABLE: "table", _DATA: "data", _BOOK: "book"}
 _TEXT_ERRORS = {7: "Utf8", 8: "TooLong", 9: "LongRun"}
 _STORED_KEY_ERRORS = {"uca_compact": "OtherKey", "uca_expand": "NoCompactKey"}
@@ -352,8 +352,6 @@ def _raise(status: int, collator: _Collator, name: str) -> None:
         raise collator.new_error()
     if status == _MEMORY:
         raise MemoryError
-    if status == _ARGUMENT:
-        raise ValueError("levels is 1 where there is a book")
     if status == _NO_BOOK:
         raise NoBookError
     if status == _NO_KEY:
@@ -474,8 +472,7 @@ class Collator:
         """The sort key of a text, which is compact if there is a book. Keys of one collator compare as bytes as their texts do.
 
         With ``levels``, 1 or 2, it is the key through so many levels. Two of these are equal exactly if the texts have the same
-        letters (1), or the same letters and accents (2). They compare with each other, and not with other keys. With a book,
-        2 is a ValueError.
+        letters (1), or the same letters and accents (2). They compare with each other, and not with other keys.
 
         Raises :class:`TextError`, :class:`ClosedError` and MemoryError.
         """
@@ -485,8 +482,6 @@ class Collator:
 
     def range(self, text: Text, levels: int = 1) -> KeyRange:
         """The range that has exactly the keys with the same letters as this text (1), or the same letters and accents (2).
-
-        With a book, 2 is a ValueError.
 
         Raises :class:`TextError`, :class:`ClosedError` and MemoryError.
         """

@@ -1,10 +1,10 @@
 -- The compact key of a text, and that there is one.
 use Rattle.std.proofs.Common.{◌≡◌, ◌∙◌, ℕ, List, Bool, true, false, Option, Some, None, option_map, if◌then◌else◌, chars, refl, ap, sym, subst}
-use Rattle.std.specs.Str.{IsUtf8, all_scalars}
+use Rattle.std.specs.Str.{IsUtf8}
 use Rattle.std.proofs.lemmas.Str.{scalars-chars}
 use Rattle.uca_weights.specs.declared.Settings.{Settings}
 use Rattle.uca_scalars.proofs.NfdScalars.{normal_scalars}
-use Rattle.uca_order.specs.Depths.{ReadText, key_at}
+use Rattle.uca_order.specs.Depths.{ReadText}
 use Rattle.uca_order.specs.Keyings.{Keying, key_of_bytes}
 use Rattle.uca_books.specs.Books.{BookContent}
 use Rattle.uca_compact.specs.CompactKeys.{KeyParts, text_parts, compact_key}

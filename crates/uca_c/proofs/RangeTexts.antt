@@ -6,12 +6,13 @@ use Rattle.uca_weights.specs.declared.Weighting.{Weighting}
 use Rattle.uca_weights.specs.declared.Weighting.TheVariants.{NonIgnorable, Shifted}
 use Rattle.uca_order.specs.Levels.{weighted, level_list}
 use Rattle.uca_order.specs.Depths.{ReadText}
+use Rattle.uca_books.specs.Books.{BookContent}
 use Rattle.uca_compact.specs.CompactKeys.{KeyParts, text_parts}
 use Rattle.uca_compact.specs.StoredParts.{StoredLevel, stored_level, points_after, after_level, level_before, parts_from, stored_parts}
 use Rattle.uca_compact.proofs.OnlyCells.{AreBytes, nothing, same_some}
 use Rattle.uca_compact.proofs.TextKeys.{parts_of_bytes}
 use Rattle.uca_compact.proofs.TextOrder.{keys_keep_order}
-use Rattle.uca_lookups.specs.Ranges.{FindsLevels, LevelsBegin, levels_low, levels_high}
+use Rattle.uca_lookups.specs.Ranges.{FindsLevels, LevelsBegin, levels_low, levels_high, FindsCompactLevels, compact_levels_low, compact_levels_high}
 use Rattle.uca_c.specs.RangeCalls.{letters_in, accents_in}
 use Rattle.uca_c.specs.inside.TextKeys.{IsKeyOf}
 use Rattle.uca_c.proofs.CompactTexts.{parts_are_read}
@@ -62,5 +63,15 @@ pub two_are_found : (s : Settings) (t : ReadText) (key : List ℕ) (found : Bool
     × (high ≡ levels_high (letters_in s.weighting t ∷ accents_in s.weighting t ∷ []))
 two_are_found s t key found low high are is finds =
     finds s.depth s.weighting (text_parts s.depth s.weighting t) (letters_in s.weighting t ∷ accents_in s.weighting t ∷ [])
+    (parts_of_bytes s.depth s.weighting t (subst AreBytes is.is are) is.scalars) (is.is ∙ sym (keys_keep_order.key s.depth s.weighting t))
+    (two_begin s.depth s.weighting t) refl (omega arith)
+
+-- and the ends of compact keys by these
+pub two_compact_are_found : (s : Settings) (b : BookContent) (t : ReadText) (key : List ℕ) (found : Bool) (low high : List ℕ) → AreBytes key → IsKeyOf s t key
+    → FindsCompactLevels s b 2 key found low high
+    → (found ≡ true) × (low ≡ compact_levels_low s.weighting b (letters_in s.weighting t ∷ accents_in s.weighting t ∷ []))
+    × (high ≡ compact_levels_high s.weighting b (letters_in s.weighting t ∷ accents_in s.weighting t ∷ []))
+two_compact_are_found s b t key found low high are is finds =
+    finds (text_parts s.depth s.weighting t) (letters_in s.weighting t ∷ accents_in s.weighting t ∷ [])
     (parts_of_bytes s.depth s.weighting t (subst AreBytes is.is are) is.scalars) (is.is ∙ sym (keys_keep_order.key s.depth s.weighting t))
     (two_begin s.depth s.weighting t) refl (omega arith)

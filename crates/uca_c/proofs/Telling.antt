@@ -1,21 +1,40 @@
 -- What a caller is told of an error of opening.
-use Rattle.std.proofs.Common.{◌≡◌, ◌∙◌, ℕ, ap, inl, inr}
-use Rattle.std.specs.Prelude.{◌⊎◌}
-use Rattle.uca_values.specs.declared.faults.FaultKind.{FaultKind}
-use Rattle.uca_values.specs.declared.faults.FaultKind.TheVariants.{Read, Memory}
-use Rattle.uca_lines.specs.FileStops.{IsStop}
+use Rattle.std.proofs.Common.{◌≡◌, ◌∙◌, ℕ, List, Option, Some, ap, inl, inr, refl}
+use Rattle.uca_weights.specs.declared.Depth.{Depth}
+use Rattle.uca_weights.specs.declared.Weighting.{Weighting}
+use Rattle.uca_order.specs.Keyings.{keying}
 use Rattle.uca_owned.specs.declared.faults.OpenFault.{OpenFault}
 use Rattle.uca_owned.specs.declared.faults.OpenFault.TheVariants as faults
-use Rattle.uca_owned.specs.Opening.{IsOpenStop}
-use Rattle.uca_c.specs.Numbers.{kind_number}
-use Rattle.uca_c.specs.Opened.{IsStopStatus, TellsFault}
-
--- the number of a kind that is a stop
-stop_number : (kind : FaultKind) (number : ℕ) → number ≡ kind_number kind → IsStop kind → (number ≡ kind_number Read) ⊎ (number ≡ kind_number Memory)
-stop_number kind number same stop = elim stop [ inl read ↦ inl (same ∙ ap kind_number read) | inr memory ↦ inr (same ∙ ap kind_number memory) ]
+use Rattle.uca_owned.specs.Opening.{IsOpenCause, IsOpenStop}
+use Rattle.uca_c.specs.Numbers.{kind_number, weighting_of, depth_of}
+use Rattle.uca_c.specs.Opened.{IsOpenStatus, IsStopStatus, TellsFault}
 
 -- it is the status of a stop, if the error is in no file
 pub told_stop : (fault : OpenFault) (line kind status : ℕ) → IsOpenStop fault → TellsFault fault line kind status → IsStopStatus status kind
-told_stop (faults.Table fault) line kind status stop told = inr (inl told.2, stop_number fault.kind kind told.1 stop)
-told_stop (faults.Data fault) line kind status stop told = inr (inr told.2, stop_number fault.kind kind told.1 stop)
+told_stop (faults.Table fault) line kind status stop told = inr (inl told.2, told.1 ∙ ap kind_number stop)
+told_stop (faults.Data fault) line kind status stop told = inr (inr told.2, told.1 ∙ ap kind_number stop)
 told_stop faults.Memory line kind status stop told = inl told.2
+
+-- it is the status of an error that has a cause, where the numbers ask for a weighting and a depth
+pub told_cause : (weighting depth : ℕ) (asked : Option Weighting) (at : Depth) (table_bytes data_bytes : List ℕ) (fault : OpenFault) (line kind status : ℕ)
+    → weighting_of weighting ≡ Some asked → depth_of depth ≡ Some at → IsOpenCause table_bytes data_bytes fault → TellsFault fault line kind status
+    → IsOpenStatus weighting depth table_bytes data_bytes line kind status
+told_cause weighting depth asked at table_bytes data_bytes (faults.Table fault) line kind status is_weighting is_depth cause told =
+    inr (inl (told.2, record { fault = fault; cause = cause; line = told.0; kind = told.1 }))
+told_cause weighting depth asked at table_bytes data_bytes (faults.Data fault) line kind status is_weighting is_depth cause told =
+    inr (inr (inl (told.2, record { fault = fault; cause = cause; line = told.0; kind = told.1 })))
+told_cause weighting depth asked at table_bytes data_bytes faults.Memory line kind status is_weighting is_depth cause told =
+    inr (inr (inr (
+      told.2,
+      (
+        keying asked at cause.0 cause.1,
+        record {
+          asked = asked;
+          at = at;
+          is_weighting = is_weighting;
+          is_depth = is_depth;
+          opens = record { table = cause.0; properties = cause.1; mean = cause.2; same = refl };
+        },
+      ),
+      (told.0, told.1),
+    )))

@@ -1,5 +1,5 @@
 -- The numbers by which C says a weighting, a depth and a range, and gets kinds of errors and orders.
-use Rattle.std.specs.Prelude.{ℕ, ℤ, pos, negsuc, ◌==◌, if◌then◌else◌, Bool, Option, Some, None}
+use Rattle.std.specs.Prelude.{ℕ, ℤ, pos, negsuc, ◌==◌, if◌then◌else◌, Option, Some, None}
 use Rattle.std.specs.declared.cmp.Ordering.{Ordering}
 use Rattle.std.specs.declared.cmp.Ordering.TheVariants.{Less, Equal, Greater}
 use Rattle.uca_weights.specs.declared.Depth.{Depth}
@@ -20,10 +20,11 @@ weighting_of n = if n == 0 then Some None else if n == 1 then Some (Some NonIgno
 abbrev pub depth_of : ℕ → Option Depth
 depth_of n = if n == 0 then Some Weights else if n == 1 then Some Identical else None
 
--- the range that a number asks for; that of the same accents is one of whole keys alone
-abbrev pub range_of : (has_book : Bool) → ℕ → Option RangeOf
-range_of has_book n = if n == 1 then Some SameLetters else if n == 2 then (if has_book then None else Some SameAccents) else if n == 3 then Some Begins else None
+-- the range that a number asks for; other numbers have no meaning
+abbrev pub range_of : ℕ → Option RangeOf
+range_of n = if n == 1 then Some SameLetters else if n == 2 then Some SameAccents else if n == 3 then Some Begins else None
 
+-- the end of a range that a number asks for; other numbers have no meaning
 abbrev pub end_of : ℕ → Option End
 end_of n = if n == 0 then Some Low else if n == 1 then Some High else None
 

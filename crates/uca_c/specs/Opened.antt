@@ -1,5 +1,5 @@
 -- What the status of opening says of the caller's bytes and numbers.
-use Rattle.std.specs.Prelude.{◌≡◌, ◌⊎◌, ℕ, List, Option, Some, None}
+use Rattle.std.specs.Prelude.{◌≡◌, ◌≢◌, ◌⊎◌, ℕ, List, Option, Some, None}
 use Rattle.uca_weights.specs.declared.Depth.{Depth}
 use Rattle.uca_weights.specs.declared.Weighting.{Weighting}
 use Rattle.uca_values.specs.Content.{TableContent, Properties}
@@ -47,13 +47,13 @@ TellsFault (faults.Table fault) line kind status = (line ≡ fault.line) × (kin
 TellsFault (faults.Data fault) line kind status = (line ≡ fault.line) × (kind ≡ kind_number fault.kind) × (status ≡ DATA)
 TellsFault faults.Memory line kind status = (line ≡ 0) × (kind ≡ 0) × (status ≡ MEMORY)
 
--- why nothing was opened
+-- why nothing was opened: a number, the table or the data file; or an allocation failed after both were read
 abbrev pub IsOpenStatus : ℕ → ℕ → List ℕ → List ℕ → ℕ → ℕ → ℕ → Type 0
 IsOpenStatus weighting depth table_bytes data_bytes line kind status =
     ((status ≡ ARGUMENT) × ((weighting_of weighting ≡ None) ⊎ (depth_of depth ≡ None)) × IsNoFileError line kind)
     ⊎ ((status ≡ TABLE) × IsFileError (λ fault. IsOpenCause table_bytes data_bytes (faults.Table fault)) line kind)
     ⊎ ((status ≡ DATA) × IsFileError (λ fault. IsOpenCause table_bytes data_bytes (faults.Data fault)) line kind)
-    ⊎ ((status ≡ MEMORY) × IsNoFileError line kind)
+    ⊎ ((status ≡ MEMORY) × ((k : Keying) × OpensBy weighting depth table_bytes data_bytes k) × IsNoFileError line kind)
 
 -- the numbers ask for this weighting and this depth, and the bytes mean this table and these properties
 pub record Asks (weighting depth : ℕ) (table_bytes data_bytes : List ℕ) (asked : Option Weighting) (at : Depth) (table : TableContent) (properties : Properties) : Type 0 where
@@ -61,9 +61,9 @@ pub record Asks (weighting depth : ℕ) (table_bytes data_bytes : List ℕ) (ask
   pub is_depth : depth_of depth ≡ Some at
   pub mean : MeanFiles table_bytes data_bytes table properties
 
--- nothing is rejected: an allocation failed, or a read
+-- nothing is rejected: an allocation failed
 abbrev pub IsStopStatus : ℕ → ℕ → Type 0
-IsStopStatus status kind = (status ≡ MEMORY) ⊎ (((status ≡ TABLE) ⊎ (status ≡ DATA)) × ((kind ≡ kind_number Read) ⊎ (kind ≡ kind_number Memory)))
+IsStopStatus status kind = (status ≡ MEMORY) ⊎ (((status ≡ TABLE) ⊎ (status ≡ DATA)) × (kind ≡ kind_number Memory))
 
 -- ---- With a book
 
@@ -72,11 +72,14 @@ abbrev pub HasBook : List ℕ → Option BookContent → Type 0
 HasBook bytes None = ⊥
 HasBook bytes (Some book) = books.Means bytes book
 
--- why the bytes of a book are rejected, whatever is left of them
-abbrev pub RejectsBook : List ℕ → TableFault → Type 0
-RejectsBook bytes fault = (left : Option (List ℕ)) × books.Refuses bytes left fault
+-- Why the bytes of a book are rejected, whatever is left of them. Reading bytes in memory does not fail.
+pub record RejectsBook (bytes : List ℕ) (fault : TableFault) : Type 0 where
+  pub left : Option (List ℕ)
+  pub cause : books.Refuses bytes left fault
+  pub not_read : fault.kind ≢ Read
 
--- why nothing was opened: a table or a data file, or else a book
+-- Why nothing was opened: a number, the table, the data file or memory, as without a book. Or these could be opened, and
+-- the book could not.
 abbrev pub IsCompactOpenStatus : ℕ → ℕ → List ℕ → List ℕ → List ℕ → ℕ → ℕ → ℕ → Type 0
 IsCompactOpenStatus weighting depth table_bytes data_bytes book_bytes line kind status =
     IsOpenStatus weighting depth table_bytes data_bytes line kind status
@@ -84,4 +87,4 @@ IsCompactOpenStatus weighting depth table_bytes data_bytes book_bytes line kind 
 
 -- nothing is rejected, and no book either
 abbrev pub IsCompactStopStatus : ℕ → ℕ → Type 0
-IsCompactStopStatus status kind = IsStopStatus status kind ⊎ ((status ≡ BOOK) × ((kind ≡ kind_number Read) ⊎ (kind ≡ kind_number Memory)))
+IsCompactStopStatus status kind = IsStopStatus status kind ⊎ ((status ≡ BOOK) × (kind ≡ kind_number Memory))

@@ -1,5 +1,5 @@
 -- The ends of the ranges of keys that a lookup by a text scans.
-use Rattle.std.specs.Prelude.{◌≡◌, ◌⊎◌, ℕ, List, [], ◌∷◌, Bool, true, false, Option, Some, None}
+use Rattle.std.specs.Prelude.{◌≡◌, ◌⊎◌, ℕ, List, [], ◌∷◌, Option, Some, None}
 use Rattle.uca_weights.specs.declared.Weighting.{Weighting}
 use Rattle.uca_order.specs.Levels.{weighted, level_list}
 use Rattle.uca_order.specs.Depths.{ReadText}
@@ -14,10 +14,11 @@ use Rattle.uca_c.specs.declared.numbers.End.TheVariants.{Low, High}
 use Rattle.uca_c.specs.Numbers.{range_of, end_of}
 use Rattle.uca_c.specs.OpenCollators.{text_of}
 
--- a level of a text
+-- level 1 of a text
 abbrev pub letters_in : Weighting → ReadText → List ℕ
 letters_in weighting t = level_list 1 (weighted weighting t.elements)
 
+-- level 2
 abbrev pub accents_in : Weighting → ReadText → List ℕ
 accents_in weighting t = level_list 2 (weighted weighting t.elements)
 
@@ -44,20 +45,16 @@ abbrev pub end_by : Option BookContent → RangeOf → End → Weighting → Rea
 end_by None range side weighting t = whole_end range side weighting t
 end_by (Some b) range side weighting t = compact_end b range side weighting t
 
-abbrev pub has_one : Option BookContent → Bool
-has_one None = false
-has_one (Some b) = true
-
 -- the numbers ask for this range and this end
-pub record AsksEnd (book : Option BookContent) (range side : ℕ) (r : RangeOf) (e : End) : Type 0 where
-  pub is_range : range_of (has_one book) range ≡ Some r
+pub record AsksEnd (range side : ℕ) (r : RangeOf) (e : End) : Type 0 where
+  pub is_range : range_of range ≡ Some r
   pub is_end : end_of side ≡ Some e
 
 -- they ask for none
-abbrev pub AsksNoEnd : Option BookContent → (range side : ℕ) → Type 0
-AsksNoEnd book range side = (range_of (has_one book) range ≡ None) ⊎ (end_of side ≡ None)
+abbrev pub AsksNoEnd : (range side : ℕ) → Type 0
+AsksNoEnd range side = (range_of range ≡ None) ⊎ (end_of side ≡ None)
 
 -- the bytes are the end that the numbers ask for, by this text
 abbrev pub IsEndOf : Keying → Option BookContent → (range side : ℕ) → (text bytes : List ℕ) → Type 0
 IsEndOf k book range side text bytes =
-    (r : RangeOf) × (e : End) × AsksEnd book range side r e × (bytes ≡ end_by book r e k.settings.weighting (text_of k text))
+    (r : RangeOf) × (e : End) × AsksEnd range side r e × (bytes ≡ end_by book r e k.settings.weighting (text_of k text))

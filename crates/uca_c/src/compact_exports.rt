@@ -133,7 +133,7 @@ pub extern "C" fn uca_range(
     needed: &mut usize,
 ) -> u32
     ensures closed { (result ≡ CLOSED) ↔ (collator.old.full ≡ false) }
-    ensures argument { collator.old.full ≡ true → (result ≡ ARGUMENT) ↔ AsksNoEnd collator.old.handle.kept.book range end }
+    ensures argument { collator.old.full ≡ true → (result ≡ ARGUMENT) ↔ AsksNoEnd range end }
     ensures ok { result ≡ OK → WritesOne (IsEndOf (keying_at collator.old.handle.kept) collator.old.handle.kept.book range end text.now) out.old out.new needed.new }
     ensures small { result ≡ SMALL → IsOneTooSmall (IsEndOf (keying_at collator.old.handle.kept) collator.old.handle.kept.book range end text.now) out.old needed.new }
     ensures rejected { collator.old.full ≡ true → result ≢ ARGUMENT → IsKeyStatus (keying_at collator.old.handle.kept).collation.properties text.now result }

@@ -12,8 +12,10 @@ use std::ptr;
 
 /// In C `struct { void *inside; bool is_kept; }`. Where `full` is false it owns nothing, and the pointer may be any. So a
 /// struct of zeros is a handle with nothing inside.
+///
+/// It is never dropped, since that would give no memory back: one that is full is taken apart, and only one with nothing
+/// inside is let go.
 #[repr(C)]
-#[derive(Drop)]
 pub struct Handle {
     ptr: *mut u8,
     alloc: Global,
@@ -46,6 +48,17 @@ impl Handle {
             alloc,
             full: true,
         }
+    }
+
+    /// Lets a handle go that owns nothing.
+    pub(crate) fn let_go(self)
+        requires { self.full ≡ false }
+    {
+        let Handle {
+            ptr: _,
+            alloc: _,
+            full: _,
+        } = self;
     }
 
     pub(crate) fn into_parts(self) -> Parts<OpenCollator, Global>

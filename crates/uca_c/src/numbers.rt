@@ -50,19 +50,13 @@ pub fn asked_depth(number: u32) -> Option<Depth>
     }
 }
 
-// The range that is asked for. Other numbers have no meaning, and that of the same accents has none where keys are compact.
-pub fn asked_range(has_book: bool, number: u32) -> Option<RangeOf>
-    ensures { result ≡ range_of has_book number }
+// The range that is asked for. Other numbers have no meaning.
+pub fn asked_range(number: u32) -> Option<RangeOf>
+    ensures { result ≡ range_of number }
 {
     match number {
         1 => Some(RangeOf::SameLetters),
-        2 => {
-            if has_book {
-                None
-            } else {
-                Some(RangeOf::SameAccents)
-            }
-        }
+        2 => Some(RangeOf::SameAccents),
         3 => Some(RangeOf::Begins),
         _ => None,
     }

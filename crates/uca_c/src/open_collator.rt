@@ -1,7 +1,6 @@
 //! What an open collator of C's has.
 
 ghost use Rattle.std.specs.Prelude.{◌≡◌, None, Some};
-ghost use Rattle.uca_c.specs.OpenCollators.{keying_at};
 
 use std::alloc::Global;
 use std::marker::Model;

@@ -4,7 +4,7 @@ ghost use Rattle.std.specs.Prelude.{◌≡◌, Option, None, Some, MatchResult, 
 ghost use Rattle.uca_weights.specs.declared.Depth.{Depth};
 ghost use Rattle.uca_weights.specs.declared.Weighting.{Weighting};
 ghost use Rattle.uca_values.specs.Content.{TableContent, Properties};
-ghost use Rattle.uca_lines.specs.FileStops.{IsStop};
+ghost use Rattle.uca_values.specs.declared.faults.FaultKind.TheVariants as kinds;
 ghost use Rattle.uca_order.specs.Keyings.{keying};
 ghost use Rattle.uca_books.specs.Books.{BookContent};
 ghost use Rattle.uca_books.specs.BookTexts as books;
@@ -21,7 +21,7 @@ use crate::statuses::{ARGUMENT, BOOK, DATA, MEMORY, TABLE};
 use crate::structs::FileError;
 use std::alloc::Global;
 use uca_books::{Book, read_book};
-use uca_owned::{OpenFault, OwnedCollator, fingerprint_of};
+use uca_owned::{OpenFault, OwnedCollator, fingerprint_of, in_memory};
 use uca_values::TableFault;
 use uca_weights::Source;
 
@@ -87,10 +87,13 @@ fn open_texts(
 // The book that these bytes mean.
 fn book_of(alloc: Global, book: &[u8]) -> Result<Book, TableFault>
     ensures found { IfOk result (books.Means book.now) }
-    ensures only { (content : BookContent) → books.Means book.now content → MatchResult result (λ read. read ≡ content) (λ fault. IsStop fault.kind) }
+    ensures only { (content : BookContent) → books.Means book.now content → MatchResult result (λ read. read ≡ content) (λ fault. fault.kind ≡ kinds.Memory) }
     ensures rejected { IfErr result (RejectsBook book.now) }
 {
-    read_book(alloc, &mut Source::new(book))
+    match read_book(alloc, &mut Source::new(book)) {
+        Ok(book) => Ok(book),
+        Err(fault) => Err(in_memory(fault)),
+    }
 }
 
 // Puts a collator into memory of its own, or returns the status of the call.

@@ -1,6 +1,6 @@
 //! The ends of the ranges of keys that a lookup by a text scans.
 
-ghost use Rattle.std.specs.Prelude.{◌≡◌, ◌≢◌, ◌↔◌, ◌⊎◌, ◌∷◌, [], Some, None, Option, IfOk, IfErr, OnOk, option_map};
+ghost use Rattle.std.specs.Prelude.{◌≡◌, ◌≢◌, ◌↔◌, IfSome, IfOk, IfErr, OnOk, option_map};
 ghost use Rattle.uca_order.specs.Depths.{ReadText};
 ghost use Rattle.uca_compact.specs.Forms.{AreWeights};
 ghost use Rattle.uca_c.specs.CompactCalls.{IsOneTooSmall, WritesOne};
@@ -18,12 +18,13 @@ use crate::open_collator::OpenCollator;
 use crate::statuses::{ARGUMENT, MEMORY, OK, SMALL, status_of_text};
 use crate::work::copy_out;
 use std::alloc::{AllocError, Global};
-use uca_books::Book;
+use uca_compact::KeyCompacter;
 use uca_lookups::{
     read_letters, write_compact_letters_range, write_letters_range,
-    write_same_compact_letters_range, write_same_letters_range, write_same_levels_range,
+    write_same_compact_letters_range, write_same_compact_levels_range, write_same_letters_range,
+    write_same_levels_range,
 };
-use uca_weights::{Settings, Weighting};
+use uca_weights::Settings;
 
 // Writes both ends of a range of whole keys, by the key of a text and its letters.
 fn whole_range(
@@ -50,26 +51,39 @@ fn whole_range(
     }
 }
 
-// Writes both ends of a range of compact keys, by the letters of a text.
+// Writes both ends of a range of compact keys, by the key of a text and its letters.
 fn compact_range(
-    book: &Book,
-    weighting: Weighting,
+    compacter: &mut KeyCompacter,
+    settings: Settings,
     range: RangeOf,
+    key: &[u8],
     letters: &[u16],
     low: &mut Vec<u8>,
     high: &mut Vec<u8>,
 ) -> Result<(), AllocError>
+    requires settings { compacter.old.settings ≡ settings }
+    requires text { IsTextKey settings key.now }
+    requires letters { (t : ReadText) → IsKeyOf settings t key.now → letters.now ≡ letters_in settings.weighting t }
     requires weights { AreWeights letters.now }
-    requires range { range ≢ RangeOf.SameAccents }
-    ensures low { (t : ReadText) → letters.now ≡ letters_in weighting t → OnOk result (low.new.items ≡ compact_end book.now range End.Low weighting t) }
-    ensures high { (t : ReadText) → letters.now ≡ letters_in weighting t → OnOk result (high.new.items ≡ compact_end book.now range End.High weighting t) }
+    ensures same { compacter.new ≡ compacter.old }
+    ensures low { (t : ReadText) → IsKeyOf settings t key.now →
+        OnOk result (low.new.items ≡ compact_end compacter.old.book range End.Low settings.weighting t) }
+    ensures high { (t : ReadText) → IsKeyOf settings t key.now →
+        OnOk result (high.new.items ≡ compact_end compacter.old.book range End.High settings.weighting t) }
 {
+    let weighting = settings.weighting;
     match range {
         RangeOf::SameLetters => {
-            write_same_compact_letters_range(book, weighting, letters, low, high)
+            write_same_compact_letters_range(compacter.book(), weighting, letters, low, high)
         }
-        RangeOf::SameAccents => Ok(()),
-        RangeOf::Begins => write_compact_letters_range(book, weighting, letters, low, high),
+        RangeOf::SameAccents => {
+            let found = write_same_compact_levels_range(compacter, settings, key, 2, low, high)?;
+            prove!(found);
+            Ok(())
+        }
+        RangeOf::Begins => {
+            write_compact_letters_range(compacter.book(), weighting, letters, low, high)
+        }
     }
 }
 
@@ -87,49 +101,53 @@ fn letters_of(alloc: Global, settings: Settings, key: &[u8]) -> Result<Vec<u16>,
     }
 }
 
-// Both ends of a range, by the key of a text and its letters.
+// Writes both ends of a range, by the key of a text and its letters.
 fn write_range(
+    compacter: &mut Option<KeyCompacter>,
     settings: Settings,
-    book: Option<&Book>,
     range: RangeOf,
     key: &[u8],
     letters: &[u16],
     low: &mut Vec<u8>,
     high: &mut Vec<u8>,
 ) -> Result<(), AllocError>
+    requires settings { IfSome compacter.old (λ made_by. made_by.settings ≡ settings) }
     requires text { IsTextKey settings key.now }
     requires letters { (t : ReadText) → IsKeyOf settings t key.now → letters.now ≡ letters_in settings.weighting t }
     requires weights { AreWeights letters.now }
-    requires range { book ≢ None → range ≢ RangeOf.SameAccents }
+    ensures same { compacter.new ≡ compacter.old }
     ensures low { (t : ReadText) → IsKeyOf settings t key.now →
-        OnOk result (low.new.items ≡ end_by (option_map (λ b. b.now) book.entry) range End.Low settings.weighting t) }
+        OnOk result (low.new.items ≡ end_by (option_map (λ made_by. made_by.book) compacter.old) range End.Low settings.weighting t) }
     ensures high { (t : ReadText) → IsKeyOf settings t key.now →
-        OnOk result (high.new.items ≡ end_by (option_map (λ b. b.now) book.entry) range End.High settings.weighting t) }
+        OnOk result (high.new.items ≡ end_by (option_map (λ made_by. made_by.book) compacter.old) range End.High settings.weighting t) }
 {
-    match book {
+    match compacter {
         None => whole_range(settings, range, key, letters, low, high),
-        Some(book) => compact_range(book, settings.weighting, range, letters, low, high),
+        Some(compacter) => compact_range(compacter, settings, range, key, letters, low, high),
     }
 }
 
 // An end of a range, by the key of a text.
 fn end_bytes(
     alloc: Global,
+    compacter: &mut Option<KeyCompacter>,
     settings: Settings,
-    book: Option<&Book>,
     key: &[u8],
     range: RangeOf,
     end: End,
 ) -> Result<Vec<u8>, AllocError>
+    requires settings { IfSome compacter.old (λ made_by. made_by.settings ≡ settings) }
     requires text { IsTextKey settings key.now }
-    requires range { book ≢ None → range ≢ RangeOf.SameAccents }
-    ensures { (t : ReadText) → IsKeyOf settings t key.now →
-        IfOk result (λ bytes. bytes.items ≡ end_by (option_map (λ b. b.now) book.entry) range end settings.weighting t) }
+    ensures same { compacter.new ≡ compacter.old }
+    ensures end { (t : ReadText) → IsKeyOf settings t key.now →
+        IfOk result (λ bytes. bytes.items ≡ end_by (option_map (λ made_by. made_by.book) compacter.old) range end settings.weighting t) }
 {
     let letters = letters_of(alloc, settings, key)?;
     let mut low = Vec::new(alloc);
     let mut high = Vec::new(alloc);
-    write_range(settings, book, range, key, &letters, &mut low, &mut high)?;
+    write_range(
+        compacter, settings, range, key, &letters, &mut low, &mut high,
+    )?;
     match end {
         End::Low => Ok(low),
         End::High => Ok(high),
@@ -139,21 +157,18 @@ fn end_bytes(
 // An end of a range, by the key that was made last.
 fn last_end(
     alloc: Global,
-    collator: &OpenCollator,
+    collator: &mut OpenCollator,
     range: RangeOf,
     end: End,
 ) -> Result<Vec<u8>, AllocError>
-    requires text { IsTextKey (keying_at collator.now).settings (key_in collator.now.collator) }
-    requires range { collator.now.book ≢ None → range ≢ RangeOf.SameAccents }
-    ensures { (t : ReadText) → IsKeyOf (keying_at collator.now).settings t (key_in collator.now.collator) →
-        IfOk result (λ bytes. bytes.items ≡ end_by collator.now.book range end (keying_at collator.now).settings.weighting t) }
+    requires text { IsTextKey (keying_at collator.old).settings (key_in collator.old.collator) }
+    ensures end { (t : ReadText) → IsKeyOf (keying_at collator.old).settings t (key_in collator.old.collator) →
+        IfOk result (λ bytes. bytes.items ≡ end_by collator.old.book range end (keying_at collator.old).settings.weighting t) }
+    ensures same { collator.new ≡ collator.old }
 {
     let key = collator.collator.key();
     let settings = collator.collator.settings();
-    match &collator.compacter {
-        None => end_bytes(alloc, settings, None, key, range, end),
-        Some(compacter) => end_bytes(alloc, settings, Some(compacter.book()), key, range, end),
-    }
+    end_bytes(alloc, &mut collator.compacter, settings, key, range, end)
 }
 
 // Makes the key of a text.
@@ -180,7 +195,7 @@ pub fn write_end(
     out: &mut [u8],
     needed: &mut usize,
 ) -> u32
-    ensures argument { (result ≡ ARGUMENT) ↔ AsksNoEnd collator.old.book range end }
+    ensures argument { (result ≡ ARGUMENT) ↔ AsksNoEnd range end }
     ensures ok { result ≡ OK → WritesOne (IsEndOf (keying_at collator.old) collator.old.book range end text.now) out.old out.new needed.new }
     ensures small { result ≡ SMALL → IsOneTooSmall (IsEndOf (keying_at collator.old) collator.old.book range end text.now) out.old needed.new }
     ensures rejected { result ≢ ARGUMENT → IsKeyStatus (keying_at collator.old).collation.properties text.now result }
@@ -190,7 +205,7 @@ pub fn write_end(
     ensures book { collator.new.book ≡ collator.old.book }
 {
     *needed = 0;
-    let Some(range) = asked_range(collator.compacter.is_some(), range) else {
+    let Some(range) = asked_range(range) else {
         return ARGUMENT;
     };
     let Some(end) = asked_end(end) else {

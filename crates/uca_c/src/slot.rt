@@ -8,9 +8,8 @@ use crate::parts::Parts;
 use std::alloc::Global;
 use std::mem;
 
-/// In C `struct uca_collator`: a handle, and whether there is a collator in it.
+/// In C `struct uca_collator`: a handle, and whether there is a collator in it. It is never dropped, as its handle is not.
 #[repr(C)]
-#[derive(Drop)]
 pub struct Slot {
     pub(crate) handle: Handle,
     pub(crate) full: bool,
@@ -39,13 +38,19 @@ pub fn take(alloc: Global, slot: &mut Slot) -> Box<OpenCollator>
     held.into_parts().into_box()
 }
 
-// Puts a collator into a slot, which is open then.
+// Puts a collator into a closed slot, which is open then.
 pub fn put(slot: &mut Slot, collator: Box<OpenCollator>)
+    requires { slot.old.full ≡ false }
     ensures value { slot.new.handle.kept ≡ collator.value }
     ensures open { slot.new.full ≡ true }
 {
-    *slot = Slot {
+    let opened = Slot {
         handle: Handle::of_parts(Parts::of(collator)),
         full: true,
     };
+    let Slot {
+        handle: held,
+        full: _,
+    } = mem::replace(slot, opened);
+    held.let_go();
 }

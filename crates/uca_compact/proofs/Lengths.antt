@@ -1,5 +1,5 @@
 -- A compact key is at most about twice as long as its key.
-use Rattle.std.proofs.Common.{◌≡◌, ℕ, zero, suc, ◌+◌, ◌*◌, ◌-◌, ◌/◌, ◌%◌, ◌≤◌, List, [], ◌∷◌, ◌++◌, Bool, length, nat_lt, nat_eq, refl, ap, arith, length-append, encode_utf8, encode_utf8_all}
+use Rattle.std.proofs.Common.{◌≡◌, ℕ, zero, suc, ◌+◌, ◌*◌, ◌-◌, ◌/◌, ◌%◌, ◌≤◌, List, [], ◌∷◌, ◌++◌, length, nat_lt, nat_eq, refl, arith, length-append, encode_utf8, encode_utf8_all}
 use Rattle.std.specs.Ordering.{nat_cmp}
 use Rattle.std.specs.Str.{bytes_eq}
 use Rattle.std.specs.declared.cmp.Ordering.{Ordering}
@@ -12,7 +12,7 @@ use Rattle.uca_weights.specs.declared.Weighting.{Weighting}
 use Rattle.uca_order.specs.Levels.{level_bytes, levels_bytes}
 use Rattle.uca_order.specs.Depths.{points_bytes}
 use Rattle.uca_books.specs.Books.{BookContent}
-use Rattle.uca_compact.specs.Forms.{Form, step, full, first_cell, forms_of}
+use Rattle.uca_compact.specs.Forms.{Form, full, first_cell, forms_of}
 use Rattle.uca_compact.specs.PlainLevels.{plain_level}
 use Rattle.uca_compact.specs.CompactKeys.{offset_bytes, cell, run_before_greater, written, run_after, level_code, Plain, end_of, ended_level, later_levels, compact, KeyParts, stored_key, compact_key}
 

@@ -23,3 +23,5 @@ pub mod KeySteps
 pub mod ExpandedKeys
 pub mod KeyBytes
 pub mod Lengths
+pub mod LevelsRead
+pub mod LevelsWritten

@@ -15,7 +15,7 @@ use Rattle.uca_compact.proofs.OnlyCells.{AreBytes, bytes_after, nothing, same_so
 -- ---- Runs
 
 -- a weight, by how it compares to the common one
-weight_code : (f : Form) (end run w : ℕ) (ws : List ℕ) (o : Ordering) → nat_cmp w f.common ≡ o
+pub weight_code : (f : Form) (end run w : ℕ) (ws : List ℕ) (o : Ordering) → nat_cmp w f.common ≡ o
     → level_code f end run (w ∷ ws) ≡ written f run w o ++ level_code f end (run_after f run o) ws
 weight_code f end run w ws o is = ap (λ (p : Ordering). written f run w p ++ level_code f end (run_after f run p) ws) is
 

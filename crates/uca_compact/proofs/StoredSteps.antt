@@ -22,7 +22,7 @@ use Rattle.uca_compact.proofs.OnlyLevels.{weights_append}
 one_at : (bytes : List ℕ) (at : ℕ) → at < length bytes → drop at bytes ≡ get_or bytes at 0 ∷ drop (at + 1) bytes
 one_at bytes at h = let next : suc at ≡ at + 1 = omega arith in drop-cons bytes at 0 h ∙ ap (λ (n : ℕ). get_or bytes at 0 ∷ drop n bytes) next
 
-two_at : (bytes : List ℕ) (at : ℕ) → at + 1 < length bytes → drop at bytes ≡ get_or bytes at 0 ∷ get_or bytes (at + 1) 0 ∷ drop (at + 2) bytes
+pub two_at : (bytes : List ℕ) (at : ℕ) → at + 1 < length bytes → drop at bytes ≡ get_or bytes at 0 ∷ get_or bytes (at + 1) 0 ∷ drop (at + 2) bytes
 two_at bytes at h =
     let next : at + 1 + 1 ≡ at + 2 = omega arith in
     one_at bytes at (omega arith)
@@ -44,7 +44,7 @@ before_then front w None = refl
 before_then front w (Some l) = ap (λ (xs : List ℕ). Some (record { weights = xs; rest = l.rest })) (sym (append_assoc front (w ∷ []) l.weights))
 
 -- a level with one weight more
-level_step : (a b : ℕ) (bytes : List ℕ) (w : ℕ) → w ≡ 256 * a + b → w ≢ 0 → stored_level (a ∷ b ∷ bytes) ≡ weight_then w (stored_level bytes)
+pub level_step : (a b : ℕ) (bytes : List ℕ) (w : ℕ) → w ≡ 256 * a + b → w ≢ 0 → stored_level (a ∷ b ∷ bytes) ≡ weight_then w (stored_level bytes)
 level_step a b bytes w is some =
     let test : nat_eq w 0 ≡ false = grind (arith, nat_tests) in
     let ended : Option StoredLevel = Some (record { weights = []; rest = Some bytes }) in

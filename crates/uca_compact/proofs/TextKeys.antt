@@ -7,7 +7,7 @@ use Rattle.std.proofs.lemmas.Bool.Decides.{nat_tests}
 use Rattle.uca_weights.specs.declared.Depth.{Depth}
 use Rattle.uca_weights.specs.declared.Depth.TheVariants.{Weights, Identical}
 use Rattle.uca_weights.specs.declared.Weighting.{Weighting}
-use Rattle.uca_order.specs.Levels.{Weights as WeightList, weighted, level_count, level_bytes, levels_bytes, level_list, level_lists_from, level_lists, key_bytes, weight_at}
+use Rattle.uca_order.specs.Levels.{Weights as WeightList, weighted, level_count, level_bytes, levels_bytes, level_list, level_lists_from, key_bytes, weight_at}
 use Rattle.uca_order.specs.Depths.{ReadText, key_at, points_bytes}
 use Rattle.uca_compact.specs.Forms.{AreWeights, AreLevels}
 use Rattle.uca_books.specs.Books.{BookContent}

@@ -2,3 +2,5 @@ pub mod StoredEnds
 pub mod Places
 pub mod Reading
 pub mod LevelSteps
+pub mod LevelsRead
+pub mod LevelsWritten

@@ -9,21 +9,27 @@ ghost use Rattle.uca_order.specs.Depths.{ReadText, key_at};
 ghost use Rattle.uca_compact.specs.CompactKeys.{compact_key, text_parts};
 ghost use Rattle.uca_compact.specs.StoredParts.{stored_parts, IsCompactOf, IsOfNoKey};
 
+use crate::book_forms::letters_form;
 use crate::buffers::Levels;
+use crate::cell_hints::CellHints;
 use crate::expander::expand;
-use crate::stored::{next_level, push_points_after, read_weights};
-use crate::written_levels::{push_four, push_three};
+use crate::later_level::read_later;
+use crate::letters::push_letters;
+use crate::stored::{StoredEnd, push_points_after};
+use crate::written_levels::{Orders, push_four, push_three};
 use std::alloc::{AllocError, Allocator, Global};
 use std::marker::Model;
 use uca_books::Book;
 use uca_weights::{Depth, Settings, Weighting};
 
-/// Makes compact keys of stored keys, and stored keys of these again. It needs no text and no table.
+/// Makes compact keys of stored keys, and stored keys of these again. It needs no text and no table. With its first
+/// compact key it takes 4,096 bytes for the cells of weights that it found.
 #[derive(Drop)]
 pub struct KeyCompacter<A: Allocator = Global> {
     book: Book<A>,
     settings: Settings,
     levels: Levels<A>,
+    hints: CellHints<A>,
 }
 
 impl<A: Allocator> Model for KeyCompacter<A> {
@@ -43,6 +49,7 @@ impl<A: Allocator + Copy> KeyCompacter<A> {
             book,
             settings,
             levels: Levels::new(alloc),
+            hints: CellHints::new(alloc),
         }
     }
 }
@@ -80,12 +87,14 @@ impl<A: Allocator> KeyCompacter<A> {
             (text_parts self.old.settings.depth self.old.settings.weighting t))) }
     {
         compact.clear();
+        self.hints.open()?;
         match self.settings.weighting {
             Weighting::NonIgnorable => write_three(
                 key,
                 self.settings.depth,
                 &self.book,
                 &mut self.levels,
+                &mut self.hints,
                 compact,
             ),
             Weighting::Shifted => write_four(
@@ -93,6 +102,7 @@ impl<A: Allocator> KeyCompacter<A> {
                 self.settings.depth,
                 &self.book,
                 &mut self.levels,
+                &mut self.hints,
                 compact,
             ),
         }
@@ -127,27 +137,24 @@ fn write_three<A: Allocator, B: Allocator>(
     depth: Depth,
     book: &Book<A>,
     levels: &mut Levels<A>,
+    hints: &mut CellHints<A>,
     compact: &mut Vec<u8, B>,
 ) -> Result<bool, AllocError>
     requires { compact.old.items ≡ [] }
     ensures { IfOk result (λ found. option_map (compact_key depth NonIgnorable book.now) (stored_parts depth NonIgnorable key.now)
         ≡ (if found then Some compact.new.items else None)) }
 {
-    let Some(second) = next_level(key, &mut levels.letters)? else {
+    let form = letters_form(book, 2);
+    let Some(first) = push_letters(compact, &form, hints, key)? else {
         return Ok(false);
     };
-    let Some(third) = next_level(second, &mut levels.accents)? else {
+    let second = read_later(first.rest, 0x20, first.count, &mut levels.accents)?;
+    let StoredEnd::Next(rest) = second.end else {
         return Ok(false);
     };
-    let end = read_weights(third, &mut levels.cases)?;
-    push_three(
-        compact,
-        book,
-        &levels.letters,
-        &levels.accents,
-        &levels.cases,
-    )?;
-    let found = push_points_after(compact, depth, end)?;
+    let third = read_later(rest, 2, second.len, &mut levels.cases)?;
+    push_three(compact, second.order, third.order, levels)?;
+    let found = push_points_after(compact, depth, third.end)?;
     Ok(found)
 }
 
@@ -157,30 +164,33 @@ fn write_four<A: Allocator, B: Allocator>(
     depth: Depth,
     book: &Book<A>,
     levels: &mut Levels<A>,
+    hints: &mut CellHints<A>,
     compact: &mut Vec<u8, B>,
 ) -> Result<bool, AllocError>
     requires { compact.old.items ≡ [] }
     ensures { IfOk result (λ found. option_map (compact_key depth Shifted book.now) (stored_parts depth Shifted key.now)
         ≡ (if found then Some compact.new.items else None)) }
 {
-    let Some(second) = next_level(key, &mut levels.letters)? else {
+    let form = letters_form(book, 3);
+    let Some(first) = push_letters(compact, &form, hints, key)? else {
         return Ok(false);
     };
-    let Some(third) = next_level(second, &mut levels.accents)? else {
+    let second = read_later(first.rest, 0x20, first.count, &mut levels.accents)?;
+    let StoredEnd::Next(rest) = second.end else {
         return Ok(false);
     };
-    let Some(fourth) = next_level(third, &mut levels.cases)? else {
+    let third = read_later(rest, 2, second.len, &mut levels.cases)?;
+    let StoredEnd::Next(rest) = third.end else {
         return Ok(false);
     };
-    let end = read_weights(fourth, &mut levels.variables)?;
-    push_four(
-        compact,
-        book,
-        &levels.letters,
-        &levels.accents,
-        &levels.cases,
-        &levels.variables,
-    )?;
-    let found = push_points_after(compact, depth, end)?;
+    let plain = third.len + (first.len - first.count);
+    let fourth = read_later(rest, 0xFFFF, plain, &mut levels.variables)?;
+    let orders = Orders {
+        second: second.order,
+        third: third.order,
+        fourth: fourth.order,
+    };
+    push_four(compact, book, orders, levels)?;
+    let found = push_points_after(compact, depth, fourth.end)?;
     Ok(found)
 }

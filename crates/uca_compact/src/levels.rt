@@ -1,6 +1,7 @@
 //! Writes the levels of compact keys.
 
 ghost use Rattle.std.specs.Prelude.{◌≡◌, ℕ, ◌+◌, ◌<◌, ◌≤◌, ◌∷◌, ◌++◌, length, OnOk, IfOk};
+ghost use Rattle.std.specs.Bool.{OnTrue};
 ghost use Rattle.std.specs.Ordering.{nat_cmp};
 ghost use Rattle.uca_compact.specs.Forms.{AreRising, IsForm, AreWeights};
 ghost use Rattle.uca_compact.specs.CompactKeys.{offset_bytes, cell, written, run_after, level_code};
@@ -48,8 +49,18 @@ fn push_offset<A: Allocator>(
     Ok(())
 }
 
+// Whether a weight is in the cell with this index.
+#[inline]
+fn is_place(start: u32, later: &[u16], end: u32, weight: u32, index: usize) -> bool
+    ensures { OnTrue result (IsPlace start later.now end weight index) }
+{
+    index <= later.len()
+        && cell_start(start, later, index) <= weight
+        && weight < cell_end(later, end, index)
+}
+
 // The index of the cell of a weight, by a search in halves.
-fn cell_index(start: u32, later: &[u16], end: u32, weight: u32) -> usize
+fn search_cell(start: u32, later: &[u16], end: u32, weight: u32) -> usize
     requires from { start ≤ weight }
     requires below { weight < end }
     ensures { IsPlace start later.now end weight result }
@@ -65,6 +76,20 @@ fn cell_index(start: u32, later: &[u16], end: u32, weight: u32) -> usize
         }
     }
     low
+}
+
+/// The index of the cell of a weight. The cell with the index `hint` is tried first.
+#[inline]
+pub(crate) fn cell_index(start: u32, later: &[u16], end: u32, weight: u32, hint: usize) -> usize
+    requires from { start ≤ weight }
+    requires below { weight < end }
+    ensures { IsPlace start later.now end weight result }
+{
+    if is_place(start, later, end, weight, hint) {
+        hint
+    } else {
+        search_cell(start, later, end, weight)
+    }
 }
 
 /// Where a cell starts.
@@ -91,7 +116,30 @@ pub(crate) fn cell_end(later: &[u16], end: u32, index: usize) -> u32
     u32::from(later[index])
 }
 
-// Writes a weight in its cell.
+/// Writes a weight in its cell, which has this index.
+#[inline]
+pub(crate) fn push_in_cell<A: Allocator>(
+    out: &mut Vec<u8, A>,
+    number: u8,
+    start: u32,
+    later: &[u16],
+    end: u32,
+    weight: u32,
+    index: usize,
+) -> Result<(), AllocError>
+    requires rising { AreRising start later.now end }
+    requires bytes { number + length later.now < 256 }
+    requires two_bytes { weight < 65536 }
+    requires place { IsPlace start later.now end weight index }
+    ensures { OnOk result (out.new.items ≡ out.old.items ++ cell number start later.now end weight) }
+{
+    let first = cell_start(start, later, index);
+    let width = cell_end(later, end, index) - first;
+    push_offset(out, number + index as u8, width, weight - first)?;
+    Ok(())
+}
+
+// Writes a weight in its cell. Where each cell has one weight, it is the first that is tried.
 fn push_cell<A: Allocator>(
     out: &mut Vec<u8, A>,
     number: u8,
@@ -107,11 +155,8 @@ fn push_cell<A: Allocator>(
     requires below { weight < end }
     ensures { OnOk result (out.new.items ≡ out.old.items ++ cell number start later.now end weight) }
 {
-    let index = cell_index(start, later, end, weight);
-    let first = cell_start(start, later, index);
-    let width = cell_end(later, end, index) - first;
-    push_offset(out, number + index as u8, width, weight - first)?;
-    Ok(())
+    let index = cell_index(start, later, end, weight, (weight - start) as usize);
+    push_in_cell(out, number, start, later, end, weight, index)
 }
 
 // Writes a weight after a run, and returns the length of the run after it.

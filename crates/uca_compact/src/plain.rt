@@ -7,15 +7,17 @@ ghost use Rattle.uca_compact.specs.PlainLevels.{copies, is_lead};
 
 use std::cmp::Ordering;
 
-// Whether a weight is the first of the two of an implicit element, by whether it comes after such a one.
-fn leads(after_lead: bool, weight: u16) -> bool
+/// Whether a weight is the first of the two of an implicit element, by whether it comes after such a one.
+#[inline]
+pub(crate) fn leads(after_lead: bool, weight: u16) -> bool
     ensures { result ≡ (not after_lead && is_lead weight) }
 {
     !after_lead && 0xFB00 <= weight && weight < 0xFC00
 }
 
-// A count with one weight more, which does not count after a lead.
-fn with_letter(count: usize, after_lead: bool) -> usize
+/// A count with one weight more, which does not count after a lead.
+#[inline]
+pub(crate) fn with_letter(count: usize, after_lead: bool) -> usize
     requires { count < 2 ^ 64 - 1 }
     ensures { result ≡ count + (if after_lead then 0 else 1) }
 {

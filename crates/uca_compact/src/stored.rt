@@ -1,10 +1,10 @@
 //! Reads the levels and the code points of stored keys.
 
-ghost use Rattle.std.specs.Prelude.{◌≡◌, ℕ, ◌++◌, IfOk, IfSome, IfNone, OnOk, if◌then◌else◌, None, Some};
+ghost use Rattle.std.specs.Prelude.{◌≡◌, ◌++◌, IfOk, OnOk, if◌then◌else◌, None, Some};
 ghost use Rattle.std.specs.Char.{encode_utf8};
 ghost use Rattle.uca_compact.specs.Forms.{AreWeights};
 ghost use Rattle.uca_compact.specs.StoredParts.{stored_level, stored_points};
-ghost use Rattle.uca_compact.specs.inside.StoredEnds.{level_of, next_of, points_of, with_points};
+ghost use Rattle.uca_compact.specs.inside.StoredEnds.{level_of, points_of, with_points};
 
 use std::alloc::{AllocError, Allocator};
 use uca_weights::Depth;
@@ -42,21 +42,6 @@ pub(crate) fn read_weights<'a, A: Allocator>(
         Ok(StoredEnd::Key)
     } else {
         Ok(StoredEnd::Single)
-    }
-}
-
-/// Reads a level from the beginning of these bytes, and returns the bytes after its 00 00. `None` if it ends otherwise.
-pub(crate) fn next_level<'a, A: Allocator>(
-    bytes: &'a [u8],
-    weights: &mut Vec<u16, A>,
-) -> Result<Option<&'a [u8]>, AllocError>
-    ensures level { IfOk result (λ next. IfSome next (λ rest. stored_level bytes.now ≡ Some (record { weights = weights.new.items; rest = Some rest.now }))) }
-    ensures none { IfOk result (λ next. IfNone next (next_of (stored_level bytes.now) ≡ None)) }
-    ensures weights { IfOk result (λ next. AreWeights weights.new.items) }
-{
-    match read_weights(bytes, weights)? {
-        StoredEnd::Next(rest) => Ok(Some(rest)),
-        StoredEnd::Key | StoredEnd::Single => Ok(None),
     }
 }
 

@@ -1,17 +1,16 @@
-//! Writes all levels of a key: plain ones are left out.
+//! Writes the levels after the weights of level 1: plain ones are left out.
 
 ghost use Rattle.std.specs.Prelude.{◌≡◌, ℕ, ◌+◌, ◌-◌, ◌<◌, ◌≤◌, [], ◌∷◌, ◌++◌, OnOk, if◌then◌else◌};
 ghost use Rattle.std.specs.Ordering.{is_eq};
-ghost use Rattle.uca_weights.specs.declared.Weighting.TheVariants.{NonIgnorable, Shifted};
-ghost use Rattle.uca_compact.specs.Forms.{IsForm, AreWeights, forms_of};
-ghost use Rattle.uca_compact.specs.PlainLevels.{plain_level};
+ghost use Rattle.uca_compact.specs.Forms.{IsForm, AreWeights};
 ghost use Rattle.uca_compact.specs.CompactKeys as compact_keys;
-ghost use Rattle.uca_compact.specs.CompactKeys.{compact, level_code};
+ghost use Rattle.uca_compact.specs.CompactKeys.{level_code};
 ghost use Rattle.uca_compact.specs.Programs.{form_of};
+ghost use Rattle.uca_compact.specs.inside.LevelsWritten.{after_letters_three, after_letters_four};
 
-use crate::book_forms::{accents_form, cases_form, letters_form, variables_form};
+use crate::book_forms::{accents_form, cases_form, variables_form};
+use crate::buffers::Levels;
 use crate::levels::{LevelForm, push_level};
-use crate::plain::{compare_run, letter_count};
 use std::alloc::{AllocError, Allocator};
 use std::cmp::Ordering;
 use uca_books::Book;
@@ -49,58 +48,69 @@ fn push_later<A: Allocator>(
     }
 }
 
-// Writes three levels at the end of these bytes, under the weighting `NonIgnorable`.
+/// How the levels after the first compare to the plain ones.
+#[derive(Clone, Copy)]
+pub(crate) struct Orders {
+    pub(crate) second: Ordering,
+    pub(crate) third: Ordering,
+    pub(crate) fourth: Ordering,
+}
+
+/// Writes the end of level 1 and the levels after it, under the weighting `NonIgnorable`.
 pub(crate) fn push_three<A: Allocator, B: Allocator>(
     out: &mut Vec<u8, A>,
-    book: &Book<B>,
-    letters: &[u16],
-    accents: &[u16],
-    cases: &[u16],
+    second: Ordering,
+    third: Ordering,
+    levels: &Levels<B>,
 ) -> Result<(), AllocError>
-    requires letters { AreWeights letters.now }
-    requires accents { AreWeights accents.now }
-    requires cases { AreWeights cases.now }
-    ensures { OnOk result (out.new.items ≡ out.old.items ++ compact plain_level (forms_of NonIgnorable book.now) (letters.now ∷ accents.now ∷ cases.now ∷ [])) }
+    requires accents { AreWeights levels.now.accents.items }
+    requires cases { AreWeights levels.now.cases.items }
+    ensures { OnOk result (out.new.items ≡ out.old.items ++ after_letters_three second third levels.now.accents.items levels.now.cases.items) }
 {
-    let second = compare_run(accents, 0x20, letter_count(letters));
-    let third = compare_run(cases, 2, accents.len());
-    let end = end_by(second, 2, 1, end_by(third, 2, 0, 2));
-    push_level(out, &letters_form(book, 2), end, letters)?;
+    out.push(end_by(second, 2, 1, end_by(third, 2, 0, 2)))?;
+    let end = end_by(third, 1, 0, 1);
     push_later(
         out,
         &accents_form(1),
         second,
-        end_by(third, 1, 0, 1),
-        accents,
+        end,
+        levels.accents.as_slice(),
     )?;
-    push_later(out, &cases_form(0), third, 0, cases)?;
+    push_later(out, &cases_form(0), third, 0, levels.cases.as_slice())?;
     Ok(())
 }
 
-// Writes four levels at the end of these bytes, under the weighting `Shifted`.
+/// Writes the end of level 1 and the levels after it, under the weighting `Shifted`.
 pub(crate) fn push_four<A: Allocator, B: Allocator>(
     out: &mut Vec<u8, A>,
     book: &Book<B>,
-    letters: &[u16],
-    accents: &[u16],
-    cases: &[u16],
-    variables: &[u16],
+    orders: Orders,
+    levels: &Levels<B>,
 ) -> Result<(), AllocError>
-    requires letters { AreWeights letters.now }
-    requires accents { AreWeights accents.now }
-    requires cases { AreWeights cases.now }
-    requires variables { AreWeights variables.now }
-    ensures { OnOk result (out.new.items ≡ out.old.items ++ compact plain_level (forms_of Shifted book.now) (letters.now ∷ accents.now ∷ cases.now ∷ variables.now ∷ [])) }
+    requires accents { AreWeights levels.now.accents.items }
+    requires cases { AreWeights levels.now.cases.items }
+    requires variables { AreWeights levels.now.variables.items }
+    ensures { OnOk result (out.new.items ≡ out.old.items ++ after_letters_four book.now orders
+        levels.now.accents.items levels.now.cases.items levels.now.variables.items) }
 {
-    let count = letter_count(letters);
-    let second = compare_run(accents, 0x20, count);
-    let third = compare_run(cases, 2, accents.len());
-    let fourth = compare_run(variables, 0xFFFF, cases.len() + (letters.len() - count));
-    let first_end = end_by(second, 3, 2, end_by(third, 3, 1, end_by(fourth, 3, 0, 3)));
-    let second_end = end_by(third, 2, 1, end_by(fourth, 2, 0, 2));
-    push_level(out, &letters_form(book, 3), first_end, letters)?;
-    push_later(out, &accents_form(2), second, second_end, accents)?;
-    push_later(out, &cases_form(1), third, end_by(fourth, 1, 0, 1), cases)?;
-    push_later(out, &variables_form(book), fourth, 0, variables)?;
+    let Orders {
+        second,
+        third,
+        fourth,
+    } = orders;
+    let third_end = end_by(third, 3, 1, end_by(fourth, 3, 0, 3));
+    out.push(end_by(second, 3, 2, third_end))?;
+    let end = end_by(third, 2, 1, end_by(fourth, 2, 0, 2));
+    push_later(
+        out,
+        &accents_form(2),
+        second,
+        end,
+        levels.accents.as_slice(),
+    )?;
+    let end = end_by(fourth, 1, 0, 1);
+    push_later(out, &cases_form(1), third, end, levels.cases.as_slice())?;
+    let form = variables_form(book);
+    push_later(out, &form, fourth, 0, levels.variables.as_slice())?;
     Ok(())
 }

@@ -16,18 +16,17 @@ use Rattle.uca_compact.proofs.StoredBack.{stored_again}
 use Rattle.uca_lookups.specs.Ranges.{LevelsBegin, plain_levels, levels_after, plain_key, with_last, compact_levels_low, compact_levels_high, FindsCompactLevels}
 use Rattle.uca_lookups.specs.inside.LevelsLength.{levels_length}
 use Rattle.uca_lookups.specs.inside.NoPoints.{no_points}
-use Rattle.uca_lookups.proofs.CompactLetters.{compact_is}
 use Rattle.uca_lookups.proofs.CompactLevels.{last_of, ends_in_byte}
 use Rattle.uca_lookups.proofs.LevelsEnd.{front_weights, key_length}
 use Rattle.uca_lookups.proofs.PlainKeys.{plains_are}
 
 -- ---- The stored key with plain levels
 
-abbrev plain_parts : Weighting → List (List ℕ) → KeyParts
+abbrev pub plain_parts : Weighting → List (List ℕ) → KeyParts
 plain_parts weighting firsts = record { levels = firsts ++ plain_levels firsts (levels_after weighting firsts); points = [] }
 
 -- these are parts of a key
-parts_of : (depth : Depth) (weighting : Weighting) (firsts : List (List ℕ)) → AllByRecursion AreWeights firsts → length firsts ≤ level_count weighting
+pub parts_of : (depth : Depth) (weighting : Weighting) (firsts : List (List ℕ)) → AllByRecursion AreWeights firsts → length firsts ≤ level_count weighting
     → AreParts depth weighting (plain_parts weighting firsts)
 parts_of depth weighting firsts weights few =
     let are = plains_are firsts (levels_after weighting firsts) weights in

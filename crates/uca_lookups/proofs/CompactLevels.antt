@@ -191,7 +191,7 @@ are_first [] (a ∷ levels) few weights = absurd (omega arith)
 are_first (f ∷ forms) (a ∷ levels) few weights = (weights.0, are_first forms levels (omega arith) weights.1)
 
 -- lists that are as long and begin the same levels
-same_front : (xs ys rest more : List (List ℕ)) → length xs ≡ length ys → xs ++ rest ≡ ys ++ more → xs ≡ ys
+pub same_front : (xs ys rest more : List (List ℕ)) → length xs ≡ length ys → xs ++ rest ≡ ys ++ more → xs ≡ ys
 same_front [] [] rest more long h = refl
 same_front [] (y ∷ ys) rest more long h = absurd (omega (arith, long))
 same_front (x ∷ xs) [] rest more long h = absurd (omega (arith, long))

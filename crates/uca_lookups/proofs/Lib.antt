@@ -11,3 +11,4 @@ pub mod LevelsEnd
 pub mod PlainCounts
 pub mod PlainKeys
 pub mod CompactFinds
+pub mod LowEnds

@@ -37,6 +37,18 @@ CompactKeysByLetters = (depth : Depth) (weighting : Weighting) (b : BookContent)
     AreParts depth weighting k →
     InRange (compact_letters_low weighting b letters) (compact_letters_high weighting b letters) (compact_key depth weighting b k) ↔ LettersBegin letters k.levels
 
+-- Low ends tell the first levels: two are the same exactly if the levels are. Both have as many levels. So a low end can
+-- be kept as a key of these levels.
+abbrev pub StoredLowEndsTellLevels : Type 0
+StoredLowEndsTellLevels = (count : ℕ) (left right : List (List ℕ)) → AreLevels count left → AreLevels count right →
+    (levels_low left ≡ levels_low right) ↔ (left ≡ right)
+
+-- So it is with compact keys: at least one level, and at most all.
+abbrev pub CompactLowEndsTellLevels : Type 0
+CompactLowEndsTellLevels = (weighting : Weighting) (b : BookContent) (count : ℕ) (left right : List (List ℕ)) → IsBook b → 0 < count → count ≤ level_count weighting →
+    AreLevels count left → AreLevels count right →
+    (compact_levels_low weighting b left ≡ compact_levels_low weighting b right) ↔ (left ≡ right)
+
 -- The key of a text has such parts.
 pub record TextsHaveParts : Type 0 where
   pub parts : (depth : Depth) (weighting : Weighting) (t : ReadText) → AllByRecursion HasTwoBytes t.elements → all_scalars t.points ≡ true →

@@ -1,6 +1,6 @@
 //! What is true of all ranges. The functions do nothing: their contracts are the laws.
 
-ghost use Rattle.uca_lookups.specs.Laws.{StoredKeysByLevels, StoredKeysByLetters, CompactKeysByLevels, CompactKeysByLetters, TextsHaveParts};
+ghost use Rattle.uca_lookups.specs.Laws.{StoredKeysByLevels, StoredKeysByLetters, CompactKeysByLevels, CompactKeysByLetters, StoredLowEndsTellLevels, CompactLowEndsTellLevels, TextsHaveParts};
 ghost use Rattle.uca_lookups.specs.WorkedRanges.{WorkedRanges};
 
 /// A range has exactly the stored keys with some first levels.
@@ -21,6 +21,16 @@ pub fn compact_keys_by_levels()
 /// A range has exactly the compact keys whose level 1 begins with some weights.
 pub fn compact_keys_by_letters()
     ensures { CompactKeysByLetters }
+{}
+
+/// Two low ends of ranges of stored keys are the same exactly if the first levels are.
+pub fn stored_low_ends_tell_levels()
+    ensures { StoredLowEndsTellLevels }
+{}
+
+/// Two low ends of ranges of compact keys are the same exactly if the first levels are.
+pub fn compact_low_ends_tell_levels()
+    ensures { CompactLowEndsTellLevels }
 {}
 
 /// The laws are true of the keys of texts.

@@ -2,7 +2,7 @@
 //!
 //! For example, the stored keys of `cafe`, `Cafe` and `café` are one range: level 1 is the same. One range finds all
 //! keys whose first levels are given, or all whose level 1 begins with given weights. So it is for compact keys too.
-//! The laws say that a range has exactly these keys.
+//! The laws say that a range has exactly these keys, and that its low end tells the first levels.
 #![tactic(auto)]
 
 mod compact;

@@ -1,2 +1,3 @@
+pub mod InMemory
 mod OrderLemmas
 mod Rejected

@@ -1,10 +1,10 @@
 -- Opening a collator by the bytes of two files: what it keys texts by, and why there is none.
-use Rattle.std.specs.Prelude.{◌≡◌, ℕ, List, Option, ⊤}
+use Rattle.std.specs.Prelude.{◌≡◌, ◌≢◌, ℕ, List, Option, ⊤}
 use Rattle.uca_weights.specs.declared.Depth.{Depth}
 use Rattle.uca_weights.specs.declared.Weighting.{Weighting}
 use Rattle.uca_values.specs.Content.{TableContent, Properties}
+use Rattle.uca_values.specs.declared.faults.FaultKind.TheVariants as kinds
 use Rattle.uca_values.specs.declared.faults.TableFault.{TableFault}
-use Rattle.uca_lines.specs.FileStops.{IsStop}
 use Rattle.uca_table.specs.TableLines as tables
 use Rattle.uca_table.specs.DataSoFar as data_files
 use Rattle.uca_fingerprint.specs.Fingerprints.{fingerprint}
@@ -34,23 +34,27 @@ pub record HasFingerprint (asked : Option Weighting) (depth : Depth) (table_byte
   pub opens : Opens asked depth table_bytes data_bytes keys
   pub same : sum ≡ fingerprint_by keys table_bytes data_bytes
 
--- why the bytes of a table file are rejected, whatever is left of them
-abbrev pub RejectsTable : List ℕ → TableFault → Type 0
-RejectsTable bytes fault = (left : Option (List ℕ)) × tables.Refuses bytes left fault
+-- Why the bytes of a table file are rejected, whatever is left of them. Reading bytes in memory does not fail.
+pub record RejectsTable (bytes : List ℕ) (fault : TableFault) : Type 0 where
+  pub left : Option (List ℕ)
+  pub cause : tables.Refuses bytes left fault
+  pub not_read : fault.kind ≢ kinds.Read
 
--- why the bytes of a data file are rejected, whatever is left of them
-abbrev pub RejectsData : List ℕ → TableFault → Type 0
-RejectsData bytes fault = (left : Option (List ℕ)) × data_files.Refuses bytes left fault
+-- why the bytes of a data file are rejected
+pub record RejectsData (bytes : List ℕ) (fault : TableFault) : Type 0 where
+  pub left : Option (List ℕ)
+  pub cause : data_files.Refuses bytes left fault
+  pub not_read : fault.kind ≢ kinds.Read
 
--- the bytes of a table are rejected; or they mean a table, and those of a data file are rejected; or an allocation failed
+-- The bytes of a table are rejected. Or they mean a table, and those of a data file are rejected. Or they mean a data file too, and an
+-- allocation failed later.
 abbrev pub IsOpenCause : List ℕ → List ℕ → OpenFault → Type 0
 IsOpenCause table_bytes data_bytes (Table fault) = RejectsTable table_bytes fault
-IsOpenCause table_bytes data_bytes (Data fault) =
-    ((table : TableContent) × tables.Means table_bytes table) × RejectsData data_bytes fault
-IsOpenCause table_bytes data_bytes Memory = ⊤
+IsOpenCause table_bytes data_bytes (Data fault) = ((table : TableContent) × tables.Means table_bytes table) × RejectsData data_bytes fault
+IsOpenCause table_bytes data_bytes Memory = (table : TableContent) × (properties : Properties) × MeanFiles table_bytes data_bytes table properties
 
--- the error is in no file: an allocation failed, or a read
+-- the error is in no file: an allocation failed
 abbrev pub IsOpenStop : OpenFault → Type 0
-IsOpenStop (Table fault) = IsStop fault.kind
-IsOpenStop (Data fault) = IsStop fault.kind
+IsOpenStop (Table fault) = fault.kind ≡ kinds.Memory
+IsOpenStop (Data fault) = fault.kind ≡ kinds.Memory
 IsOpenStop Memory = ⊤

@@ -6,11 +6,11 @@ ghost use Rattle.uca_order.specs.Keyings.{keying};
 ghost use Rattle.uca_owned.specs.Opening.{HasFingerprint, IsOpenCause, IsOpenStop, MeanFiles, fingerprint_by};
 
 use crate::faults::OpenFault;
+use crate::files::{data_of, table_of};
 use crate::opening::chosen_settings;
 use std::alloc::Global;
 use uca_fingerprint::fingerprint;
-use uca_table::{read_data, read_packed_table};
-use uca_weights::{Depth, Source, Weighting};
+use uca_weights::{Depth, Weighting};
 
 /// The fingerprint of what [`OwnedCollator::open`](crate::OwnedCollator::open) would key texts by, from the same arguments. It names
 /// the bytes of both files, the weighting that is asked for or else that of the table, and the depth. It makes no collator.
@@ -30,13 +30,13 @@ pub fn fingerprint_of(
         MatchResult result (λ sum. sum ≡ fingerprint_by (keying asked depth meant properties) table.now data_file.now) IsOpenStop }
     ensures fault { IfErr result (IsOpenCause table.now data_file.now) }
 {
-    let read = match read_packed_table(alloc, &mut Source::new(table)) {
+    let read = match table_of(alloc, table) {
         Ok(read) => read,
         Err(fault) => return Err(OpenFault::Table(fault)),
     };
     let settings = chosen_settings(asked, &read.header, depth);
     drop(read);
-    let properties = match read_data(alloc, &mut Source::new(data_file)) {
+    let properties = match data_of(alloc, data_file) {
         Ok(properties) => properties,
         Err(fault) => return Err(OpenFault::Data(fault)),
     };

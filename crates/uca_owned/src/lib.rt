@@ -8,6 +8,7 @@
 mod calls;
 mod comparing;
 mod faults;
+mod files;
 mod fingerprints;
 pub mod laws;
 mod opening;
@@ -15,5 +16,6 @@ mod order;
 mod owned;
 
 pub use faults::{CompareFault, KeyFault, OpenFault};
+pub use files::in_memory;
 pub use fingerprints::fingerprint_of;
 pub use owned::OwnedCollator;

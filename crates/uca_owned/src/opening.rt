@@ -1,22 +1,22 @@
 //! How a collator is made: of a table and a data file that were read, or of the bytes of both.
 
-ghost use Rattle.std.specs.Prelude.{◌≡◌, IfOk, IfErr, MatchResult};
+ghost use Rattle.std.specs.Prelude.{◌≡◌, [], IfOk, IfErr, MatchResult};
 ghost use Rattle.uca_values.specs.Content.{TableContent, Properties, properties_of};
 ghost use Rattle.uca_match.specs.NumberedKeys.{rows_at};
 ghost use Rattle.uca_order.specs.Keyings.{keying, keying_over, settings_by};
-ghost use Rattle.uca_owned.specs.Owned.{keying_in};
+ghost use Rattle.uca_owned.specs.Owned.{keying_in, key_in};
 ghost use Rattle.uca_owned.specs.Opening.{MeanFiles, Opens, IsOpenCause, IsOpenStop};
 
 use crate::OwnedCollator;
 use crate::faults::OpenFault;
+use crate::files::{data_of, table_of};
 use std::alloc::{AllocError, Global};
 use uca_key_writer::KeyMemory;
 use uca_match::{OwnedCollation, Trie};
-use uca_table::{read_data, read_packed_table};
 use uca_text::Normal;
 use uca_text_comparer::PlainComparison;
 use uca_values::{Data, Header, PackedTable, Table};
-use uca_weights::{Depth, Settings, Source, Weighting};
+use uca_weights::{Depth, Settings, Weighting};
 
 // The depth, and the weighting that is asked for, or else that of the table's `@variable`, or else shifted (UTS #10,
 // section 4).
@@ -38,7 +38,8 @@ fn collator_of(
     asked: Option<Weighting>,
     depth: Depth,
 ) -> OwnedCollator
-    ensures { keying_in result ≡ keying_over (rows_at rows) header asked depth (properties_of properties) }
+    ensures keying { keying_in result ≡ keying_over (rows_at rows) header asked depth (properties_of properties) }
+    ensures key { key_in result ≡ [] }
 {
     let settings = chosen_settings(asked, &header, depth);
     OwnedCollator {
@@ -63,7 +64,8 @@ fn packed_collator(
     asked: Option<Weighting>,
     depth: Depth,
 ) -> Result<OwnedCollator, AllocError>
-    ensures { IfOk result (λ c. keying_in c ≡ keying asked depth table (properties_of properties)) }
+    ensures keying { IfOk result (λ c. keying_in c ≡ keying asked depth table (properties_of properties)) }
+    ensures key { IfOk result (λ c. key_in c ≡ []) }
 {
     let (header, rows) = Trie::of_table(alloc, table)?;
     Ok(collator_of(alloc, header, rows, properties, asked, depth))
@@ -71,7 +73,7 @@ fn packed_collator(
 
 impl OwnedCollator {
     /// A collator of a table and a data file that were read. The weighting is the one that is asked for, or else that
-    /// of the table's `@variable`, or else shifted (UTS #10, section 4).
+    /// of the table's `@variable`, or else shifted (UTS #10, section 4). No key was made yet.
     ///
     /// # Errors
     ///
@@ -83,7 +85,8 @@ impl OwnedCollator {
         asked: Option<Weighting>,
         depth: Depth,
     ) -> Result<OwnedCollator, AllocError>
-        ensures { IfOk result (λ c. keying_in c ≡ keying asked depth table (properties_of properties)) }
+        ensures keying { IfOk result (λ c. keying_in c ≡ keying asked depth table (properties_of properties)) }
+        ensures key { IfOk result (λ c. key_in c ≡ []) }
     {
         let rows = Trie::new(alloc, &table)?;
         let Table { header, .. } = table;
@@ -95,7 +98,7 @@ impl OwnedCollator {
     ///
     /// # Errors
     ///
-    /// `Table` if the table is rejected, else `Data` if the data file is, as [`read_table`](uca_table::read_table) and [`read_data`] say. Both
+    /// `Table` if the table is rejected, else `Data` if the data file is, as [`read_table`](uca_table::read_table) and [`read_data`](uca_table::read_data) say. Both
     /// also if an allocation failed while that file was read. `Memory` if one failed later.
     pub fn open(
         alloc: Global,
@@ -107,13 +110,14 @@ impl OwnedCollator {
         ensures found { IfOk result (λ c. Opens asked depth table.now data_file.now (keying_in c)) }
         ensures only { (meant : TableContent) (properties : Properties) → MeanFiles table.now data_file.now meant properties →
             MatchResult result (λ c. keying_in c ≡ keying asked depth meant properties) IsOpenStop }
+        ensures key { IfOk result (λ c. key_in c ≡ []) }
         ensures fault { IfErr result (IsOpenCause table.now data_file.now) }
     {
-        let read = match read_packed_table(alloc, &mut Source::new(table)) {
+        let read = match table_of(alloc, table) {
             Ok(read) => read,
             Err(fault) => return Err(OpenFault::Table(fault)),
         };
-        let properties = match read_data(alloc, &mut Source::new(data_file)) {
+        let properties = match data_of(alloc, data_file) {
             Ok(properties) => properties,
             Err(fault) => return Err(OpenFault::Data(fault)),
         };

@@ -1,10 +1,10 @@
 -- The lines whose keys were changed so far, and the next one.
-use Rattle.std.proofs.Common.{◌≡◌, ℕ, suc, ◌+◌, ◌<◌, ◌≤◌, ◌/◌, ◌%◌, Bool, true, false, List, [], ◌∷◌, ◌++◌, length, drop, get_or, Option, Some, None, IfSome, Result, Ok, Err, inl, inr, refl, ap, sym, subst, subst₂, ◌∙◌, append_assoc, append-nil, arith, length-append, drop-cons}
+use Rattle.std.proofs.Common.{◌≡◌, ℕ, suc, ◌+◌, ◌*◌, ◌<◌, ◌≤◌, ◌/◌, ◌%◌, Bool, true, false, List, [], ◌∷◌, ◌++◌, length, length-set, take, get_or, set, Option, Some, None, IfSome, Result, Ok, Err, inl, inr, refl, ap, sym, subst, subst₂, ◌∙◌, append_assoc, append-nil, arith, length-append}
 use Rattle.std.specs.Prelude.{IfErr, IfOk, IsSomeAnd, MatchBool, OnOk, is_ok, if◌then◌else◌}
 use Rattle.std.specs.Io.KnownBytes.{Appends}
 use Rattle.std.specs.List.{AllByRecursion, flat_map}
 use Rattle.std.proofs.lemmas.Grind.{flat_map-append}
-use Rattle.std.proofs.lemmas.List.{drop_all}
+use Rattle.std.proofs.lemmas.List.{take_all, take_more, take_more_set}
 use Rattle.uca_weights.specs.Streams.{SourceState, SinkState}
 use Rattle.uca_lines.specs.Buffered.{HasWrittenThrough}
 use Rattle.uca_lines.specs.Lines.{ended, lines_of}
@@ -20,7 +20,7 @@ use Rattle.uca_run_parts.specs.Runs.{PartWentOut, ended_by_output}
 use Rattle.uca_run_parts.proofs.Finishing.{count_is, piece_fails}
 use Rattle.uca_rekey.specs.RekeyedLines.{key_in}
 use Rattle.uca_rekey.specs.RekeyRun.{IsLineFault}
-use Rattle.uca_rekey.specs.ChangedLines.{BecomesNone, Headers, LineBecomes, LinesBecome, LinesBecomeAfter, with_new_key}
+use Rattle.uca_rekey.specs.ChangedLines.{BecomesNone, Headers, from_tab, LineBecomes, LinesBecome, LinesBecomeAfter, with_new_key}
 use Rattle.uca_rekey.specs.HeadedRun.{HasHeaderCause}
 use Rattle.uca_rekey.specs.ChangeRun.{HasOtherKey, IsChangeCause, RunsChange, WritesAfterHeader, WritesChanged}
 use Rattle.uca_rekey.specs.inside.ChangeSoFar.{ChangesLine, ChangesRest, HasChanged, HasNextChange, IsBegun, IsOfKey, header_pair}
@@ -30,42 +30,49 @@ use Rattle.uca_rekey.proofs.LinesRead.{AreCauses, begins_with, line_fault, nothi
 
 -- ---- The digits of a key
 
-module _ (key put one two : List ℕ) (i high low : ℕ) (all : List ℕ) (so_far : all ≡ put ++ flat_map byte_digits (drop i key)) where
-  -- the two digits of one more byte
-  pub digits_put : i < length key → high ≡ upper_digit (get_or key i 0 / 16) → low ≡ upper_digit (get_or key i 0 % 16) → one ≡ put ++ high ∷ [] → two ≡ one ++ low ∷ []
-      → all ≡ two ++ flat_map byte_digits (drop (i + 1) key)
-  digits_put within of_high of_low first second =
-      let rest = flat_map byte_digits (drop (suc i) key) in
-      let d = upper_digit (get_or key i 0 / 16) in
-      let e = upper_digit (get_or key i 0 % 16) in
-      let pushed : two ≡ (put ++ d ∷ []) ++ e ∷ [] =
-      second ∙ ap (λ l. l ++ low ∷ []) first ∙ ap (λ x. (put ++ x ∷ []) ++ low ∷ []) of_high ∙ ap (λ x. (put ++ d ∷ []) ++ x ∷ []) of_low in
-      let whole : all ≡ two ++ rest =
-      so_far ∙ ap (λ l. put ++ flat_map byte_digits l) (drop-cons key i 0 within)
-      ∙ sym (append_assoc put (d ∷ []) (e ∷ rest)) ∙ sym (append_assoc (put ++ d ∷ []) (e ∷ []) rest) ∙ ap (λ l. l ++ rest) (sym pushed) in
-      let next : suc i ≡ i + 1 = omega arith in
-      subst (λ n. all ≡ two ++ flat_map byte_digits (drop n key)) next whole
+-- the two digits of one more byte were written
+pub digits_put : (digits key : List ℕ) (i high low : ℕ) → i < length key → length digits ≡ 2 * length key
+    → take (2 * i) digits ≡ flat_map byte_digits (take i key) → high ≡ upper_digit (get_or key i 0 / 16) → low ≡ upper_digit (get_or key i 0 % 16)
+    → take (2 * (i + 1)) (set (set digits (2 * i) high) (2 * i + 1) low) ≡ flat_map byte_digits (take (i + 1) key)
+digits_put digits key i high low within long so_far of_high of_low =
+    let text = flat_map byte_digits (take i key) in
+    let b = get_or key i 0 in
+    let next : 2 * (i + 1) ≡ 2 * i + 1 + 1 = omega arith in
+    let same : length (set digits (2 * i) high) ≡ length digits = length-set digits (2 * i) high in
+    ap (λ (n : ℕ). take n (set (set digits (2 * i) high) (2 * i + 1) low)) next
+    ∙ take_more_set (set digits (2 * i) high) (2 * i + 1) low (omega (arith, same, long, within))
+    ∙ ap (λ (l : List ℕ). l ++ low ∷ []) (take_more_set digits (2 * i) high (omega (arith, long, within)))
+    ∙ append_assoc (take (2 * i) digits) (high ∷ []) (low ∷ [])
+    ∙ ap (λ (l : List ℕ). l ++ high ∷ low ∷ []) so_far
+    ∙ ap (λ (x : ℕ). text ++ x ∷ low ∷ []) of_high ∙ ap (λ (x : ℕ). text ++ upper_digit (b / 16) ∷ x ∷ []) of_low
+    ∙ sym (ap (flat_map byte_digits) (take_more key i 0 within) ∙ flat_map-append byte_digits (take i key) (b ∷ []))
 
--- no digit was written yet
-pub no_digit_put : (all put : List ℕ) → put ≡ [] → all ≡ put ++ all
-no_digit_put all put none = ap (λ l. l ++ all) (sym none)
+-- all digits were written
+pub all_digits_put : (digits key : List ℕ) (i : ℕ) → length key ≤ i → length digits ≡ 2 * length key
+    → take (2 * i) digits ≡ flat_map byte_digits (take i key) → digits ≡ flat_map byte_digits key
+all_digits_put digits key i end long so_far =
+    sym (take_all (2 * i) digits (omega (arith, long, end))) ∙ so_far ∙ ap (flat_map byte_digits) (take_all i key end)
 
--- all digits were written, and other bytes after them
-pub all_digits_put : {A B : Type 0} (key put : List ℕ) (i : ℕ) → length key ≤ i → flat_map byte_digits key ≡ put ++ flat_map byte_digits (drop i key)
-    → (rest : List ℕ) (result : Result A B) (whole : List ℕ) → whole ≡ (if is_ok result then put ++ rest else put)
-    → OnOk result (whole ≡ flat_map byte_digits key ++ rest)
-all_digits_put key put i end so_far rest (Ok x) whole is =
-    is ∙ ap (λ l. l ++ rest) (sym (so_far ∙ ap (λ l. put ++ flat_map byte_digits l) (drop_all i key end) ∙ append-nil put))
-all_digits_put key put i end so_far rest (Err e) whole is = tt
+-- other bytes were written after them
+pub rest_put : {A B : Type 0} (key put rest : List ℕ) (result : Result A B) (whole : List ℕ) → put ≡ flat_map byte_digits key
+    → whole ≡ (if is_ok result then put ++ rest else put) → OnOk result (whole ≡ flat_map byte_digits key ++ rest)
+rest_put key put rest (Ok x) whole digits is = is ∙ ap (λ (l : List ℕ). l ++ rest) digits
+rest_put key put rest (Err e) whole digits is = tt
 
 -- ---- A line
 
 module _ (KeyBecomes : List ℕ → List ℕ → Type 0) where
   -- the new line was made
-  pub line_put : {A : Type 0} (line key new_key given put : List ℕ) (result : Result A StoredKeyKind) → key_in line ≡ Some key → KeyBecomes key new_key → given ≡ new_key
-      → OnOk result (put ≡ with_new_key line given) → OnOk result (LineBecomes KeyBecomes line put)
-  line_put line key new_key given put (Ok x) has becomes same is = record { key = key; new_key = new_key; has = has; becomes = becomes; put = is ∙ ap (with_new_key line) same }
-  line_put line key new_key given put (Err kind) has becomes same is = tt
+  pub line_put : {A : Type 0} (line rest key new_key given put : List ℕ) (result : Result A StoredKeyKind) → key_in line ≡ Some key → KeyBecomes key new_key → given ≡ new_key
+      → from_tab line ≡ from_tab rest → OnOk result (put ≡ with_new_key rest given) → OnOk result (LineBecomes KeyBecomes line put)
+  line_put line rest key new_key given put (Ok x) has becomes same tail is = record {
+    key = key;
+    new_key = new_key;
+    has = has;
+    becomes = becomes;
+    put = is ∙ ap (with_new_key rest) same ∙ ap (λ (l : List ℕ). flat_map byte_digits new_key ++ l) (sym tail);
+  }
+  line_put line rest key new_key given put (Err kind) has becomes same tail is = tt
 
   -- one more line
   lines_more : (before news : List (List ℕ)) (line new : List ℕ) → LinesBecome KeyBecomes before news → LineBecomes KeyBecomes line new

@@ -1,12 +1,15 @@
 -- The key of a line, read and written digit by digit.
-use Rattle.std.proofs.Common.{◌≡◌, ℕ, ◌<◌, ◌≤◌, List, [], ◌∷◌, ◌++◌, length, take, drop, get_or, map, Option, Some, None, refl, ap, sym, ◌∙◌, append_assoc, append-nil, arith, take-append-drop}
-use Rattle.std.specs.List.{flat_map, range_with_len}
+use Rattle.std.proofs.Common.{◌≡◌, ℕ, ◌<◌, ◌≤◌, List, [], ◌∷◌, ◌++◌, length, take, drop, get_or, map, Bool, true, false, cond, nat_eq, ◌&&◌, Option, Some, None, refl, ap, sym, ◌∙◌, append_assoc, append-nil, arith, take-append-drop}
+use Rattle.std.specs.List.{flat_map, list_all, range_with_len}
 use Rattle.std.specs.Option.{option_and_then, option_map}
 use Rattle.std.proofs.lemmas.List.{drop_all}
 use Rattle.std.proofs.lemmas.List.FromFn.{get_or-map-range_with_len}
-use Rattle.uca_lines.specs.Numbers.{hex_of, upper_digit}
+use Rattle.std.specs.Str.Parse.{digits_value}
+use Rattle.std.proofs.lemmas.Bool.Decides.{nat_tests}
+use Rattle.uca_lines.specs.Numbers.{hex_of, is_hex_digit, upper_digit}
 use Rattle.uca_run_parts.specs.Print.{byte_digits}
 use Rattle.uca_rekey.specs.declared.line.TheConstants.{DIGITS}
+use Rattle.uca_rekey.specs.ChangedLines.{from_tab}
 use Rattle.uca_rekey.specs.RekeyedLines.{digits_of, byte_before, bytes_of, key_in, rekeyed_by, with_digits, with_key}
 
 -- ---- Digits
@@ -25,33 +28,86 @@ pub none_read : (all : Option (List ℕ)) (key : List ℕ) → key ≡ [] → al
 none_read None key none = refl
 none_read (Some bytes) key none = ap (λ front. Some (front ++ bytes)) (sym none)
 
-module _ (all : Option (List ℕ)) (key text : List ℕ) (so_far : all ≡ option_map (λ more. key ++ more) (key_in text)) where
-  -- there is no digit any more
-  pub key_read : digits_of text ≡ [] → all ≡ Some key
-  key_read none = so_far ∙ ap (λ ds. option_map (λ more. key ++ more) (bytes_of ds)) none ∙ ap (λ k. Some k) (append-nil key)
-
-  -- there is one digit alone
-  pub one_digit_left : (high : ℕ) (rest : List ℕ) → digits_of text ≡ high ∷ digits_of rest → digits_of rest ≡ [] → all ≡ None
-  one_digit_left high rest one none = so_far ∙ ap (λ ds. option_map (λ more. key ++ more) (bytes_of ds)) (one ∙ ap (λ ds. high ∷ ds) none)
-
-  -- two digits are no byte
-  pub no_byte_read : (high low : ℕ) (rest after : List ℕ) → digits_of text ≡ high ∷ digits_of rest → digits_of rest ≡ low ∷ digits_of after
-      → None ≡ hex_of (high ∷ low ∷ []) → all ≡ None
-  no_byte_read high low rest after one two none =
-      so_far ∙ ap (λ ds. option_map (λ more. key ++ more) (bytes_of ds)) (one ∙ ap (λ ds. high ∷ ds) two)
-      ∙ ap (λ b. option_map (λ more. key ++ more) (byte_before b (key_in after))) (sym none)
-
--- One more byte was read. All that comes of the line is what comes of the rest, after these bytes of the key.
-pub byte_read : (all : Option (List ℕ)) (key text : List ℕ) → all ≡ option_map (λ more. key ++ more) (key_in text) → (high low : ℕ) (rest after : List ℕ)
-    → digits_of text ≡ high ∷ digits_of rest → digits_of rest ≡ low ∷ digits_of after → (byte : ℕ) (new : List ℕ) → Some byte ≡ hex_of (high ∷ low ∷ [])
-    → new ≡ key ++ byte ∷ [] → all ≡ option_map (λ more. new ++ more) (key_in after)
-byte_read all key text so_far high low rest after one two byte new is pushed =
-    so_far ∙ ap (λ ds. option_map (λ more. key ++ more) (bytes_of ds)) (one ∙ ap (λ ds. high ∷ ds) two)
-    ∙ ap (λ b. option_map (λ more. key ++ more) (byte_before b (key_in after))) (sym is) ∙ go (key_in after)
+-- The next byte of the key was read. All that comes of the line is what comes of the rest, after these bytes of the key.
+pub byte_read : (all : Option (List ℕ)) (key text : List ℕ) → all ≡ option_map (λ more. key ++ more) (key_in text) → (byte : ℕ) (after new : List ℕ)
+    → key_in text ≡ byte_before (Some byte) (key_in after) → new ≡ key ++ byte ∷ [] → all ≡ option_map (λ more. new ++ more) (key_in after)
+byte_read all key text so_far byte after new is pushed = so_far ∙ ap (option_map (λ more. key ++ more)) is ∙ go (key_in after)
   where
     go : (o : Option (List ℕ)) → option_map (λ more. key ++ more) (byte_before (Some byte) o) ≡ option_map (λ more. new ++ more) o
     go None = refl
     go (Some more) = ap (λ bytes. Some bytes) (sym (append_assoc key (byte ∷ []) more) ∙ ap (λ front. front ++ more) (sym pushed))
+
+module _ (all : Option (List ℕ)) (key text : List ℕ) (so_far : all ≡ option_map (λ more. key ++ more) (key_in text)) where
+  -- there is no byte any more
+  pub key_read : key_in text ≡ Some [] → all ≡ Some key
+  key_read none = so_far ∙ ap (option_map (λ more. key ++ more)) none ∙ ap (λ k. Some k) (append-nil key)
+
+  -- what comes next is no byte
+  pub no_key_read : key_in text ≡ None → all ≡ None
+  no_key_read none = so_far ∙ ap (option_map (λ more. key ++ more)) none
+
+-- ---- The next byte of a key
+
+-- there is no digit
+pub no_digit : (text : List ℕ) → digits_of text ≡ [] → key_in text ≡ Some []
+no_digit text none = ap bytes_of none
+
+-- there is one digit alone
+pub one_digit : (text rest : List ℕ) (high : ℕ) → digits_of text ≡ high ∷ digits_of rest → digits_of rest ≡ [] → key_in text ≡ None
+one_digit text rest high one none = ap bytes_of (one ∙ ap (λ ds. high ∷ ds) none)
+
+-- there are two digits, or other bytes
+two_digits : (text rest after : List ℕ) (high low : ℕ) (byte : Option ℕ) → digits_of text ≡ high ∷ digits_of rest → digits_of rest ≡ low ∷ digits_of after
+    → byte ≡ hex_of (high ∷ low ∷ []) → key_in text ≡ byte_before byte (key_in after)
+two_digits text rest after high low byte one two is = ap bytes_of (one ∙ ap (λ ds. high ∷ ds) two) ∙ ap (λ b. byte_before b (key_in after)) (sym is)
+
+pub byte_by_digits : (text rest after : List ℕ) (high low byte : ℕ) → digits_of text ≡ high ∷ digits_of rest → digits_of rest ≡ low ∷ digits_of after
+    → Some byte ≡ hex_of (high ∷ low ∷ []) → key_in text ≡ byte_before (Some byte) (key_in after)
+byte_by_digits text rest after high low byte = two_digits text rest after high low (Some byte)
+
+pub no_byte_by_digits : (text rest after : List ℕ) (high low : ℕ) → digits_of text ≡ high ∷ digits_of rest → digits_of rest ≡ low ∷ digits_of after
+    → None ≡ hex_of (high ∷ low ∷ []) → key_in text ≡ None
+no_byte_by_digits text rest after high low = two_digits text rest after high low None
+
+-- a digit is neither a tab nor a space
+digit_apart : (b : ℕ) → is_hex_digit b ≡ true → (nat_eq b 9 ≡ false) × (nat_eq b 32 ≡ false)
+digit_apart b is = by_tests (nat_eq b 9) (nat_eq b 32) refl refl
+  where
+    by_tests : (t s : Bool) → nat_eq b 9 ≡ t → nat_eq b 32 ≡ s → (t ≡ false) × (s ≡ false)
+    by_tests false false e f = (refl, refl)
+    by_tests true s e f = absurd (let tab : b ≡ 9 = grind (arith, nat_tests) in (let none : false ≡ true = ap is_hex_digit (sym tab) ∙ is in cc))
+    by_tests false true e f = absurd (let space : b ≡ 32 = grind (arith, nat_tests) in (let none : false ≡ true = ap is_hex_digit (sym space) ∙ is in cc))
+
+both : (a b : Bool) → (a && (b && true)) ≡ true → (a ≡ true) × (b ≡ true)
+both true true h = (refl, refl)
+both true false h = absurd (cc)
+both false b h = absurd (cc)
+
+digits_by : (high low byte : ℕ) (t : Bool) → list_all is_hex_digit (high ∷ low ∷ []) ≡ t → Some byte ≡ hex_of (high ∷ low ∷ [])
+    → (is_hex_digit high ≡ true) × (is_hex_digit low ≡ true)
+digits_by high low byte true test is = both (is_hex_digit high) (is_hex_digit low) test
+digits_by high low byte false test is =
+    absurd (let none : Some byte ≡ None = is ∙ ap (λ (b : Bool). cond b (Some (digits_value 16 (high ∷ low ∷ []))) None) test in cc)
+
+one_first : (b : ℕ) (rest : List ℕ) → is_hex_digit b ≡ true → (digits_of (b ∷ rest) ≡ b ∷ digits_of rest) × (from_tab (b ∷ rest) ≡ from_tab rest)
+one_first b rest is =
+    let apart = digit_apart b is in (
+      ap (λ (t : Bool). cond t [] (cond (nat_eq b 32) (digits_of rest) (b ∷ digits_of rest))) apart.0
+          ∙ ap (λ (t : Bool). cond t (digits_of rest) (b ∷ digits_of rest)) apart.1,
+      ap (λ (t : Bool). cond t (b ∷ rest) (from_tab rest)) apart.0,
+    )
+
+-- the text begins with two digits
+pub byte_first : (high low byte : ℕ) (text rest : List ℕ) → text ≡ high ∷ low ∷ rest → Some byte ≡ hex_of (high ∷ low ∷ [])
+    → (key_in text ≡ byte_before (Some byte) (key_in rest)) × (from_tab text ≡ from_tab rest) × (length rest < length text)
+byte_first high low byte text rest parts is =
+    let digits = digits_by high low byte (list_all is_hex_digit (high ∷ low ∷ [])) refl is in
+    let first = one_first high (low ∷ rest) digits.0 in
+    let second = one_first low rest digits.1 in (
+      ap key_in parts ∙ byte_by_digits (high ∷ low ∷ rest) (low ∷ rest) rest high low byte first.0 second.0 is,
+      ap from_tab parts ∙ first.1 ∙ second.1,
+      omega (arith, ap length parts),
+    )
 
 -- ---- Another key in its place
 

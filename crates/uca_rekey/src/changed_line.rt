@@ -1,6 +1,6 @@
 //! A line that begins with the digits of a key, and the same line with what that key becomes.
 
-ghost use Rattle.std.specs.Prelude.{◌≡◌, ◌++◌, ℕ, List, Option, OnOk, IfErr, length};
+ghost use Rattle.std.specs.Prelude.{◌≡◌, ◌++◌, ◌*◌, ℕ, List, Option, OnOk, IfErr, length};
 ghost use Rattle.std.specs.List.{flat_map};
 ghost use Rattle.uca_run_parts.specs.Print.{byte_digits};
 ghost use Rattle.uca_rekey.specs.ChangedLines.{Headers, LineBecomes, from_tab, with_new_key};
@@ -38,9 +38,9 @@ pub(crate) fn change_line<A: Allocator, C: ChangesKeys>(
     ensures cause { (headers : Option Headers) (before : List (List ℕ)) →
         IfErr result (IsChangeCause (C.becomes change.old) headers C.none before line.now) }
 {
-    read_key(line, &mut keys.key)?;
+    let rest = read_key(line, &mut keys.key)?;
     match change.change(&keys.key, &mut keys.changed) {
-        Ok(true) => put_line(made, &keys.changed, line),
+        Ok(true) => put_line(made, &keys.changed, rest),
         Ok(false) => Err(C::none()),
         Err(_) => Err(StoredKeyKind::Memory),
     }
@@ -65,12 +65,20 @@ fn put_line<A: Allocator>(
 fn put_bytes<A: Allocator>(made: &mut Vec<u8, A>, key: &[u8], rest: &[u8]) -> Result<(), AllocError>
     ensures { OnOk result (made.new.items ≡ flat_map byte_digits key.now ++ rest.now) }
 {
-    made.clear();
-    for byte in key {
-        made.push(digit(*byte / 16))?;
-        made.push(digit(*byte % 16))?;
-    }
+    made.resize(2 * key.len(), 0)?;
+    put_digits(made.as_mut_slice(), key);
     made.extend_from_slice(rest)
+}
+
+// Writes the digits of a key over these bytes.
+fn put_digits(digits: &mut [u8], key: &[u8])
+    requires { length digits.old ≡ 2 * length key.now }
+    ensures { digits.new ≡ flat_map byte_digits key.now }
+{
+    for (number, byte) in key.iter().enumerate() {
+        digits[2 * number] = digit(*byte / 16);
+        digits[2 * number + 1] = digit(*byte % 16);
+    }
 }
 
 // All of a line from its first tab on.

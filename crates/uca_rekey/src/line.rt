@@ -1,12 +1,13 @@
 //! A line that begins with the digits of a key, with other digits in their place.
 
-ghost use Rattle.std.specs.Prelude.{◌≡◌, ℕ, List, Option, [], ◌∷◌, ◌++◌, Some, OnOk, IfErr, MatchOption, ◌≤◌, ◌<◌, length, take, drop};
+ghost use Rattle.std.specs.Prelude.{◌≡◌, ℕ, List, Option, [], ◌∷◌, ◌++◌, Some, OnOk, IfOk, IfErr, IfSome, MatchOption, ◌≤◌, ◌<◌, length, take, drop};
 ghost use Rattle.std.specs.List.{flat_map};
 ghost use Rattle.uca_lines.specs.Numbers.{upper_digit};
 ghost use Rattle.uca_run_parts.specs.Print.{byte_digits};
 ghost use Rattle.uca_rekey.specs.RekeyedLines.{digits_of, key_in, rekeyed_by, with_digits, with_key};
+ghost use Rattle.uca_rekey.specs.ChangedLines.{from_tab};
 ghost use Rattle.uca_rekey.specs.RekeyRun.{IsLineCause};
-ghost use Rattle.uca_rekey.specs.inside.LinesInPlace.{IsKeyCause};
+ghost use Rattle.uca_rekey.specs.inside.LinesInPlace.{IsKeyCause, IsNextByte};
 ghost use Rattle.uca_rekey.specs.inside.RekeySoFar.{moved_by};
 
 use std::alloc::Allocator;
@@ -36,37 +37,82 @@ pub(crate) fn rekey_line<M: Allocator, A: Allocator>(
     Ok(())
 }
 
-/// Reads the key of a line over the bytes that were there.
+/// What comes next in the field of a key.
+enum NextByte<'a> {
+    /// A byte, and what follows its two digits.
+    Byte(u8, &'a [u8]),
+    /// Nothing but spaces.
+    End,
+    /// What is no byte.
+    NoByte,
+}
+
+/// Reads the key of a line over the bytes that were there, and returns what follows its digits: spaces, and then all from
+/// the first tab on.
 ///
 /// # Errors
 ///
 /// `NoKey` if the line begins with no key. `Memory` if an allocation failed.
-pub(crate) fn read_key<A: Allocator>(line: &[u8], key: &mut Vec<u8, A>) -> Result<(), StoredKeyKind>
+pub(crate) fn read_key<'a, A: Allocator>(
+    line: &'a [u8],
+    key: &mut Vec<u8, A>,
+) -> Result<&'a [u8], StoredKeyKind>
     ensures key { OnOk result (key_in line.now ≡ Some key.new.items) }
+    ensures rest { IfOk result (λ rest. from_tab line.now ≡ from_tab rest.now) }
     ensures cause { IfErr result (IsKeyCause line.now) }
 {
     key.clear();
     let mut text = line;
-    while let Some((high, rest)) = next_digit(text) {
-        let Some((low, rest)) = next_digit(rest) else {
-            return Err(StoredKeyKind::NoKey);
-        };
-        let Some(byte) = hexadecimal_byte(high, low) else {
-            return Err(StoredKeyKind::NoKey);
-        };
-        if key.push(byte).is_err() {
-            return Err(StoredKeyKind::Memory);
+    loop {
+        match next_byte(text) {
+            NextByte::Byte(byte, rest) => {
+                if key.push(byte).is_err() {
+                    return Err(StoredKeyKind::Memory);
+                }
+                text = rest;
+            }
+            NextByte::End => return Ok(text),
+            NextByte::NoByte => return Err(StoredKeyKind::NoKey),
         }
-        text = rest;
     }
-    Ok(())
+}
+
+// What comes next in a key's field. Mostly there are two digits, with no space before them.
+#[inline(always)]
+fn next_byte(text: &[u8]) -> NextByte<'_>
+    ensures { IsNextByte text.now result }
+{
+    let [high, low, rest @ ..] = text else {
+        return next_spaced_byte(text);
+    };
+    match hexadecimal_byte(*high, *low) {
+        Some(byte) => NextByte::Byte(byte, rest),
+        None => next_spaced_byte(text),
+    }
+}
+
+// What comes next in a key's field, digit by digit.
+fn next_spaced_byte(text: &[u8]) -> NextByte<'_>
+    ensures { IsNextByte text.now result }
+{
+    let Some((high, rest)) = next_digit(text) else {
+        return NextByte::End;
+    };
+    let Some((low, rest)) = next_digit(rest) else {
+        return NextByte::NoByte;
+    };
+    match hexadecimal_byte(high, low) {
+        Some(byte) => NextByte::Byte(byte, rest),
+        None => NextByte::NoByte,
+    }
 }
 
 // The next byte of a key's field that is no space, and what follows it. There is none at the end of the field.
 #[inline]
 fn next_digit(text: &[u8]) -> Option<(u8, &[u8])>
     ensures digits { MatchOption result (digits_of text.now ≡ []) (λ next. digits_of text.now ≡ next.0 ∷ digits_of next.1.now) }
-    ensures shorter { MatchOption result (length text.now ≤ length text.now) (λ next. length next.1.now < length text.now) }
+    ensures shorter { IfSome result (λ next. length next.1.now < length text.now) }
+    ensures rest { IfSome result (λ next. from_tab text.now ≡ from_tab next.1.now) }
 {
     let mut text = text;
     while let [byte, rest @ ..] = text {

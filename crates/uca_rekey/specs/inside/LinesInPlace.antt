@@ -1,5 +1,5 @@
 -- Lines that lie in the buffer that they were read into.
-use Rattle.std.specs.Prelude.{◌≡◌, ℕ, ◌+◌, ◌^◌, ◌<◌, Bool, true, false, MatchBool, List, [], ◌∷◌, ◌++◌, length, take, drop, Option, None, MatchOption, Result, Ok, Err, IfSome, IsSomeAnd, ⊤}
+use Rattle.std.specs.Prelude.{◌≡◌, ℕ, ◌+◌, ◌^◌, ◌<◌, Bool, true, false, MatchBool, List, [], ◌∷◌, ◌++◌, length, take, drop, Option, None, Some, MatchOption, Result, Ok, Err, IfSome, IsSomeAnd, ⊤}
 use Rattle.std.specs.Io.KnownBytes.{Consumes, IsAtEnd, prepend_known}
 use Rattle.std.specs.List.{flat_map}
 use Rattle.uca_weights.specs.Streams.{SourceState}
@@ -11,7 +11,10 @@ use Rattle.uca_run_parts.specs.declared.faults.StoredKeyKind.{StoredKeyKind}
 use Rattle.uca_run_parts.specs.declared.faults.StoredKeyKind.TheVariants as kinds
 use Rattle.uca_run_parts.specs.Input.{is_stored_key_read}
 use Rattle.uca_run_parts.specs.LinesSoFar.{OnKnown}
-use Rattle.uca_rekey.specs.RekeyedLines.{key_in}
+use Rattle.uca_rekey.specs.declared.line.NextByte.{NextByte}
+use Rattle.uca_rekey.specs.declared.line.NextByte.TheVariants.{Byte, End, NoByte}
+use Rattle.uca_rekey.specs.RekeyedLines.{byte_before, key_in}
+use Rattle.uca_rekey.specs.ChangedLines.{from_tab}
 use Rattle.uca_rekey.specs.RekeyRun.{Begins, FailsAfter}
 
 -- ---- Bytes
@@ -106,3 +109,10 @@ abbrev pub IsKeyCause : List ℕ → StoredKeyKind → Type 0
 IsKeyCause line kinds.NoKey = key_in line ≡ None
 IsKeyCause line kinds.Memory = ⊤
 IsKeyCause line _ = ⊥
+
+-- what comes next in the field of a key
+abbrev pub IsNextByte : List ℕ → NextByte → Type 0
+IsNextByte text (Byte byte rest) =
+    (key_in text ≡ byte_before (Some byte) (key_in rest.now)) × (from_tab text ≡ from_tab rest.now) × (length rest.now < length text)
+IsNextByte text End = key_in text ≡ Some []
+IsNextByte text NoByte = key_in text ≡ None

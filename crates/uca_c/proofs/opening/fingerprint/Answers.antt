@@ -5,7 +5,7 @@ use Rattle.uca_weights.specs.declared.Depth.{Depth}
 use Rattle.uca_weights.specs.declared.Weighting.{Weighting}
 use Rattle.uca_order.specs.Keyings.{keying}
 use Rattle.uca_owned.specs.Opening.{fingerprint_by}
-use Rattle.uca_c.proofs.Telling.{told_stop}
+use Rattle.uca_c.proofs.Telling.{told_cause, told_stop}
 use Rattle.uca_c.proofs.opening.fingerprint.Goals as goal
 
 pub returns-in-Ok-clause-only : goal.returns-in-Ok-clause-only
@@ -17,3 +17,8 @@ returns-in-Ok-clause-only c asked at meant properties asks =
 
 pub returns-in-Err-clause-only : goal.returns-in-Err-clause-only
 returns-in-Err-clause-only c asked at meant properties asks = told_stop _ _ _ _ (c.in-Err.ensures.only meant properties asks.mean) c.tell.ensures
+
+pub returns-in-Err-clause-rejected : goal.returns-in-Err-clause-rejected
+returns-in-Err-clause-rejected c =
+    told_cause c.args.weighting c.args.depth c.in-Some.asked c.in-Some-asked_depth.depth c.args.table.now c.args.data_file.now c.in-Err.fault _ _ _
+    c.in-Some.ensures c.in-Some-asked_depth.ensures c.in-Err.ensures.fault c.tell.ensures

@@ -1,9 +1,9 @@
 -- What is kept is what was opened, with the book that was read.
-use Rattle.std.proofs.Common.{◌≡◌, ◌∙◌, Some, ap, inl}
+use Rattle.std.proofs.Common.{◌≡◌, ◌∙◌, Some, ap, inl, inr}
 use Rattle.uca_order.specs.Keyings.{keying}
 use Rattle.uca_c.specs.OpenCollators.{OpenState, keying_at}
-use Rattle.uca_c.specs.Opened.{IsCompactStopStatus}
-use Rattle.uca_c.proofs.Keeping.{kept_by}
+use Rattle.uca_c.specs.Opened.{IsCompactOpenStatus, IsCompactStopStatus}
+use Rattle.uca_c.proofs.Keeping.{kept_by, or_memory}
 use Rattle.uca_c.proofs.opening.open_compact.Goals as goal
 
 pub returns-in-Err-clause-only : goal.returns-in-Err-clause-only
@@ -19,3 +19,10 @@ returns-in-Ok-book_of-clause-only c asked at meant properties content asks means
       ap (λ (s : OpenState). s.book) (same ∙ c.with_book.ensures) ∙ ap Some (c.in-Ok-book_of.ensures.only content means),
     ))
     (λ status is. inl (inl is))
+
+pub returns-in-Ok-book_of-clause-rejected : goal.returns-in-Ok-book_of-clause-rejected
+returns-in-Ok-book_of-clause-rejected c =
+    or_memory c.keep.result (λ kept. kept.value ≡ c.with_book.result)
+    (IsCompactOpenStatus c.args.weighting c.args.depth c.args.table.now c.args.data_file.now c.args.book.now c.open_texts.new.error.line
+    c.open_texts.new.error.kind) c.keep.ensures
+    (λ status is. inl (inr (inr (inr (is, (_, c.in-Ok.ensures.found), c.in-Ok.ensures.no_error)))))

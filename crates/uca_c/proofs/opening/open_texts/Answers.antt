@@ -4,7 +4,7 @@ use Rattle.std.specs.Prelude.{Option, unwrap_or}
 use Rattle.uca_weights.specs.declared.Depth.{Depth}
 use Rattle.uca_weights.specs.declared.Weighting.{Weighting}
 use Rattle.uca_order.specs.Keyings.{keying}
-use Rattle.uca_c.proofs.Telling.{told_stop}
+use Rattle.uca_c.proofs.Telling.{told_cause, told_stop}
 use Rattle.uca_c.proofs.opening.open_texts.Goals as goal
 
 pub returns-in-Err-clause-only : goal.returns-in-Err-clause-only
@@ -15,3 +15,8 @@ returns-in-Ok-clause-only c asked at meant properties asks =
     let weighting = ap (λ (o : Option (Option Weighting)). unwrap_or o asked) (c.in-Some.ensures ∙ asks.is_weighting) in
     let depth = ap (λ (o : Option Depth). unwrap_or o at) (c.in-Some-asked_depth.ensures ∙ asks.is_depth) in
     c.in-Ok.ensures.only meant properties asks.mean ∙ (λ i. keying (weighting i) (depth i) meant properties)
+
+pub returns-in-Err-clause-rejected : goal.returns-in-Err-clause-rejected
+returns-in-Err-clause-rejected c =
+    told_cause c.args.weighting c.args.depth c.in-Some.asked c.in-Some-asked_depth.depth c.args.table.now c.args.data_file.now c.in-Err.fault _ _ _
+    c.in-Some.ensures c.in-Some-asked_depth.ensures c.in-Err.ensures.fault c.tell.ensures

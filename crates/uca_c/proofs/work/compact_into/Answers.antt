@@ -1,6 +1,5 @@
 -- The key of a text has a compact key.
 use Rattle.std.proofs.Common.{arith}
-use Rattle.std.specs.Prelude.{OnOk}
 use Rattle.uca_compact.proofs.ExpandedKeys.{bytes_are}
 use Rattle.uca_c.proofs.CompactTexts.{found_text}
 use Rattle.uca_c.proofs.work.compact_into.Goals as goal

@@ -1,5 +1,5 @@
 -- The key is that of the collator and of its book.
-use Rattle.std.proofs.Common.{◌≡◌, ◌∙◌, ap, sym, subst}
+use Rattle.std.proofs.Common.{◌∙◌, ap, sym, subst}
 use Rattle.std.specs.Prelude.{Option, option_map}
 use Rattle.uca_compact.specs.Programs.{CompacterState}
 use Rattle.uca_owned.specs.Owned.{keying_in}

@@ -1,27 +1,37 @@
-use Rattle.std.proofs.Common.{◌≡◌, List, ℕ, [], ◌∷◌, ◌++◌, Some, ap, sym, ◌∙◌}
+use Rattle.std.proofs.Common.{◌≡◌, List, ℕ, [], ◌∷◌, ◌++◌, ap, sym, ◌∙◌}
 use Rattle.uca_weights.specs.declared.Weighting.TheVariants.{NonIgnorable}
+use Rattle.uca_order.specs.Levels.{lexicographic}
 use Rattle.uca_compact.specs.Forms.{forms_of}
-use Rattle.uca_compact.specs.PlainLevels.{plain_level}
+use Rattle.uca_compact.specs.PlainLevels.{copies, plain_level}
+use Rattle.uca_compact.specs.Programs.{form_of}
 use Rattle.uca_compact.specs.CompactKeys.{compact}
-use Rattle.uca_compact.specs.StoredParts.{stored_level}
-use Rattle.uca_compact.specs.inside.StoredEnds.{points_of, with_points}
+use Rattle.uca_compact.specs.declared.stored.StoredEnd.{StoredEnd}
+use Rattle.uca_compact.specs.inside.StoredEnds.{level_of, points_of, with_points}
+use Rattle.uca_compact.specs.inside.LevelsRead.{IsFirstLevel}
+use Rattle.uca_compact.proofs.LevelsWritten.{three_after}
 use Rattle.uca_compact.proofs.StoredSteps.{if_some, three_parts}
 use Rattle.uca_compact.proofs.compacter.write_three.Goals as goal
 
 pub returns : goal.returns
 returns g c =
-    let a = c.next_level.new.weights.items in
-    let b = c.next_level-2.new.weights.items in
-    let d = c.read_weights.new.weights.items in
-    let code = λ (levels : List (List ℕ)). compact plain_level (forms_of NonIgnorable c.args.book.now) levels in
-    let lists : c.deref.result.now ∷ c.deref-2.result.now ∷ c.deref-3.result.now ∷ [] ≡ a ∷ b ∷ d ∷ [] =
-    ap (λ (xs : List ℕ). xs ∷ c.deref-2.result.now ∷ c.deref-3.result.now ∷ []) c.deref.ensures.value
-    ∙ ap (λ (xs : List ℕ). a ∷ xs ∷ c.deref-3.result.now ∷ []) c.deref-2.ensures.value
-    ∙ ap (λ (xs : List ℕ). a ∷ b ∷ xs ∷ []) c.deref-3.ensures.value in
-    let all : c.push_three.new.out.items ≡ code (a ∷ b ∷ d ∷ []) =
-    c.in_ok-push_three.ensures ∙ ap (λ (xs : List ℕ). xs ++ code (c.deref.result.now ∷ c.deref-2.result.now ∷ c.deref-3.result.now ∷ [])) c.requires ∙ ap code lists in
-    three_parts c.args.depth c.args.book.now c.args.key.now c.in-Some.second.now c.in-Some-2.third.now a b d c.in_ok-end.end
-    (if_some (λ rest. stored_level c.args.key.now ≡ Some (record { weights = a; rest = Some rest.now })) c.in-Some.is c.in_ok-second.ensures.level)
-    (if_some (λ rest. stored_level c.in-Some.second.now ≡ Some (record { weights = b; rest = Some rest.now })) c.in-Some-2.is c.in_ok-third.ensures.level) c.in_ok-end.ensures.level
-    ∙ ap (λ (xs : List ℕ). with_points xs (points_of c.args.depth c.in_ok-end.end)) (sym all)
+    let b = c.args.book.now in
+    let key = c.args.key.now in
+    let old = c.args.compact.now.items in
+    let front = c.push_letters.new.out.items in
+    let new = c.push_three.new.out.items in
+    let f = form_of c.letters_form-form.result in
+    let first = if_some (IsFirstLevel f key old front) c.in-Some.is c.in_ok-first.ensures.level in
+    let second = c.in_ok-second.ensures.level in
+    let third = c.in_ok-third.ensures.level in
+    let code = compact plain_level (forms_of NonIgnorable b) (first.weights ∷ second.weights ∷ third.weights ∷ []) in
+    let all : new ≡ old ++ code =
+    three_after b f c.in_ok-second.second.order c.in_ok-third.third.order first.weights second.weights third.weights
+    c.read_later.new.weights.items c.read_later-2.new.weights.items old front new c.letters_form-form.ensures.form
+    (second.order ∙ ap (λ (n : ℕ). lexicographic second.weights (copies 0x20 n)) first.count)
+    (third.order ∙ ap (λ (n : ℕ). lexicographic third.weights (copies 2 n)) second.len)
+    second.same third.same first.code c.in_ok-push_three.ensures in
+    three_parts c.args.depth b key c.in-Some.first.rest.now c.in-Next.rest.now first.weights second.weights third.weights c.in_ok-third.third.end
+    first.read (second.read ∙ ap (λ (e : StoredEnd). level_of e second.weights) c.in-Next.is) third.read
+    ∙ ap (λ (xs : List ℕ). with_points (xs ++ code) (points_of c.args.depth c.in_ok-third.third.end)) (sym c.requires)
+    ∙ ap (λ (xs : List ℕ). with_points xs (points_of c.args.depth c.in_ok-third.third.end)) (sym all)
     ∙ c.in_ok-found.ensures

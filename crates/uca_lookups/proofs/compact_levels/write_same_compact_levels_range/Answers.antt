@@ -1,4 +1,4 @@
-use Rattle.std.proofs.Common.{ℕ, List, ◌++◌, Bool, true, false, take, ap, ◌∙◌}
+use Rattle.std.proofs.Common.{ℕ, List, ◌++◌, true, false, take, ap, ◌∙◌}
 use Rattle.uca_lookups.proofs.CompactFinds.{made_as, compact_found, compact_not_found, no_compact_end}
 use Rattle.uca_lookups.proofs.compact_levels.write_same_compact_levels_range.Goals as goal
 

@@ -1,23 +1,9 @@
 -- The files are those that `open` reads, and the settings are those of the table which they mean.
-use Rattle.std.proofs.Common.{◌≡◌, ◌∙◌, ap, subst, refl}
-use Rattle.std.specs.Prelude.{IfSome}
-use Rattle.uca_values.specs.Content.{TableContent, Properties, properties_of}
-use Rattle.uca_lines.specs.FileStops.{IsStop}
-use Rattle.uca_table.specs.TableLines as tables
-use Rattle.uca_table.specs.DataSoFar as data_files
+use Rattle.std.proofs.Common.{◌≡◌, ◌∙◌, ap, refl}
+use Rattle.uca_values.specs.Content.{TableContent, properties_of}
 use Rattle.uca_fingerprint.specs.Fingerprints.{fingerprint}
 use Rattle.uca_order.specs.Keyings.{keying, settings_by}
 use Rattle.uca_owned.proofs.fingerprints.fingerprint_of.Goals as goal
-
-pub returns-in-Err-clause-only : goal.returns-in-Err-clause-only
-returns-in-Err-clause-only c meant properties mean =
-    subst (λ left. IfSome left (λ bytes. (table : TableContent) → tables.Means bytes table → IsStop c.in-Err.fault.kind)) c.new.ensures.bytes c.in-Err.ensures.only
-    meant mean.table_file
-
-pub returns-in-Err-read_data-clause-only : goal.returns-in-Err-read_data-clause-only
-returns-in-Err-read_data-clause-only c meant properties mean =
-    subst (λ left. IfSome left (λ bytes. (ps : Properties) → data_files.Means bytes ps → IsStop c.in-Err-read_data.fault.kind)) c.new-2.ensures.bytes c.in-Err-read_data.ensures.only
-    properties mean.data_file
 
 -- the fingerprint is by the settings under the table that was read
 by_table : (c : goal.After-fingerprint) → c.fingerprint.result ≡ fingerprint (settings_by c.args.asked c.in-Ok.read.header.setting c.args.depth) c.args.table.now c.args.data_file.now
@@ -27,13 +13,13 @@ by_table c =
 
 pub returns-clause-found : goal.returns-clause-found
 returns-clause-found c = record {
-  keys = keying c.args.asked c.args.depth c.in-Ok.read (properties_of c.in-Ok-read_data.properties);
+  keys = keying c.args.asked c.args.depth c.in-Ok.read (properties_of c.in-Ok-data_of.properties);
   opens = record {
     table = c.in-Ok.read;
-    properties = properties_of c.in-Ok-read_data.properties;
+    properties = properties_of c.in-Ok-data_of.properties;
     mean = record {
-      table_file = subst (λ left. IfSome left (λ bytes. tables.Means bytes c.in-Ok.read)) c.new.ensures.bytes c.in-Ok.ensures.found;
-      data_file = subst (λ left. IfSome left (λ bytes. data_files.Means bytes (properties_of c.in-Ok-read_data.properties))) c.new-2.ensures.bytes c.in-Ok-read_data.ensures.found;
+      table_file = c.in-Ok.ensures.found;
+      data_file = c.in-Ok-data_of.ensures.found;
     };
     same = refl;
   };
@@ -42,6 +28,11 @@ returns-clause-found c = record {
 
 pub returns-clause-only : goal.returns-clause-only
 returns-clause-only c meant properties mean =
-    let table_same = subst (λ left. IfSome left (λ bytes. (table : TableContent) → tables.Means bytes table → c.in-Ok.read ≡ table)) c.new.ensures.bytes c.in-Ok.ensures.only
-    meant mean.table_file in
+    let table_same = c.in-Ok.ensures.only meant mean.table_file in
     by_table c ∙ (λ i. fingerprint (settings_by c.args.asked (table_same i).header.setting c.args.depth) c.args.table.now c.args.data_file.now)
+
+pub returns-in-Err-clause-only : goal.returns-in-Err-clause-only
+returns-in-Err-clause-only c meant properties mean = c.in-Err.ensures.only meant mean.table_file
+
+pub returns-in-Err-data_of-clause-only : goal.returns-in-Err-data_of-clause-only
+returns-in-Err-data_of-clause-only c meant properties mean = c.in-Err-data_of.ensures.only properties mean.data_file

@@ -1,11 +1,13 @@
 -- The bytes so far are spaces.
 use Rattle.std.proofs.Common.{◌≡◌, ◌≤◌, length}
 use Rattle.uca_rekey.specs.RekeyedLines.{digits_of}
+use Rattle.uca_rekey.specs.ChangedLines.{from_tab}
 use Rattle.uca_rekey.proofs.line.next_digit.Given as goal
 
 abbrev pub invariant-loop-text : goal.invariant-loop-text
 invariant-loop-text l = record {
   same : digits_of l.initial.text ≡ digits_of l.text;
+  rest : from_tab l.initial.text ≡ from_tab l.text;
   shorter : length l.text ≤ length l.initial.text;
 }
 

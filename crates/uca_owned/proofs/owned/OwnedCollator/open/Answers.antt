@@ -1,27 +1,16 @@
--- Files that mean something are rejected by no cause of their own, and what is read is what they mean.
-use Rattle.std.proofs.Common.{◌≡◌, ◌∙◌, subst}
-use Rattle.std.specs.Prelude.{IfSome}
-use Rattle.uca_values.specs.Content.{TableContent, Properties, properties_of}
-use Rattle.uca_lines.specs.FileStops.{IsStop}
-use Rattle.uca_table.specs.TableLines as tables
-use Rattle.uca_table.specs.DataSoFar as data_files
+-- What is read of the bytes of two files is what they mean.
+use Rattle.std.proofs.Common.{◌≡◌, ◌∙◌}
 use Rattle.uca_order.specs.Keyings.{keying}
 use Rattle.uca_owned.proofs.owned.OwnedCollator.open.Goals as goal
 
-pub returns-in-Err-clause-only : goal.returns-in-Err-clause-only
-returns-in-Err-clause-only c meant properties mean =
-    subst (λ left. IfSome left (λ bytes. (table : TableContent) → tables.Means bytes table → IsStop c.in-Err.fault.kind)) c.new.ensures.bytes c.in-Err.ensures.only
-    meant mean.table_file
-
-pub returns-in-Err-read_data-clause-only : goal.returns-in-Err-read_data-clause-only
-returns-in-Err-read_data-clause-only c meant properties mean =
-    subst (λ left. IfSome left (λ bytes. (ps : Properties) → data_files.Means bytes ps → IsStop c.in-Err-read_data.fault.kind)) c.new-2.ensures.bytes c.in-Err-read_data.ensures.only
-    properties mean.data_file
-
 pub returns-in-Ok-packed_collator-clause-only : goal.returns-in-Ok-packed_collator-clause-only
 returns-in-Ok-packed_collator-clause-only c meant properties mean =
-    let table_same = subst (λ left. IfSome left (λ bytes. (table : TableContent) → tables.Means bytes table → c.in-Ok.read ≡ table)) c.new.ensures.bytes c.in-Ok.ensures.only
-    meant mean.table_file in
-    let data_same = subst (λ left. IfSome left (λ bytes. (ps : Properties) → data_files.Means bytes ps → properties_of c.in-Ok-read_data.properties ≡ ps)) c.new-2.ensures.bytes c.in-Ok-read_data.ensures.only
-    properties mean.data_file in
-    c.in-Ok-packed_collator.ensures ∙ (λ i. keying c.args.asked c.args.depth (table_same i) (data_same i))
+    let table_same = c.in-Ok.ensures.only meant mean.table_file in
+    let data_same = c.in-Ok-data_of.ensures.only properties mean.data_file in
+    c.in-Ok-packed_collator.ensures.keying ∙ (λ i. keying c.args.asked c.args.depth (table_same i) (data_same i))
+
+pub returns-in-Err-clause-only : goal.returns-in-Err-clause-only
+returns-in-Err-clause-only c meant properties mean = c.in-Err.ensures.only meant mean.table_file
+
+pub returns-in-Err-data_of-clause-only : goal.returns-in-Err-data_of-clause-only
+returns-in-Err-data_of-clause-only c meant properties mean = c.in-Err-data_of.ensures.only properties mean.data_file

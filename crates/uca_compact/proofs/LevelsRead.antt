@@ -1,0 +1,195 @@
+-- Steps of reading the levels of a stored key while its compact key is written.
+use Rattle.std.proofs.Common.{◌≡◌, ◌≢◌, ℕ, zero, suc, ◌+◌, ◌*◌, ◌-◌, ◌/◌, ◌<◌, ◌≤◌, List, [], ◌∷◌, ◌++◌, Bool, true, false, cond, nat_eq, ◌&&◌, not, if◌then◌else◌, Option, Some, None, IfSome, length, length-append, length-drop, get_or, drop, refl, ap, sym, subst, ⊎_elim, ◌∙◌, arith, append_assoc, append-nil}
+use Rattle.std.specs.Ordering.{is_eq}
+use Rattle.std.specs.declared.cmp.Ordering.TheVariants.{Equal, Greater}
+use Rattle.uca_order.proofs.KeyOrder.{cmp_greater, lexicographic_itself}
+use Rattle.uca_compact.specs.Forms.{AreRising, Form, IsForm, first_cell}
+use Rattle.uca_compact.specs.PlainLevels.{copies, is_lead, letters_after, letter_count}
+use Rattle.uca_compact.specs.CompactKeys.{cell, level_code}
+use Rattle.uca_compact.specs.StoredParts.{StoredLevel, weight_then, stored_level}
+use Rattle.uca_compact.specs.declared.letters.Letters.{Letters}
+use Rattle.uca_compact.specs.declared.later_level.LaterLevel.{LaterLevel}
+use Rattle.uca_compact.specs.declared.stored.StoredEnd.{StoredEnd}
+use Rattle.uca_compact.specs.declared.stored.StoredEnd.TheVariants.{Next, Key, Single}
+use Rattle.uca_compact.specs.inside.StoredEnds.{level_of, next_of, weights_before}
+use Rattle.uca_compact.specs.inside.LevelsRead.{IsWrittenTo, IsFirstLevel, IsLaterLevel}
+use Rattle.uca_compact.proofs.OnlyLevels.{weight_code}
+use Rattle.uca_compact.proofs.StoredSteps.{two_at, level_step, weights_step}
+
+-- ---- Level 1
+
+-- a weight of a level without a common weight is its cell
+pub letter_code : (f : Form) (end w : ℕ) (ws : List ℕ) → f.common ≡ 0 → 0 < w
+    → level_code f end 0 (w ∷ ws) ≡ cell (first_cell f) 1 f.greater 65536 w ++ level_code f end 0 ws
+letter_code f end w ws none some =
+    weight_code f end 0 w ws Greater (cmp_greater w f.common (omega (arith, none)))
+    ∙ ap (λ (n : ℕ). cell (first_cell f) (suc n) f.greater 65536 w ++ level_code f end 0 ws) none
+
+-- the cells of such a level rise from 1
+pub greater_rise : (f : Form) → IsForm f → f.common ≡ 0 → AreRising 1 f.greater 65536
+greater_rise f form none = ⊎_elim (λ few. absurd (omega (arith, few.0, none))) (λ rise. subst (λ (n : ℕ). AreRising (suc n) f.greater 65536) none rise) form.greater
+
+-- nothing was written yet
+pub none_written : (f : Form) (key out : List ℕ) → IsWrittenTo f key out out 0 0 false
+none_written f key out = record {
+  weights = [];
+  size = refl;
+  within = omega arith;
+  few = omega arith;
+  are = tt;
+  read = before_none (stored_level key);
+  counted = λ more. omega arith;
+  code = λ end more. refl;
+}
+  where
+    before_none : (o : Option StoredLevel) → weights_before [] o ≡ o
+    before_none None = refl
+    before_none (Some l) = refl
+
+-- a count with one weight more
+count_more : (lead : Bool) (w count more : ℕ) (rest : List ℕ) → more ≡ count + (if lead then 0 else 1)
+    → more + letters_after (not lead && is_lead w) rest ≡ count + letters_after lead (w ∷ rest)
+count_more true w count more rest one = omega (arith, one)
+count_more false w count more rest one = omega (arith, one)
+
+count_fits : (lead : Bool) (count more n : ℕ) → more ≡ count + (if lead then 0 else 1) → count ≤ n → more ≤ n + 1
+count_fits true count more n one few = omega (arith, one)
+count_fits false count more n one few = omega (arith, one)
+
+-- one weight more was written
+pub one_written : (f : Form) (key before out new : List ℕ) (at count more w : ℕ) (lead : Bool) → f.common ≡ 0 → IsWrittenTo f key before out at count lead
+    → at + 1 < length key → w ≡ 256 * get_or key at 0 + get_or key (at + 1) 0 → w ≢ 0 → w < 65536
+    → new ≡ out ++ cell (first_cell f) 1 f.greater 65536 w → more ≡ count + (if lead then 0 else 1)
+    → IsWrittenTo f key before new (at + 2) more (not lead && is_lead w)
+one_written f key before out new at count more w lead none so_far within is some small written one =
+    let front = so_far.weights in
+    let size = so_far.size in
+    let longer : length (front ++ w ∷ []) ≡ length front + 1 = length-append front (w ∷ []) in
+    let step = weights_step front key (front ++ w ∷ []) at w (stored_level key) within is some small so_far.are refl so_far.read in
+    record {
+      weights = front ++ w ∷ [];
+      size = omega (arith, longer, size);
+      within = step.0;
+      few = subst (λ (n : ℕ). more ≤ n) (sym longer) (count_fits lead count more (length front) one so_far.few);
+      are = step.1;
+      read = step.2;
+      counted = λ rest. count_more lead w count more rest one ∙ so_far.counted (w ∷ rest) ∙ ap letter_count (sym (append_assoc front (w ∷ []) rest));
+      code = λ end rest.
+          ap (λ (xs : List ℕ). xs ++ level_code f end 0 rest) written
+          ∙ append_assoc out (cell (first_cell f) 1 f.greater 65536 w) (level_code f end 0 rest)
+          ∙ ap (λ (xs : List ℕ). out ++ xs) (sym (letter_code f end w rest none (omega (arith, some))))
+          ∙ so_far.code end (w ∷ rest)
+          ∙ ap (λ (xs : List ℕ). before ++ level_code f end 0 xs) (sym (append_assoc front (w ∷ []) rest));
+    }
+
+-- 00 00 ends the level
+ended_level : (a b : ℕ) (bytes : List ℕ) (w : ℕ) → w ≡ 256 * a + b → w ≡ 0 → stored_level (a ∷ b ∷ bytes) ≡ Some (record { weights = []; rest = Some bytes })
+ended_level a b bytes w is none =
+    let zero_is : 256 * a + b ≡ 0 = sym is ∙ none in
+    ap (λ (n : ℕ). cond (nat_eq n 0) (Some (record { weights = []; rest = Some bytes })) (weight_then n (stored_level bytes))) zero_is
+
+pub all_written : (f : Form) (key before out : List ℕ) (at count w : ℕ) (lead : Bool) (letters : Letters) → IsWrittenTo f key before out at count lead
+    → at + 1 < length key → w ≡ 256 * get_or key at 0 + get_or key (at + 1) 0 → w ≡ 0
+    → letters.len ≡ at / 2 → letters.count ≡ count → letters.rest.now ≡ drop (at + 2) key → IsFirstLevel f key before out letters
+all_written f key before out at count w lead letters so_far within is none len counts rest =
+    let front = so_far.weights in
+    let size = so_far.size in
+    let few = so_far.few in
+    let counted = so_far.counted [] in
+    let half : letters.len ≡ length front = omega (arith, len, size) in
+    let more = drop (at + 2) key in
+    record {
+      weights = front;
+      read = sym so_far.read
+          ∙ ap (λ (bytes : List ℕ). weights_before front (stored_level bytes)) (two_at key at within)
+          ∙ ap (weights_before front) (ended_level (get_or key at 0) (get_or key (at + 1) 0) more w is none)
+          ∙ ap (λ (ws : List ℕ). Some (record { weights = ws; rest = Some more })) (append-nil front)
+          ∙ ap (λ (bytes : List ℕ). Some (record { weights = front; rest = Some bytes })) (sym rest);
+      len = half;
+      count = counts ∙ (let e : count + 0 ≡ count = omega arith in sym e) ∙ counted ∙ ap letter_count (append-nil front);
+      few = omega (arith, half, counts, few);
+      within = (let fits = so_far.within in omega (arith, half, size, fits));
+      code = λ end. so_far.code end [] ∙ ap (λ (ws : List ℕ). before ++ level_code f end 0 ws) (append-nil front);
+    }
+
+-- the key ends in level 1
+no_next : (front bytes : List ℕ) → length bytes ≤ 1 → next_of (weights_before front (stored_level bytes)) ≡ None
+no_next front [] few = refl
+no_next front (a ∷ []) few = refl
+no_next front (a ∷ b ∷ bytes) few = absurd (omega arith)
+
+pub key_ended : (f : Form) (key before out : List ℕ) (at count : ℕ) (lead : Bool) → IsWrittenTo f key before out at count lead → length key ≤ at + 1
+    → next_of (stored_level key) ≡ None
+key_ended f key before out at count lead so_far end =
+    ap next_of (sym so_far.read) ∙ no_next so_far.weights (drop at key) (omega (arith, length-drop at key))
+
+-- ---- Later levels
+
+then_level : (w : ℕ) (ws : List ℕ) (e : StoredEnd) → weight_then w (level_of e ws) ≡ level_of e (w ∷ ws)
+then_level w ws (Next bytes) = refl
+then_level w ws Key = refl
+then_level w ws Single = refl
+
+one_copy : (w n : ℕ) → 0 < n → w ∷ copies w (n - 1) ≡ copies w n
+one_copy w zero some = absurd (omega arith)
+one_copy w (suc n) some = let e : suc n - 1 ≡ n = omega arith in ap (λ (k : ℕ). w ∷ copies w k) e
+
+copies_length : (w n : ℕ) → length (copies w n) ≡ n
+copies_length w zero = refl
+copies_length w (suc n) = ap suc (copies_length w n)
+
+-- These bytes begin a level that is so many times one weight, if the rest of them begins one that is it so many times
+-- less.
+abbrev pub GoesOn : (bytes rest : List ℕ) → (w count left : ℕ) → Type 0
+GoesOn bytes rest w count left = (e : StoredEnd) → stored_level rest ≡ level_of e (copies w left) → stored_level bytes ≡ level_of e (copies w count)
+
+-- nothing was compared yet
+pub goes_on_from_start : (bytes : List ℕ) (w count : ℕ) → GoesOn bytes (drop (2 * 0) bytes) w count (count - 0)
+goes_on_from_start bytes w count e h =
+    let none : count - 0 ≡ count = omega arith in
+    h ∙ ap (λ (n : ℕ). level_of e (copies w n)) none
+
+-- one weight more is the same
+pub same_again : (bytes : List ℕ) (w count index found : ℕ) → 0 < w → count ≤ length bytes / 2 → index < count
+    → found ≡ 256 * get_or bytes (2 * index) 0 + get_or bytes (2 * index + 1) 0 → found ≡ w
+    → GoesOn bytes (drop (2 * index) bytes) w count (count - index) → GoesOn bytes (drop (2 * (index + 1)) bytes) w count (count - (index + 1))
+same_again bytes w count index found some fits more is same so_far e h =
+    let a = get_or bytes (2 * index) 0 in
+    let b = get_or bytes (2 * index + 1) 0 in
+    let next : 2 * (index + 1) ≡ 2 * index + 2 = omega arith in
+    let less : count - (index + 1) ≡ count - index - 1 = omega arith in
+    let after = drop (2 * index + 2) bytes in
+    let rest : stored_level after ≡ level_of e (copies w (count - index - 1)) =
+    ap (λ (n : ℕ). stored_level (drop n bytes)) (sym next) ∙ h ∙ ap (λ (n : ℕ). level_of e (copies w n)) less in
+    so_far e
+    (ap stored_level (two_at bytes (2 * index) (omega (arith, fits, more)))
+    ∙ level_step a b after w (sym same ∙ is) (λ none. omega (arith, none, some))
+    ∙ ap (weight_then w) rest ∙ then_level w (copies w (count - index - 1)) e
+    ∙ ap (level_of e) (one_copy w (count - index) (omega (arith, more))))
+
+-- all weights are the same
+same_to_end : (bytes : List ℕ) (w count index : ℕ) (e : StoredEnd) → count ≤ index → index ≤ count → GoesOn bytes (drop (2 * index) bytes) w count (count - index)
+    → stored_level (drop (2 * count) bytes) ≡ level_of e [] → stored_level bytes ≡ level_of e (copies w count)
+same_to_end bytes w count index e low high so_far h =
+    let here : 2 * index ≡ 2 * count = omega arith in
+    let none : 0 ≡ count - index = omega arith in
+    so_far e (ap (λ (n : ℕ). stored_level (drop n bytes)) here ∙ h ∙ ap (λ (n : ℕ). level_of e (copies w n)) none)
+
+pub same_ended : (bytes : List ℕ) (w count index : ℕ) (o : Option StoredEnd) → count ≤ index → index ≤ count → GoesOn bytes (drop (2 * index) bytes) w count (count - index)
+    → IfSome o (λ e. stored_level (drop (2 * count) bytes) ≡ level_of e []) → IfSome o (λ e. stored_level bytes ≡ level_of e (copies w count))
+same_ended bytes w count index None low high so_far h = tt
+same_ended bytes w count index (Some e) low high so_far h = same_to_end bytes w count index e low high so_far h
+
+-- the level is the plain one
+pub plain_read : (bytes kept : List ℕ) (w n : ℕ) (found : LaterLevel) → stored_level bytes ≡ level_of found.end (copies w n) → found.order ≡ Equal → found.len ≡ n
+    → IsLaterLevel bytes (copies w n) kept found
+plain_read bytes kept w n found read order len = record {
+  weights = copies w n;
+  read = read;
+  order = order ∙ sym (lexicographic_itself (copies w n));
+  len = len ∙ sym (copies_length w n);
+  same = λ other. absurd (true_not_false (ap is_eq (sym order) ∙ other));
+}
+  where
+    true_not_false : true ≡ false → ⊥
+    true_not_false h = cc

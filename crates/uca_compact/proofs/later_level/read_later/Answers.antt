@@ -1,0 +1,6 @@
+use Rattle.std.proofs.Common.{refl}
+use Rattle.uca_compact.proofs.LevelsRead.{plain_read}
+use Rattle.uca_compact.proofs.later_level.read_later.Goals as goal
+
+pub returns-in-Some-clause-level : goal.returns-in-Some-clause-level
+returns-in-Some-clause-level g c = plain_read c.args.bytes.now c.clear.new.self.items c.args.weight c.args.count _ c.in-Some.ensures.level refl refl

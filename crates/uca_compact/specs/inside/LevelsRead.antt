@@ -1,0 +1,40 @@
+-- What a program knows of the levels of a stored key while it writes the compact key.
+use Rattle.std.specs.Prelude.{◌≡◌, ℕ, ◌+◌, ◌*◌, ◌≤◌, Bool, false, List, [], ◌++◌, Some, length, drop}
+use Rattle.std.specs.Ordering.{is_eq}
+use Rattle.uca_order.specs.Levels.{lexicographic}
+use Rattle.uca_compact.specs.declared.letters.Letters.{Letters}
+use Rattle.uca_compact.specs.declared.later_level.LaterLevel.{LaterLevel}
+use Rattle.uca_compact.specs.Forms.{Form, AreWeights}
+use Rattle.uca_compact.specs.PlainLevels.{letters_after, letter_count}
+use Rattle.uca_compact.specs.CompactKeys.{level_code}
+use Rattle.uca_compact.specs.StoredParts.{stored_level}
+use Rattle.uca_compact.specs.inside.StoredEnds.{level_of, weights_before}
+
+-- the weights of level 1 before a position of the key were counted, and written after the bytes `before`
+pub record IsWrittenTo (f : Form) (key before out : List ℕ) (at count : ℕ) (lead : Bool) : Type 0 where
+  pub weights : List ℕ
+  pub size : 2 * length weights ≡ at
+  pub within : at ≤ length key
+  pub few : count ≤ length weights
+  pub are : AreWeights weights
+  pub read : weights_before weights (stored_level (drop at key)) ≡ stored_level key
+  pub counted : (more : List ℕ) → count + letters_after lead more ≡ letter_count (weights ++ more)
+  pub code : (end : ℕ) (more : List ℕ) → out ++ level_code f end 0 more ≡ before ++ level_code f end 0 (weights ++ more)
+
+-- level 1 of the key was counted, and written after the bytes `before`, without its end
+pub record IsFirstLevel (f : Form) (key before out : List ℕ) (letters : Letters) : Type 0 where
+  pub weights : List ℕ
+  pub read : stored_level key ≡ Some (record { weights = weights; rest = Some letters.rest.now })
+  pub len : letters.len ≡ length weights
+  pub count : letters.count ≡ letter_count weights
+  pub few : letters.count ≤ letters.len
+  pub within : letters.len ≤ length key
+  pub code : (end : ℕ) → out ++ level_code f end 0 [] ≡ before ++ level_code f end 0 weights
+
+-- a level after others was compared to the plain one, and its weights were kept unless it is that one
+pub record IsLaterLevel (bytes plain kept : List ℕ) (found : LaterLevel) : Type 0 where
+  pub weights : List ℕ
+  pub read : stored_level bytes ≡ level_of found.end weights
+  pub order : found.order ≡ lexicographic weights plain
+  pub len : found.len ≡ length weights
+  pub same : is_eq found.order ≡ false → kept ≡ weights

@@ -1,0 +1,6 @@
+-- No code point decomposes to a digit but a digit.
+use Rattle.uca_digits.proofs.NfdDigits.{texts_stay}
+use Rattle.uca_digits.proofs.texts_without_digits_stay.Goals as goal
+
+pub returns : goal.returns
+returns c = texts_stay

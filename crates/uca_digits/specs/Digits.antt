@@ -1,0 +1,8 @@
+-- Texts without digits, written by value.
+use Rattle.std.specs.Prelude.{◌≡◌, ℕ, List, false}
+use Rattle.unicode_normalization.specs.Forms.{nfd}
+use Rattle.uca_numbers.specs.Texts.{by_value, has_digit}
+
+-- a text that has no digit has none in Normalization Form D, so there it is the same by value
+abbrev pub TextsWithoutDigitsStay : Type 0
+TextsWithoutDigitsStay = (points : List ℕ) → has_digit points ≡ false → by_value (nfd points) ≡ nfd points

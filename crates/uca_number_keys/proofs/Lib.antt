@@ -1,0 +1,5 @@
+pub mod LoneReading
+pub mod DigitReading
+pub mod FirstLevels
+pub mod NumberOrder
+pub mod TableChecks

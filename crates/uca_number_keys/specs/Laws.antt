@@ -1,0 +1,40 @@
+-- Texts with numbers are ordered by the values of the numbers.
+use Rattle.std.specs.Prelude.{◌≡◌, ◌≢◌, ℕ, List, ◌++◌}
+use Rattle.std.specs.Ordering.{nat_cmp, ordering_then}
+use Rattle.uca_weights.specs.declared.Depth.{Depth}
+use Rattle.uca_weights.specs.declared.Weighting.{Weighting}
+use Rattle.uca_elements.specs.Collations.{Collation}
+use Rattle.uca_order.specs.Levels.{lexicographic}
+use Rattle.uca_order.specs.Depths.{compared_at, key_at}
+use Rattle.uca_numbers.specs.Numbers.{value}
+use Rattle.uca_numbers.specs.Texts.{IsNumberBetween}
+use Rattle.uca_number_keys.specs.Tables.{OrdersNumbers}
+use Rattle.uca_number_keys.specs.Keys.{read_by_value, first_level}
+
+-- Two texts in Normalization Form D, each with a number in it. What comes before these does not differ at level 1.
+pub record HaveNumbers (c : Collation) (weighting : Weighting) (front a rest other b more : List ℕ) : Type 0 where
+  pub left : IsNumberBetween front a rest
+  pub right : IsNumberBetween other b more
+  pub same : first_level c weighting front ≡ first_level c weighting other
+
+-- Under a table that orders numbers the numbers of two such texts decide by their values, as a difference at level 1.
+pub record NumbersOrderTexts : Type 0 where
+  -- at level 1 the values decide, and after them what follows the numbers
+  pub level_1 : (c : Collation) (weighting : Weighting) (front a rest other b more : List ℕ) → OrdersNumbers c → HaveNumbers c weighting front a rest other b more →
+      lexicographic (first_level c weighting (front ++ (a ++ rest))) (first_level c weighting (other ++ (b ++ more)))
+      ≡ ordering_then (nat_cmp (value a) (value b)) (lexicographic (first_level c weighting rest) (first_level c weighting more))
+  -- so texts with other values differ at level 1
+  pub texts : (c : Collation) (depth : Depth) (weighting : Weighting) (front a rest other b more : List ℕ) → OrdersNumbers c →
+      HaveNumbers c weighting front a rest other b more → value a ≢ value b →
+      compared_at depth weighting (read_by_value c (front ++ (a ++ rest))) (read_by_value c (other ++ (b ++ more)))
+      ≡ record { order = nat_cmp (value a) (value b); level = 1 }
+  -- and the bytes of their keys are in the order of the values
+  pub keys : (c : Collation) (depth : Depth) (weighting : Weighting) (front a rest other b more : List ℕ) → OrdersNumbers c →
+      HaveNumbers c weighting front a rest other b more → value a ≢ value b →
+      lexicographic (key_at depth weighting (read_by_value c (front ++ (a ++ rest)))) (key_at depth weighting (read_by_value c (other ++ (b ++ more))))
+      ≡ nat_cmp (value a) (value b)
+
+-- Texts that differ in leading zeros alone have the same elements, under any table.
+abbrev pub LeadingZerosMeanNothing : Type 0
+LeadingZerosMeanNothing = (c : Collation) (front a b rest : List ℕ) → IsNumberBetween front a rest → IsNumberBetween front b rest → value a ≡ value b →
+    (read_by_value c (front ++ (a ++ rest))).elements ≡ (read_by_value c (front ++ (b ++ rest))).elements

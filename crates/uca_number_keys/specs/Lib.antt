@@ -1,0 +1,4 @@
+pub mod Tables
+pub mod Keys
+pub mod Laws
+pub mod inside

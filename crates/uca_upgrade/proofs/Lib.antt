@@ -1,0 +1,3 @@
+pub mod Renewed
+pub mod Reading
+pub mod Opened

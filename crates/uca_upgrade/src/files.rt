@@ -1,0 +1,161 @@
+//! The six files of an upgrade, read from their bytes.
+
+ghost use Rattle.std.specs.Prelude.{◌≡◌, IfOk, IfErr, MatchResult};
+ghost use Rattle.uca_values.specs.Content.{TableContent, Properties, properties_of};
+ghost use Rattle.uca_changes.specs.Changes.{Change};
+ghost use Rattle.uca_owned.specs.Opening.{MeanFiles, IsOpenCause, IsOpenStop};
+ghost use Rattle.uca_upgrade.specs.Files.{MeanChange};
+ghost use Rattle.uca_upgrade.specs.Causes.{AreEditions, IsUpgradeCause, IsUpgradeStop};
+ghost use Rattle.uca_upgrade.specs.inside.Read.{AreEditionsOf, EditionsMean, IsListedOf, ListMeans, change_of, new_fault_of, old_fault_of};
+
+use crate::faults::UpgradeFault;
+use std::alloc::Global;
+use uca_certificates::{Certificate, read_certificate};
+use uca_change_files::{ChangeList, read_changes};
+use uca_owned::OpenFault;
+use uca_table::{read_data, read_table};
+use uca_values::{Data, Table};
+use uca_weights::Source;
+
+/// The bytes of the six files of an upgrade.
+#[derive(Clone, Copy)]
+pub struct UpgradeFiles<'a> {
+    /// The table that the stored keys were made by.
+    pub old_table: &'a [u8],
+    /// Its data file.
+    pub old_data: &'a [u8],
+    /// The table that keys are made by from now on.
+    pub new_table: &'a [u8],
+    /// Its data file.
+    pub new_data: &'a [u8],
+    /// The file of changes: the texts and the ranges of code points that change.
+    pub changes: &'a [u8],
+    /// The certificate: the images of the old table's weights.
+    pub certificate: &'a [u8],
+}
+
+// What a table and its data file mean.
+#[derive(Drop)]
+pub(crate) struct Edition {
+    pub(crate) table: Table,
+    pub(crate) properties: Data,
+}
+
+// What the files of both editions mean.
+#[derive(Drop)]
+pub(crate) struct Editions {
+    pub(crate) old: Edition,
+    pub(crate) new: Edition,
+}
+
+// What a file of changes and a certificate mean.
+#[derive(Drop)]
+pub(crate) struct Listed {
+    pub(crate) list: ChangeList,
+    pub(crate) certificate: Certificate,
+}
+
+// What all six files mean.
+#[derive(Drop)]
+pub(crate) struct ReadChange {
+    pub(crate) editions: Editions,
+    pub(crate) listed: Listed,
+}
+
+// Reads the six files, in their order.
+pub(crate) fn read_change(alloc: Global, files: &UpgradeFiles) -> Result<ReadChange, UpgradeFault>
+    ensures found { IfOk result (λ read. MeanChange files.now (change_of read)) }
+    ensures only { (change : Change) → MeanChange files.now change →
+        MatchResult result (λ read. change_of read ≡ change) (IsUpgradeStop change) }
+    ensures fault { IfErr result (IsUpgradeCause files.now) }
+{
+    match read_editions(alloc, files) {
+        Ok(editions) => match read_listed(alloc, files) {
+            Ok(listed) => Ok(ReadChange { editions, listed }),
+            Err(fault) => {
+                drop(editions);
+                Err(fault)
+            }
+        },
+        Err(fault) => Err(fault),
+    }
+}
+
+// Reads the files of the old edition, and then those of the new one.
+fn read_editions(alloc: Global, files: &UpgradeFiles) -> Result<Editions, UpgradeFault>
+    ensures found { IfOk result (EditionsMean files.now) }
+    ensures only { (change : Change) → MeanChange files.now change →
+        MatchResult result (AreEditionsOf change) (IsUpgradeStop change) }
+    ensures fault { IfErr result (IsUpgradeCause files.now) }
+{
+    match read_edition(alloc, files.old_table, files.old_data) {
+        Ok(old) => match read_edition(alloc, files.new_table, files.new_data) {
+            Ok(new) => Ok(Editions { old, new }),
+            Err(fault) => {
+                drop(old);
+                Err(new_fault(fault))
+            }
+        },
+        Err(fault) => Err(old_fault(fault)),
+    }
+}
+
+// Reads a table, and then its data file.
+fn read_edition(alloc: Global, table: &[u8], data_file: &[u8]) -> Result<Edition, OpenFault>
+    ensures found { IfOk result (λ read. MeanFiles table.now data_file.now read.table (properties_of read.properties)) }
+    ensures only { (meant : TableContent) (properties : Properties) → MeanFiles table.now data_file.now meant properties →
+        MatchResult result (λ read. (read.table ≡ meant) × (properties_of read.properties ≡ properties)) IsOpenStop }
+    ensures fault { IfErr result (IsOpenCause table.now data_file.now) }
+{
+    match read_table(alloc, &mut Source::new(table)) {
+        Ok(table) => match read_data(alloc, &mut Source::new(data_file)) {
+            Ok(properties) => Ok(Edition { table, properties }),
+            Err(fault) => {
+                drop(table);
+                Err(OpenFault::Data(fault))
+            }
+        },
+        Err(fault) => Err(OpenFault::Table(fault)),
+    }
+}
+
+// Reads the file of changes, and then the certificate.
+fn read_listed(alloc: Global, files: &UpgradeFiles) -> Result<Listed, UpgradeFault>
+    ensures found { IfOk result (ListMeans files.now) }
+    ensures only { (change : Change) → MeanChange files.now change →
+        MatchResult result (IsListedOf change) (IsUpgradeStop change) }
+    ensures fault { IfErr result (λ fault. AreEditions files.now → IsUpgradeCause files.now fault) }
+{
+    match read_changes(alloc, &mut Source::new(files.changes)) {
+        Ok(list) => match read_certificate(alloc, &mut Source::new(files.certificate)) {
+            Ok(certificate) => Ok(Listed { list, certificate }),
+            Err(fault) => {
+                drop(list);
+                Err(UpgradeFault::Certificate(fault))
+            }
+        },
+        Err(fault) => Err(UpgradeFault::Changes(fault)),
+    }
+}
+
+// The error of a file of the old edition.
+fn old_fault(fault: OpenFault) -> UpgradeFault
+    ensures { result ≡ old_fault_of fault }
+{
+    match fault {
+        OpenFault::Table(fault) => UpgradeFault::OldTable(fault),
+        OpenFault::Data(fault) => UpgradeFault::OldData(fault),
+        OpenFault::Memory => UpgradeFault::Memory,
+    }
+}
+
+// The error of a file of the new edition.
+fn new_fault(fault: OpenFault) -> UpgradeFault
+    ensures { result ≡ new_fault_of fault }
+{
+    match fault {
+        OpenFault::Table(fault) => UpgradeFault::NewTable(fault),
+        OpenFault::Data(fault) => UpgradeFault::NewData(fault),
+        OpenFault::Memory => UpgradeFault::Memory,
+    }
+}
