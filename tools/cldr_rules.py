@@ -1,5 +1,6 @@
 """CLDR's collation files: which rules a locale has, and what their text says (UTS #35 Part 5, section 3). Part of tools/languages.py."""
 import os
+import re
 import unicodedata
 import xml.etree.ElementTree
 from typing import NamedTuple
@@ -7,6 +8,10 @@ from typing import NamedTuple
 WHITE = set("\t\n\x0b\x0c\r \x85\u200e\u200f\u2028\u2029")
 ENDS_OF_COMMENTS = set("\n\x0c\r\x85\u2028\u2029")
 STRENGTHS = {"<": 1, "<<": 2, "<<<": 3, "<<<<": 4, "=": 0, ";": 2, ",": 3}
+
+ELEMENTS = {"ldml", "identity", "version", "language", "script", "territory", "variant", "collations", "defaultCollation", "collation", "cr"}  # of a file
+MOST_ITEMS = 200_000  # settings, resets and relations of a collation: a table has at most so many rows
+MOST_IMPORTS = 100
 
 # Names of collations in locale identifiers that differ from those in the files (UTS #35, key "co").
 KINDS = {"phonebk": "phonebook", "trad": "traditional", "dict": "dictionary", "gb2312": "gb2312han"}
@@ -71,11 +76,10 @@ def collations(folder, locale, is_short=False):
         root = xml.etree.ElementTree.parse(path).getroot()
     except (OSError, xml.etree.ElementTree.ParseError) as error:
         raise CldrError(f"{path}: {error}") from error
-    found = {}
+    unknown, found = {it.tag for it in root.iter()} - ELEMENTS, {}
+    if unknown:
+        raise CldrError(f"{path}: <{min(unknown)}> is not known")
     for it in root.iter("collation"):
-        unknown = {one.tag for one in it.iter()} - {"collation", "cr"}
-        if unknown:
-            raise CldrError(f"{path}: <{min(unknown)}> in a collation is not known")
         if it.get("alt") is None or is_short and it.get("alt") == "short":
             found[it.get("type")] = "".join(cr.text or "" for cr in it.iter("cr"))
     default = root.find("collations/defaultCollation")
@@ -105,8 +109,18 @@ def kind_and_rules(folder, name, is_short=False):
 # ---- The text of rules
 
 
-def members(text):
-    """The members of a set such as `[a-c {ch} \\u0300]`, without its brackets (UTS #35 Part 1, section 5.3)."""
+def add_range(found, last):
+    """Adds the characters after the last one that was found, up to the end of a range."""
+    first = ord(found[-1]) + 1
+    if ord(last) < first - 1:
+        raise ValueError(f"the range {found[-1]}-{last} goes down")
+    if len(found) + ord(last) - first > MOST_ITEMS:
+        raise ValueError(f"more than {MOST_ITEMS} characters in ranges")
+    found += map(chr, range(first, ord(last) + 1))
+
+
+def read_members(text):
+    """The members of a set, without its brackets."""
     found, at, is_range = [], 0, False
     while at < len(text):
         character, size = text[at], 1
@@ -122,11 +136,19 @@ def members(text):
         elif character == "\\":
             character, size = escape(text, at)
         if is_range:
-            found += map(chr, range(ord(found[-1]) + 1, ord(character) + 1))
+            add_range(found, character)
         else:
             found.append(character)
         is_range, at = False, at + size
     return found
+
+
+def members(text):
+    """The members of a set such as `[a-c {ch} \\u0300]`, without its brackets (UTS #35 Part 1, section 5.3)."""
+    try:
+        return read_members(text)
+    except (IndexError, ValueError, TypeError) as error:
+        raise CldrError(f"the set [{text[:30]}] cannot be read: {error}") from error
 
 
 def escape(text, at):
@@ -229,7 +251,7 @@ class Reader:
         found, is_range = [], False
         for character, is_plain in self.characters():
             if is_range:
-                found += map(chr, range(ord(found[-1]) + 1, ord(character) + 1))
+                add_range(found, character)
                 is_range = False
             elif character == "-" and is_plain:
                 is_range = True
@@ -251,7 +273,7 @@ class Reader:
             name = self.bracket()
             if not name.startswith("before "):
                 return Reset(0, name, True)
-            before = int(name[-1])
+            before = int(name.removeprefix("before "))
             if self.next() == "[":
                 return Reset(before, self.bracket(), True)
         return Reset(before, nfd(self.plain()), False)
@@ -278,22 +300,42 @@ class Reader:
                 raise CldrError(f"rules that this script cannot read: {self.text[self.at : self.at + 20]!r}")
 
 
+def imported_name(setting):
+    """The collation that a setting such as `import sv` names; none for another setting."""
+    word, _, name = setting.partition(" ")
+    if word != "import":
+        return ""
+    if not re.fullmatch("[A-Za-z0-9-]+", name):
+        raise CldrError(f"[{setting}] names no collation")
+    return name if "-u-co-" in name else name + "-u-co-standard"
+
+
 def read_items(folder, name, is_short):
     """The settings, resets and relations of a locale's own rules. Text that ends too early is an error."""
     try:
-        return list(Reader(rules_text(folder, name, is_short)).items())
-    except (IndexError, ValueError, KeyError) as error:
+        yield from Reader(rules_text(folder, name, is_short)).items()
+    except (IndexError, ValueError, KeyError, TypeError) as error:
         raise CldrError(f"{name}: the rules of CLDR cannot be read: {error}") from error
 
 
-def items_of(folder, name, is_short=False, importing=()):
-    """The settings, resets and relations of a locale; those of an import take its place."""
+def with_imports(folder, name, is_short, importing=()):
+    """The items of a locale; after each import come those that it imports."""
     if name in importing:
         raise CldrError(f"{name}: its rules import themselves: {' > '.join((*importing, name))}")
     for item in read_items(folder, name, is_short):
-        if isinstance(item, Setting) and item.name.startswith("import "):
-            imported = item.name.split()[1]
-            imported = imported if "-u-co-" in imported else imported + "-u-co-standard"
-            yield from items_of(folder, imported, is_short, (*importing, name))
-        else:
+        yield item
+        imported = imported_name(item.name) if isinstance(item, Setting) else ""
+        if imported:
+            yield from with_imports(folder, imported, is_short, (*importing, name))
+
+
+def items_of(folder, name, is_short=False):
+    """The settings, resets and relations of a locale; those of an import take its place."""
+    imports = 0
+    for count, item in enumerate(with_imports(folder, name, is_short)):
+        is_import = isinstance(item, Setting) and bool(imported_name(item.name))
+        imports += is_import
+        if count == MOST_ITEMS or imports > MOST_IMPORTS:
+            raise CldrError(f"{name}: its rules are more than {MOST_ITEMS} settings, resets and relations, or more than {MOST_IMPORTS} imports")
+        if not is_import:
             yield item

@@ -81,6 +81,8 @@ class Rules:
         strength, draft = item.strength % 4, self.draft
         if self.anchor is None or not item.target:
             raise CldrError(f"a relation has no {'target' if self.anchor else 'anchor'}")
+        if self.before not in (0, strength):
+            raise CldrError(f"[before {self.before}] is followed by a relation at level {strength}")
         try:
             made = draft.placed(self.anchor, strength, bool(self.before)) if strength else [it.copy() for it in self.anchor]
         except CldrError as error:
@@ -138,13 +140,14 @@ class Made:
 
     def __init__(self, tag: Tag, table: str, data: str, cldr: str, is_short: bool = False):
         self.tag = tag
+        self.kind = kind_and_rules(cldr, tag.name, is_short)[0]
+        items = list(items_of(cldr, tag.name, is_short))
         self.draft = Draft(table, data)
         script_order.set_groups(self.draft, script_order.scripts())
         script_order.make_root(self.draft)
         han_order.begin(self.draft)
         self.rules = Rules(self.draft)
-        self.kind = kind_and_rules(cldr, tag.name, is_short)[0]
-        for item in items_of(cldr, tag.name, is_short):
+        for item in items:
             self.rules.take(item)
         self.settings(cldr)
         self.finish()

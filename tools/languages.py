@@ -15,6 +15,9 @@ comment at the head names what CLDR says and the profile cannot. The rules are p
 `keep SCRIPT TABLE DATA NEW CERTIFICATE` prints changes from one table to another, and writes their certificate. Like `uca changes` does, but the letters of the
 script stay, and the letters that they pass are listed. `uca audit-changes` accepts them before they are printed.
 
+`labels TAG TABLE DATA` prints the labels of an index, from CLDR and the table of the language: where each bucket begins, a tab, and its label. docs/FROM_KEYS.md uses
+it.
+
 Whatever else a tag has is an error: nothing is printed, and the status is 1.
 
 Debian's packages: unicode-cldr-core has the files of CLDR, unicode-data those of Unicode. The program is crates/uca/out/uca, which tools/build.py builds, or else
@@ -35,6 +38,7 @@ sys.dont_write_bytecode = True
 import script_order
 import unicode_files
 from cldr_rules import CldrError, Relation, Reset, items_of
+from index_labels import index_labels
 from kept_changes import kept_changes
 from language_tables import table_of
 from language_tags import read_tag, script_codes
@@ -226,6 +230,16 @@ def print_kept(options):
     sys.stdout.write(changes)
 
 
+# ---- Labels of an index
+
+
+def print_labels(options):
+    tag = read_tag(options.cldr, options.tag)
+    check_given(options)
+    for text, label in list(index_labels(tag, options.table, options.data, options.cldr)):
+        sys.stdout.write(f"{text}\t{label}\n")
+
+
 def main():
     parser = argparse.ArgumentParser(description=__doc__.split("\n", maxsplit=1)[0], epilog="docs/LANGUAGES.md says more.")
     parser.add_argument("--cldr", default=CLDR, help=f"the folder of CLDR's files ({CLDR})")
@@ -234,12 +248,14 @@ def main():
     table = commands.add_parser("table", help="prints the table of a language")
     rules = commands.add_parser("rules", help="prints rules of a language")
     keep = commands.add_parser("keep", help="prints changes that keep the letters of a script")
-    for command in (table, rules):
+    labels = commands.add_parser("labels", help="prints the labels of an index")
+    for command in (table, rules, labels):
         command.add_argument("tag", help="a language tag, such as sv or de-u-co-phonebk")
     keep.add_argument("script", help="the code of a script, such as Cyrl")
     for command in (table, rules, keep):
         command.add_argument("table", help="Unicode's table")
-    for command in (table, keep):
+    labels.add_argument("table", help="the table of the language")
+    for command in (table, keep, labels):
         command.add_argument("data", help="the data file")
     rules.add_argument("--part", type=int, help="a part of more than 5,000 relations: part 2 is for the table that part 1 made")
     table.add_argument("--short", action="store_true", help="the short lists of Chinese")
@@ -247,7 +263,7 @@ def main():
     keep.add_argument("certificate", help="the file of the certificate, which is replaced")
     options = parser.parse_args()
     try:
-        {"rules": print_rules, "table": print_table, "keep": print_kept}[options.command](options)
+        {"rules": print_rules, "table": print_table, "keep": print_kept, "labels": print_labels}[options.command](options)
     except (CldrError, OSError) as error:
         sys.exit(str(error))
 

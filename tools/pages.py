@@ -8,7 +8,7 @@ of a page run in turn in one shell. They run in a fresh folder that has a copy o
 of examples/ runs in that copy. The program is crates/uca/out/uca, which tools/build.py builds.
 
 A block ```console unicode needs files of Debian's packages unicode-data and unicode-cldr-core. Without them
-it is not run, and a line says so. docs/STORED_KEYS.md needs the package sqlite3; its blocks ```console postgresql need a server, so
+it is not run, and a line says so. docs/FROM_KEYS.md needs the package sqlite3. So does docs/STORED_KEYS.md. Its blocks ```console postgresql need a server, so
 examples/databases/run_all.py runs them. The last line is `N passed, M failed`, and how many were not run if there are any. A named
 page without a command fails. (Blocks of `sh` are not run: docs/GATE.md and docs/LIBRARY.md have one each, which build.)
 """

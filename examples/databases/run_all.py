@@ -4,11 +4,11 @@
     examples/databases/run_all.py [EXAMPLE..] [--uca PROGRAM] [--lines COUNT] [--part COUNT]
         [--table FILE --data FILE] [--namespaces]
 
-The examples are sqlite, postgresql, parts, workers, tailoring, upgrade and page; all of them, unless some are named. `--uca` is the program
+The examples are sqlite, postgresql, parts, workers, tailoring, upgrade, from_keys and page; all of them, unless some are named. `--uca` is the program
 (crates/uca/out/uca), `--lines` how many lines are made (20,000). Without `--table` and `--data` it makes both of Unicode's files in
 /usr/share/unicode, as docs/UNICODE.md says. The upgrade begins at Unicode 13.0.0, which Perl brings. It starts a PostgreSQL server and a Dask scheduler of its own and stops them at the end.
 It installs nothing. It needs these packages of Debian, and an example without its package has failed: unicode-data, sqlite3,
-postgresql, postgresql-client, python3-distributed, perl-modules-5.36. The last line is `N passed, M failed`.
+postgresql, postgresql-client, python3-distributed, perl-modules-5.36; for `from_keys` g++, libicu-dev, unicode-cldr-core, wfrench. The last line is `N passed, M failed`.
 """
 import argparse
 import contextlib
@@ -28,6 +28,7 @@ sys.path[:0] = [HERE, f"{TOP}/tests/by_hand"]
 
 import editions  # noqa: E402
 import packages  # noqa: E402
+import tries_from_keys  # noqa: E402
 from local_servers import Network, PostgreSQL, Workers  # noqa: E402
 
 MOST_LINES = 1_000_000
@@ -573,6 +574,17 @@ def upgrade_is_killed(bench, upgrade, store):
     bench.check(f"upgrade: {store.KIND}: killed in the middle, it leaves a whole state", 2 not in found and found.count(0) > 4, said)
 
 
+# ---- From keys alone
+
+
+def try_from_keys(bench):
+    """What from_keys.py makes of keys, beside ICU."""
+    missing = packages.missing(["g++", "libicu-dev", "unicode-cldr-core", "sqlite3", "wfrench"])
+    if missing:
+        raise Failed(f"Debian's {', '.join(missing)} are not here")
+    tries_from_keys.try_all(bench)
+
+
 # ---- The page
 
 
@@ -592,7 +604,8 @@ def try_page(bench):
 
 # ---- All
 
-EXAMPLES = {"sqlite": try_sqlite, "postgresql": try_postgresql, "parts": try_parts, "workers": try_workers, "tailoring": try_tailoring, "upgrade": try_upgrade, "page": try_page}
+EXAMPLES = {"sqlite": try_sqlite, "postgresql": try_postgresql, "parts": try_parts, "workers": try_workers, "tailoring": try_tailoring, "upgrade": try_upgrade,
+            "from_keys": try_from_keys, "page": try_page}
 BOTH = {"sqlite3": "sqlite3", "psql": "postgresql"}
 WANTED = {"sqlite": {"sqlite3": "sqlite3"}, "postgresql": {"psql": "postgresql"}, "workers": {"dask-scheduler": "python3-distributed"},
           "tailoring": BOTH, "upgrade": BOTH, "page": BOTH}

@@ -34,7 +34,7 @@ import language_errors
 import language_lines
 import languages
 import packages
-from cldr_rules import KINDS, CldrError, Relation, collations, escaped, items_of, kind_and_rules, nfd, rules_text
+from cldr_rules import KINDS, CldrError, Relation, collations, escaped, imported_name, items_of, kind_and_rules, nfd, rules_text
 from language_tables import Made
 from language_tags import read_tag
 from profile_rules import LEFT_OUT, Table
@@ -59,6 +59,10 @@ class Sizes(NamedTuple):
     made: int = 1000
     mixed: int = 500
     real: int = 1000
+
+
+# For the locales of large orders.
+LARGE, MANY = ("ja", "ko", "zh", "zh_Hant"), Sizes(20_000, 2000, 20_000)
 
 
 class Setup(NamedTuple):
@@ -168,6 +172,11 @@ def elsewhere(lines, ours, theirs):
     return str(count or sum((ours[a] == ours[b]) != (theirs[a] == theirs[b]) for a, b in zip(left, left[1:])))
 
 
+def whole_rules(name):
+    """The rules of a collation with those that it imports: ICU would take these from its own edition of CLDR."""
+    return re.sub(r"\[(import [^]]+)\]", lambda it: whole_rules(imported_name(it[1])), rules_text(LOCALES, name, True))
+
+
 # ---- A collation
 
 
@@ -204,17 +213,18 @@ class Tries:
 
     def same_rules(self, left_out):
         """The name of a file with the text of the rules for ICU, without the settings that are left out."""
-        text = escaped(rules_text(LOCALES, self.tag.name, True))
+        text = escaped(whole_rules(self.tag.name))
         words = "|".join(word for what, word in LEFT_OUT.items() if what in left_out)
         return languages.write(os.path.join(self.folder, "icu_rules"), re.sub(rf"\[({words}) [^]]*\]", "", text) if words else text)
 
     def beside_icu(self):
         """The row of the page. ICU cannot read rules with the settings of a tag beside them."""
         setup, weighting, name = self.setup, self.made.rules.weighting, self.tag.name
+        sizes = MANY if setup.sizes == Sizes() and self.tag.locale in LARGE else setup.sizes
         letters, special = language_lines.letters(LOCALES, name), language_lines.named_by(self.items)
-        made = language_lines.made(name, letters, special, setup.sizes.made)
-        mixed = sorted({*made, *language_lines.mixed(name, letters, setup.sizes.mixed)})
-        real = language_lines.real(LOCALES, name, setup.sizes.real)
+        made = language_lines.made(name, letters, special, sizes.made)
+        mixed = sorted({*made, *language_lines.mixed(name, letters, sizes.mixed)})
+        real = language_lines.real(LOCALES, name, sizes.real)
         ours = keys_of(setup, self.table, sorted({*mixed, *real}), weighting)
         same, rules, left_out = "", "", ""
         if {*self.tag.settings} <= {"kb"}:
