@@ -7,7 +7,7 @@
 // A module whose memory has 32-bit addresses has the same calls: addresses are BigInts in both.
 
 const MOST_FILES = 6;
-const OUT_OF_MEMORY = 101;
+const OUT_OF_MEMORY = 257;
 const encoder = new TextEncoder();
 const decoder = new TextDecoder();
 

@@ -1,5 +1,5 @@
 -- Files in the caller's memory: those that are given have names, and one can be made.
-use Rattle.std.specs.Prelude.{◌≡◌, ◌∷◌, [], ℕ, Bool, false, if◌then◌else◌, List, Option, Some, None, Result, Ok, option_copied}
+use Rattle.std.specs.Prelude.{◌≡◌, ◌∷◌, [], ℕ, false, if◌then◌else◌, List, Option, Some, None, Ok, option_copied}
 use Rattle.std.specs.Result.{result_ok}
 use Rattle.std.specs.Borrow.{Bor}
 use Rattle.std.specs.Str.{bytes_eq}

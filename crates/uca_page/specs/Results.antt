@@ -1,5 +1,5 @@
 -- What a call says of the run of a command.
-use Rattle.std.specs.Prelude.{◌≡◌, ◌++◌, [], ℕ, Bool, false, List, length, take, drop, Option, Some, None}
+use Rattle.std.specs.Prelude.{◌≡◌, ◌++◌, [], ℕ, false, List, length, take, drop, Option, Some, None}
 use Rattle.uca_weights.specs.Streams.{SourceState, SinkState}
 use Rattle.uca_cli.specs.Command.{DoesCommand, streams}
 use Rattle.uca_page.specs.TextLists.{texts_in}

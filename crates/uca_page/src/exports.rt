@@ -1,6 +1,6 @@
 //! The call that a page makes. Its clauses hold for every argument.
 
-ghost use Rattle.std.specs.Prelude.{◌≡◌, ◌≢◌, ◌↔◌, ◌⊎◌, ◌∷◌, [], ¬◌, IfOk, map};
+ghost use Rattle.std.specs.Prelude.{◌≡◌, ◌≢◌, ◌↔◌, ◌⊎◌, ◌∷◌, [], IfOk, map};
 ghost use Rattle.std.specs.Str.{IsUtf8};
 ghost use Rattle.uca_page.specs.TextLists.{texts_in};
 ghost use Rattle.uca_page.specs.Results.{RunsInMemory, Tells, TellsNothing, TellsRun, kept_bytes, kept_count, rooms};
@@ -56,8 +56,8 @@ fn run_lists(
 /// the files from the first on. The output, the errors and the file that the command makes are copied as far as there is
 /// room for them, and `lengths` tells how many bytes they have.
 ///
-/// Where the arguments or the names are not UTF-8, it returns 100. Where an allocation fails before the command begins, it
-/// returns 101. Then no command ran, and all lengths are 0.
+/// Where the arguments or the names are not UTF-8, it returns 256. Where an allocation fails before the command begins, it
+/// returns 257. Then no command ran, and all lengths are 0.
 #[unsafe(no_mangle)]
 pub extern "C" fn uca_run(
     alloc: Global,

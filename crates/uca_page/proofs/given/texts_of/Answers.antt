@@ -1,7 +1,6 @@
-use Rattle.std.proofs.Common.{rules, arith, ◌≡◌, IfOk, map, ℕ, ◌<◌, length, List}
+use Rattle.std.proofs.Common.{arith}
 use Rattle.std.proofs.lemmas.Iterator.Consumers.{map_from_collect}
 use Rattle.std.proofs.lemmas.Iterator.Splits.{YieldsList-from_str_split}
-use Rattle.uca_page.specs.TextLists.{texts_in}
 use Rattle.uca_page.proofs.given.texts_of.Goals as goal
 
 pub returns : goal.returns
