@@ -26,6 +26,8 @@ TESTS = {
     "certificates": [],
     "books": [],
     "bindings": [],
+    "other_languages": [],
+    "package_installs": [],
     "unicode_tables": [],
     "languages": ["--quick"],
     "editions": [],
