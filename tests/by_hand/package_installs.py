@@ -346,7 +346,7 @@ def wheel_used(tests):
     kept = {it: text for it, text in os.environ.items() if it not in ("PYTHONPATH", "UCA_LIBRARY", "LD_LIBRARY_PATH")}
     run([f"{folder}/bin/pip", "install", "-q", "--no-index", "--disable-pip-version-check", tests.file("uca-*.whl")], env=kept)
     run([f"{folder}/bin/pip", "check"], env=kept)
-    run([f"{folder}/bin/python", "-W", "error", "-m", "unittest", "-q", "discover", "-s", f"{TOP}/bindings/python/tests"], env=kept, cwd=folder)
+    run([f"{folder}/bin/python", "-W", "error", "-m", "unittest", "discover", "-q", "-s", f"{TOP}/bindings/python/tests"], env=kept, cwd=folder)
     program = "import importlib.metadata as m, uca; v = m.version('uca'); print(uca.__version__ == v, '.'.join(map(str, uca.library_version)) == v)"
     same(run([f"{folder}/bin/python", "-c", program], env=kept, cwd=folder), b"True True\n", "the versions")
     write(f"{folder}/keys.py", PYTHON_KEYS)
