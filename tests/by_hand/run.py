@@ -27,6 +27,8 @@ TESTS = {
     "books": [],
     "tool_errors": [],
     "bindings": [],
+    "other_languages": [],
+    "package_installs": [],
     "unicode_tables": [],
     "languages": ["--quick"],
     "editions": [],
