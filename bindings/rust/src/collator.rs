@@ -109,8 +109,7 @@ impl Collator {
     ///
     /// # Errors
     ///
-    /// Those of [`Collator::key`], and [`TextError::NoRange`] where `uca.h` says that a collator has no range of this
-    /// kind.
+    /// Those of [`Collator::key`].
     pub fn range(&mut self, text: impl AsRef<[u8]>, of: RangeOf) -> Result<Range<Vec<u8>>, TextError> {
         let text = text.as_ref();
         Ok(self.end(text, of, calls::LOW)?..self.end(text, of, calls::HIGH)?)

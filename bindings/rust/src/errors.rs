@@ -115,8 +115,6 @@ pub enum TextError {
     TooLong,
     /// The text has more than 64 non-starters in a row in Normalization Form D.
     LongRun,
-    /// The library has no range of this kind for the keys of this collator.
-    NoRange,
     /// Memory ran out. The call may be tried again.
     Memory,
 }
@@ -128,7 +126,6 @@ impl TextError {
             calls::UTF8 => Self::Utf8,
             calls::TOO_LONG => Self::TooLong,
             calls::LONG_RUN => Self::LongRun,
-            calls::ARGUMENT => Self::NoRange,
             calls::MEMORY => Self::Memory,
             other => unreachable!("uca.h has no status {other} for a text of an open collator"),
         }
@@ -141,7 +138,6 @@ impl fmt::Display for TextError {
             Self::Utf8 => "the text is not UTF-8",
             Self::TooLong => "the text has more than 1,048,576 code points",
             Self::LongRun => "the text has more than 64 non-starters in a row",
-            Self::NoRange => "the keys of this collator have no range of this kind",
             Self::Memory => "out of memory",
         })
     }

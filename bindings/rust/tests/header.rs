@@ -100,7 +100,7 @@ fn numbers() {
         assert_eq!(value.parse::<u32>().expect("a number"), number(&format!("UCA_{name}")), "{name}");
         count += 1;
     }
-    assert_eq!(count, 16);
+    assert_eq!(count, 15);
 }
 
 #[test]
