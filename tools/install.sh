@@ -1,32 +1,73 @@
 #!/bin/sh
-# Installs uca, its manual page, its completions, its licenses and its documents.
+# Installs uca, its manual page, its completions, its licenses and the pages for users. It lists each file that it writes.
 #
-#     tools/install.sh [PREFIX]       PREFIX is /usr/local, unless it is given
+#     tools/install.sh [PREFIX]                 PREFIX is /usr/local, unless it is given
+#     tools/install.sh --uninstall [PREFIX]     takes away what the first form installed there, and lists it
 #
 # DESTDIR, if it is set, comes before PREFIX. The program is crates/uca/out/uca, which tools/build.py builds; PROGRAM names
 # another one. A command that fails ends the script. bash, fish and man find their files below /usr/local and ~/.local by
 # themselves; zsh finds its completion if PREFIX/share/zsh/site-functions is in fpath, as it is for /usr/local.
+# share/doc/uca/installed_files has the list, by which --uninstall goes, and an installation in place of an earlier one.
 set -eu
 
 top=$(dirname "$0")/..
 program=${PROGRAM:-$top/crates/uca/out/uca}
-case ${1:-} in
-    -*)
-        echo "usage: tools/install.sh [PREFIX]" >&2
-        exit 2
-        ;;
-esac
-to=${DESTDIR:-}${1:-/usr/local}
-documents=$to/share/doc/uca
 
-if ! [ -x "$program" ]; then
-    echo "there is no $program: run tools/build.py first" >&2
-    exit 1
+# Ends the script: REASON.
+stop() {
+    echo "$1" >&2
+    echo "usage: tools/install.sh [--uninstall] [PREFIX]" >&2
+    exit 2
+}
+
+wanted=install
+if [ "${1:-}" = --uninstall ]; then
+    wanted=uninstall
+    shift
 fi
+[ $# -le 1 ] || stop "one PREFIX is taken, and not $#"
+# make takes PREFIX=FOLDER, and other scripts read a variable PREFIX: both would be installed elsewhere here
+if [ $# = 0 ] && [ -n "${PREFIX+set}" ]; then
+    stop "the variable PREFIX is not read: give the folder as an argument"
+fi
+prefix=${1-/usr/local}
+case $prefix in
+    /*) ;;
+    -*) stop "there is no option $prefix" ;;
+    *=*) stop "PREFIX is the name of a folder alone, such as /usr/local, and not $prefix" ;;
+    *) stop "PREFIX begins with /, and is not '$prefix'" ;;
+esac
+to=${DESTDIR:-}$prefix
+documents=share/doc/uca
+list=$documents/installed_files
 
-# Installs a file, and makes the folders that it needs: MODE FILE TARGET.
+# Pages for those who change uca. Where another page links to one, its text is left.
+for_developers="CONTRIBUTING|ARCHITECTURE|RECIPES|GATE"
+
+# Takes away what the list names, and the folders of documents that are empty then. Its lines are names of files below PREFIX.
+uninstall() {
+    while IFS= read -r file; do
+        case /$file/ in
+            //* | */../*) echo "$to/$list has a name that is none of an installation: $file" >&2; exit 1 ;;
+        esac
+        rm -f "$to/$file"
+        [ "$wanted" = install ] || echo "$to/$file"
+    done < "$to/$list"
+    rm "$to/$list"
+    find "$to/$documents" -depth -type d -empty -delete
+}
+
+# Installs a file, makes the folders that it needs, and lists it: MODE FILE TARGET.
 put() {
-    install -D -m "$1" "$2" "$3"
+    install -D -m "$1" "$2" "$to/$3"
+    echo "$3" >> "$to/$list"
+    echo "$to/$3"
+}
+
+# Installs a page, without links to the pages that are not installed: PAGE.
+put_page() {
+    put 644 "$top/$1" "$documents/$1"
+    sed -E "s/\[([^]]*)\]\(([.a-z]+\/)*($for_developers)\.md[^)]*\)/\1/g" "$top/$1" > "$to/$documents/$1"
 }
 
 # Installs those of some files that are there, with their paths below the top of the repository: MODE FILE...
@@ -34,22 +75,42 @@ put_documents() {
     mode=$1
     shift
     for file; do
-        if [ -f "$top/$file" ]; then
-            put "$mode" "$top/$file" "$documents/$file"
-        fi
+        case $file in
+            *.md) put_page "$file" ;;
+            *) ! [ -f "$top/$file" ] || put "$mode" "$top/$file" "$documents/$file" ;;
+        esac
     done
 }
 
-put 755 "$program" "$to/bin/uca"
-put 644 "$top/man/uca.1" "$to/share/man/man1/uca.1"
-put 644 "$top/completions/uca.bash" "$to/share/bash-completion/completions/uca"
-put 644 "$top/completions/_uca" "$to/share/zsh/site-functions/_uca"
-put 644 "$top/completions/uca.fish" "$to/share/fish/vendor_completions.d/uca.fish"
+if [ "$wanted" = uninstall ]; then
+    if ! [ -f "$to/$list" ]; then
+        echo "there is no $to/$list, so nothing is known to be installed there" >&2
+        exit 1
+    fi
+    uninstall
+    exit 0
+fi
+if ! [ -x "$program" ]; then
+    echo "there is no $program: run tools/build.py first" >&2
+    exit 1
+fi
+[ ! -f "$to/$list" ] || uninstall
+install -d "$to/$documents"
+: > "$to/$list"
+chmod 644 "$to/$list"
+
+put 755 "$program" bin/uca
+put 644 "$top/man/uca.1" share/man/man1/uca.1
+put 644 "$top/completions/uca.bash" share/bash-completion/completions/uca
+put 644 "$top/completions/_uca" share/zsh/site-functions/_uca
+put 644 "$top/completions/uca.fish" share/fish/vendor_completions.d/uca.fish
 put_documents 644 LICENSE LICENSE-MIT LICENSE-APACHE NOTICE
-put_documents 644 README.md CHANGELOG.md CONTRIBUTING.md SECURITY.md
-put_documents 644 bench/README.md bench/time.svg bench/key_bytes.svg
+put_documents 644 README.md CHANGELOG.md SECURITY.md bench/README.md bench/time.svg bench/key_bytes.svg
 for page in "$top"/docs/*.md "$top"/examples/* "$top"/examples/*/*; do
-    put_documents 644 "${page#"$top"/}"
+    case $(basename "$page" .md) in
+        CONTRIBUTING | ARCHITECTURE | RECIPES | GATE) ;;
+        *) put_documents 644 "${page#"$top"/}" ;;
+    esac
 done
 put_documents 755 tools/unicode_files.py tools/languages.py
 put_documents 644 tools/cldr_rules.py tools/profile_rules.py tools/language_tags.py tools/language_tables.py

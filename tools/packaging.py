@@ -5,7 +5,7 @@
 
 The manual page and each completion name the commands and options that the program's help names, and no others. They are what
 tools/man_page.py and tools/completions.py write. The page renders without a warning. Each completion is run by its shell. tools/install.sh puts all files
-into a temporary folder, and the program there runs. `uca --version` names the logic of this machine's kit, and docs/FORMATS.md shows its line.
+into a temporary folder, lists them, and takes them away again; the program there runs. `uca --version` names the logic of this machine's kit, and docs/FORMATS.md shows its line.
 
 Debian packages: man-db, mandoc, zsh and fish (bash and coreutils are always there). A check that needs a missing one is not run, and
 the script says so. The last line is `N passed, M failed`.
@@ -30,7 +30,21 @@ INSTALLED = [
     "share/zsh/site-functions/_uca",
     "share/fish/vendor_completions.d/uca.fish",
     *(f"share/doc/uca/{it}" for it in ["LICENSE", "LICENSE-MIT", "LICENSE-APACHE", "NOTICE", "README.md", "CHANGELOG.md", "SECURITY.md"]),
-    *(f"share/doc/uca/{it}" for it in ["docs/FORMATS.md", "docs/MESSAGES.md", "examples/table.txt", "tools/unicode_files.py"]),
+    *(f"share/doc/uca/{it}" for it in ["docs/FORMATS.md", "docs/MESSAGES.md", "examples/table.txt", "tools/unicode_files.py", "installed_files"]),
+]
+
+# Pages for those who change uca, which are not installed.
+FOR_DEVELOPERS = ["CONTRIBUTING.md", "docs/ARCHITECTURE.md", "docs/RECIPES.md", "docs/GATE.md"]
+
+# Arguments and variables that tools/install.sh rejects, and what it says of them.
+REJECTED = [
+    (["PREFIX={room}/e"], {}, "a folder alone"),
+    ([""], {}, "begins with /"),
+    (["e"], {}, "begins with /"),
+    (["--prefix"], {}, "no option"),
+    (["--uninstall", "PREFIX={room}/e"], {}, "a folder alone"),
+    (["{room}/e", "{room}/e"], {}, "one PREFIX"),
+    ([], {"PREFIX": "{room}/e"}, "as an argument"),
 ]
 
 # How each completion names the commands, and the long options.
@@ -66,7 +80,7 @@ LINES = [
     ("uca rekey --from x --to y new ", set()),
     ("uca compact --weighting ", WEIGHTINGS),
     ("uca compact --identical ", FILES),
-    ("uca expand --", {"--weighting", "--identical", "--help"}),
+    ("uca expand --", {"--weighting", "--identical", "--from", "--to", "--help"}),
     ("uca expand my.book ", set()),
     ("uca book new ", FILES),
     ("uca book new my.book ", set()),
@@ -210,13 +224,64 @@ def check_links(counts, folder):
             counts.check(f"links of {os.path.relpath(f'{place}/{name}', folder)}", not missing, f"lead nowhere: {missing}")
 
 
+def files_below(folder):
+    return sorted(os.path.relpath(f"{at}/{name}", folder) for at, _, names in os.walk(folder) for name in names)
+
+
+def check_listed(counts, folder, printed_lines):
+    """Each file that is there is listed, both by what the script prints and by the file that it keeps. No page for developers is there."""
+    listed = f"{folder}/share/doc/uca/installed_files"
+    with open(listed, encoding="utf-8") as file:
+        names = file.read().splitlines()
+    counts.same("install.sh: the files that it keeps a list of", {*names, os.path.relpath(listed, folder)}, {*files_below(folder)})
+    counts.same("install.sh: the files that it prints", {*printed_lines}, {f"{folder}/{it}" for it in names})
+    counts.check("install.sh: no file twice", len({*names}) == len(names))
+    for name in FOR_DEVELOPERS:
+        counts.check(f"install.sh: no {name}", not os.path.exists(f"{folder}/share/doc/uca/{name}"))
+
+
+def check_uninstall(counts, program, room):
+    """What was installed is taken away, and nothing else. An installation takes the place of an earlier one."""
+    folder, other = f"{room}/with blanks", "share/doc/uca/mine"
+    install(folder, PROGRAM=program)
+    with open(f"{folder}/share/doc/uca/installed_files", "a", encoding="utf-8") as file:
+        file.write("share/doc/uca/old/page.md\n")
+    for name in [other, "share/doc/uca/old/page.md"]:
+        os.makedirs(os.path.dirname(f"{folder}/{name}"), exist_ok=True)
+        open(f"{folder}/{name}", "w", encoding="utf-8").close()
+    ran = install(folder, PROGRAM=program)
+    counts.check("install.sh takes the place of an earlier one", ran.returncode == 0 and not os.path.exists(f"{folder}/share/doc/uca/old"), ran.stdout)
+    ran = install("--uninstall", folder)
+    counts.check("install.sh --uninstall ends well", ran.returncode == 0 and f"{folder}/bin/uca\n" in ran.stdout, ran.stdout)
+    counts.same("install.sh --uninstall leaves", {*files_below(folder)}, {other})
+    ran = install("--uninstall", folder)
+    counts.check("install.sh --uninstall of nothing fails", ran.returncode == 1 and "nothing is known" in ran.stdout, ran.stdout)
+    with open(f"{folder}/share/doc/uca/installed_files", "w", encoding="utf-8") as file:
+        file.write("../outside\n")
+    open(f"{room}/outside", "w", encoding="utf-8").close()
+    ran = install("--uninstall", folder)
+    counts.check("install.sh --uninstall takes nothing elsewhere", ran.returncode == 1 and os.path.exists(f"{room}/outside"), ran.stdout)
+
+
+def check_rejected(counts, program, room):
+    """Arguments that name no folder are rejected, and nothing is installed."""
+    for arguments, variables, said in REJECTED:
+        filled = [it.format(room=room) for it in arguments]
+        ran = install(*filled, PROGRAM=program, DESTDIR=f"{room}/rejected", **{name: it.format(room=room) for name, it in variables.items()})
+        is_rejected = ran.returncode == 2 and said in ran.stdout and "usage:" in ran.stdout
+        counts.check(f"install.sh rejects {arguments} {variables}", is_rejected and not os.path.exists(f"{room}/rejected"), ran.stdout)
+
+
 def check_install(counts, program):
-    """Only PREFIX, PREFIX below DESTDIR, and no program. The default PREFIX is only used once DESTDIR is known to be respected."""
+    """Only PREFIX, PREFIX below DESTDIR, no program, and taking away. The default PREFIX is only used once DESTDIR is known to be respected."""
     with tempfile.TemporaryDirectory(prefix="uca-install-") as room:
         ran = install(f"{room}/a", PROGRAM=program)
         counts.check("install.sh PREFIX ends well", ran.returncode == 0, ran.stdout)
         check_installed(counts, f"{room}/a")
+        check_listed(counts, f"{room}/a", ran.stdout.splitlines())
         check_links(counts, f"{room}/a")
+        check_uninstall(counts, program, room)
+        check_rejected(counts, program, room)
         ran = install(f"{room}/b", PROGRAM=program, DESTDIR=f"{room}/staged")
         respected = ran.returncode == 0 and os.path.isdir(f"{room}/staged{room}/b") and not os.path.exists(f"{room}/b")
         counts.check("install.sh respects DESTDIR", respected, ran.stdout)

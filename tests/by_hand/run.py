@@ -29,6 +29,8 @@ TESTS = {
     "bindings": [],
     "page_heap": [],
     "page": [],
+    "other_languages": [],
+    "package_installs": [],
     "unicode_tables": [],
     "languages": ["--quick"],
     "editions": [],

@@ -36,6 +36,9 @@ __all__ = [
     "library_version",
 ]
 
+#: the version of this module
+__version__ = "0.1.0"
+
 _ABI = 1
 
 _OK, _CLOSED, _TABLE, _DATA, _MEMORY, _SMALL, _BOOK, _NO_BOOK, _NO_KEY = 0, 1, 4, 5, 6, 10, 11, 12, 13

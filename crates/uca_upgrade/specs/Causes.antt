@@ -1,6 +1,7 @@
 -- Why no upgrade is opened.
-use Rattle.std.specs.Prelude.{ℕ, List, Option, ⊤}
+use Rattle.std.specs.Prelude.{◌≡◌, ℕ, List, Option, ⊤}
 use Rattle.uca_values.specs.Content.{TableContent, Properties}
+use Rattle.uca_values.specs.declared.faults.FaultKind.TheVariants as kinds
 use Rattle.uca_values.specs.declared.faults.TableFault.{TableFault}
 use Rattle.uca_lines.specs.FileStops.{IsStop}
 use Rattle.uca_certificates.specs.Texts as certificates
@@ -48,12 +49,13 @@ IsUpgradeCause files (NotMet condition place) =
     (change : Change) × MeanChange files change × IsFirstRefusal change (change_faults.NotMet condition place)
 IsUpgradeCause files Memory = ⊤
 
--- Why there is none though the files mean this change: a read failed, or an allocation, or the audit rejects the change.
+-- Why there is none though the files mean this change: an allocation failed, or the audit rejects the change. Of a file of changes and
+-- a certificate a failed read is not excluded.
 abbrev pub IsUpgradeStop : Change → UpgradeFault → Type 0
-IsUpgradeStop change (OldTable fault) = IsStop fault.kind
-IsUpgradeStop change (OldData fault) = IsStop fault.kind
-IsUpgradeStop change (NewTable fault) = IsStop fault.kind
-IsUpgradeStop change (NewData fault) = IsStop fault.kind
+IsUpgradeStop change (OldTable fault) = fault.kind ≡ kinds.Memory
+IsUpgradeStop change (OldData fault) = fault.kind ≡ kinds.Memory
+IsUpgradeStop change (NewTable fault) = fault.kind ≡ kinds.Memory
+IsUpgradeStop change (NewData fault) = fault.kind ≡ kinds.Memory
 IsUpgradeStop change (Changes fault) = IsStop fault.kind
 IsUpgradeStop change (Certificate fault) = certificates.IsStop fault.kind
 IsUpgradeStop change (NotMet condition place) = IsFirstRefusal change (change_faults.NotMet condition place)

@@ -12,7 +12,7 @@ use crate::faults::UpgradeFault;
 use std::alloc::Global;
 use uca_certificates::{Certificate, read_certificate};
 use uca_change_files::{ChangeList, read_changes};
-use uca_owned::OpenFault;
+use uca_owned::{OpenFault, in_memory};
 use uca_table::{read_data, read_table};
 use uca_values::{Data, Table};
 use uca_weights::Source;
@@ -112,10 +112,10 @@ fn read_edition(alloc: Global, table: &[u8], data_file: &[u8]) -> Result<Edition
             Ok(properties) => Ok(Edition { table, properties }),
             Err(fault) => {
                 drop(table);
-                Err(OpenFault::Data(fault))
+                Err(OpenFault::Data(in_memory(fault)))
             }
         },
-        Err(fault) => Err(OpenFault::Table(fault)),
+        Err(fault) => Err(OpenFault::Table(in_memory(fault))),
     }
 }
 

@@ -1,0 +1,182 @@
+//! Why a call fails: each kind of call has errors of its own.
+use crate::calls;
+use crate::Fingerprint;
+use std::error::Error;
+use std::fmt;
+
+/// A file that a collator is opened by.
+#[derive(Clone, Copy, Debug, PartialEq, Eq, Hash)]
+pub enum File {
+    /// The table, such as Unicode's `allkeys.txt`.
+    Table,
+    /// The data file.
+    Data,
+    /// The book, by which keys are compact.
+    Book,
+}
+
+impl fmt::Display for File {
+    fn fmt(&self, out: &mut fmt::Formatter<'_>) -> fmt::Result {
+        out.write_str(match self {
+            Self::Table => "table",
+            Self::Data => "data file",
+            Self::Book => "book",
+        })
+    }
+}
+
+/// Why a line of a file is rejected. `docs/FORMATS.md` of the repository says what each kind means.
+#[derive(Clone, Copy, Debug, PartialEq, Eq, Hash)]
+#[non_exhaustive]
+pub enum FileErrorKind {
+    /// The line has none of the forms that the format has.
+    Line,
+    /// The line stands where it must not stand.
+    Order,
+    /// A code point is none, or is a surrogate.
+    CodePoint,
+    /// A weight, or another number, is none.
+    Weight,
+    /// A key has two rows.
+    DuplicateKey,
+    /// A range is empty, or meets another one.
+    Range,
+    /// The file has more than a limit allows.
+    Limit,
+    /// A kind of a later library, by its number in `uca.h`.
+    Other(u32),
+}
+
+impl FileErrorKind {
+    pub(crate) fn of(kind: u32) -> Self {
+        match kind {
+            1 => Self::Line,
+            2 => Self::Order,
+            3 => Self::CodePoint,
+            4 => Self::Weight,
+            5 => Self::DuplicateKey,
+            6 => Self::Range,
+            7 => Self::Limit,
+            other => Self::Other(other),
+        }
+    }
+}
+
+/// Why a collator is not opened, or its fingerprint is not made.
+#[derive(Clone, Debug, PartialEq, Eq)]
+#[non_exhaustive]
+pub enum OpenError {
+    /// A file is rejected. The table is judged first, then the data file, then the book.
+    Rejected {
+        /// Which file.
+        file: File,
+        /// The line, from 1 on.
+        line: u32,
+        /// Why.
+        kind: FileErrorKind,
+    },
+    /// The files and settings have another fingerprint than the one that was wanted.
+    OtherFiles {
+        /// The fingerprint of [`crate::Options::fingerprint`].
+        wanted: Fingerprint,
+        /// The fingerprint of the files and settings.
+        found: Fingerprint,
+    },
+    /// Memory ran out.
+    Memory,
+    /// The library that was linked has another interface than this crate.
+    Interface,
+}
+
+impl fmt::Display for OpenError {
+    fn fmt(&self, out: &mut fmt::Formatter<'_>) -> fmt::Result {
+        match self {
+            Self::Rejected { file, line, kind } => write!(out, "{file}, line {line}: {kind:?}"),
+            Self::OtherFiles { wanted, found } => {
+                write!(out, "the files and settings have the fingerprint {found}, and not {wanted}")
+            }
+            Self::Memory => out.write_str("out of memory"),
+            Self::Interface => {
+                out.write_str("the library of uca that was linked has another interface than this crate")
+            }
+        }
+    }
+}
+
+impl Error for OpenError {}
+
+/// Why a text has no key, or is not compared.
+#[derive(Clone, Copy, Debug, PartialEq, Eq, Hash)]
+#[non_exhaustive]
+pub enum TextError {
+    /// The text is not UTF-8.
+    Utf8,
+    /// The text has more than 1,048,576 code points in Normalization Form D.
+    TooLong,
+    /// The text has more than 64 non-starters in a row in Normalization Form D.
+    LongRun,
+    /// Memory ran out. The call may be tried again.
+    Memory,
+}
+
+impl TextError {
+    /// The error of a status, which is none of an open collator's otherwise.
+    pub(crate) fn of(status: u32) -> Self {
+        match status {
+            calls::UTF8 => Self::Utf8,
+            calls::TOO_LONG => Self::TooLong,
+            calls::LONG_RUN => Self::LongRun,
+            calls::MEMORY => Self::Memory,
+            other => unreachable!("uca.h has no status {other} for a text of an open collator"),
+        }
+    }
+}
+
+impl fmt::Display for TextError {
+    fn fmt(&self, out: &mut fmt::Formatter<'_>) -> fmt::Result {
+        out.write_str(match self {
+            Self::Utf8 => "the text is not UTF-8",
+            Self::TooLong => "the text has more than 1,048,576 code points",
+            Self::LongRun => "the text has more than 64 non-starters in a row",
+            Self::Memory => "out of memory",
+        })
+    }
+}
+
+impl Error for TextError {}
+
+/// Why bytes are not made another form of a stored key.
+#[derive(Clone, Copy, Debug, PartialEq, Eq, Hash)]
+#[non_exhaustive]
+pub enum StoredKeyError {
+    /// The bytes are no key of the collator's settings, or the compact key of no key.
+    NoKey,
+    /// The collator was opened without a book.
+    NoBook,
+    /// Memory ran out. The call may be tried again.
+    Memory,
+}
+
+impl StoredKeyError {
+    /// The error of a status, which is none of an open collator's otherwise.
+    pub(crate) fn of(status: u32) -> Self {
+        match status {
+            calls::NO_KEY => Self::NoKey,
+            calls::NO_BOOK => Self::NoBook,
+            calls::MEMORY => Self::Memory,
+            other => unreachable!("uca.h has no status {other} for a stored key of an open collator"),
+        }
+    }
+}
+
+impl fmt::Display for StoredKeyError {
+    fn fmt(&self, out: &mut fmt::Formatter<'_>) -> fmt::Result {
+        out.write_str(match self {
+            Self::NoKey => "the bytes are no key of this collator",
+            Self::NoBook => "the collator was opened without a book",
+            Self::Memory => "out of memory",
+        })
+    }
+}
+
+impl Error for StoredKeyError {}

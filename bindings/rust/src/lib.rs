@@ -1,0 +1,52 @@
+//! Unicode collation (UTS #10): sort keys and comparison of texts, by a table of weights that you choose.
+//!
+//! ```
+//! use uca::{Collator, Weighting};
+//!
+//! let table = b"@version 1\n0061 ; [.1C47.0020.0002]\n0062 ; [.1C60.0020.0002]\n0301 ; [.0000.0024.0002]\n";
+//! let data = b"@data 1\nccc 0301..0301 230\n";
+//! let mut collator = Collator::options().weighting(Weighting::NonIgnorable).open(table, data)?;
+//!
+//! let mut words = vec!["b", "á", "a"];
+//! collator.sort(&mut words)?;
+//! assert_eq!(words, ["a", "á", "b"]);
+//! assert_eq!(collator.key("a")?, [0x1C, 0x47, 0, 0, 0, 0x20, 0, 0, 0, 2]);
+//! assert_eq!(collator.compare("a", "á")?.level, 2);
+//! # Ok::<(), Box<dyn std::error::Error>>(())
+//! ```
+//!
+//! A program reads the table and the data file by [`std::fs::read`]. The table is Unicode's `allkeys.txt`, or that of
+//! a language. The page `docs/UNICODE.md` of the repository says how both files are made.
+//!
+//! **Keep the fingerprint beside stored keys.** It names the files and the settings that keys are made by. Give it
+//! back each time that you open the files for these keys ([`Options::fingerprint`]): other files or settings are an
+//! error then.
+//!
+//! **What is proved.** The library for C that does the work has contracts, which are proved: for every table and
+//! text, its calls do what `uca.h` says. Nothing is proved of this crate, which is a small layer over these calls.
+//! Its tests are `tests/keys.rs`, and `tests/header.rs` in the repository.
+//!
+//! **Processors and systems.** The library is made for `x86_64-unknown-linux-gnu`, and for processors with SSE4.2
+//! (x86-64-v2, since 2009). It does not test the processor.
+mod calls;
+mod collator;
+mod errors;
+mod fingerprint;
+mod opening;
+mod sorting;
+
+pub use collator::{compare_keys, Collator, Comparison, RangeOf};
+pub use errors::{File, FileErrorKind, OpenError, StoredKeyError, TextError};
+pub use fingerprint::{Fingerprint, NoFingerprint};
+pub use opening::{Depth, Options, Weighting};
+
+/// The version of the library that was linked: major, minor and patch.
+///
+/// ```
+/// assert_eq!(uca::library_version(), (0, 1, 0));
+/// ```
+pub fn library_version() -> (u32, u32, u32) {
+    // SAFETY: the call takes nothing.
+    let version = unsafe { calls::uca_version() };
+    (version / 1_000_000, version / 1_000 % 1_000, version % 1_000)
+}

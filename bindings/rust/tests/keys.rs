@@ -1,0 +1,257 @@
+//! What each call returns, over a small table. The weights of the keys are worked out by hand from UTS #10, and the
+//! compact keys from the book's format.
+use std::cmp::Ordering::{Equal, Greater, Less};
+use std::collections::BTreeMap;
+use std::thread;
+use uca::{
+    compare_keys, Collator, Comparison, Depth, File, FileErrorKind, OpenError, RangeOf, StoredKeyError, TextError,
+    Weighting,
+};
+
+const TABLE: &[u8] = b"@version 1
+0020 ; [*0209.0020.0002]
+200B ; [.0000.0000.0000]
+0061 ; [.1C47.0020.0002]
+0041 ; [.1C47.0020.0008]
+0062 ; [.1C60.0020.0002]
+0300 ; [.0000.0025.0002]
+0301 ; [.0000.0024.0002]
+0323 ; [.0000.002C.0002]
+";
+const DATA: &[u8] = b"@data 1\nccc 0300..0314 230\nccc 0323..0323 220\n";
+const BOOK: &[u8] = b"@book 1\n1 1C47\n1 1C48\n1 1C60\n1 1C61\n";
+
+fn opened(weighting: Weighting, depth: Depth) -> Collator {
+    Collator::options().weighting(weighting).depth(depth).open(TABLE, DATA).unwrap()
+}
+
+fn non_ignorable() -> Collator {
+    opened(Weighting::NonIgnorable, Depth::Weights)
+}
+
+fn with_book() -> Collator {
+    Collator::options().weighting(Weighting::NonIgnorable).book(BOOK).open(TABLE, DATA).unwrap()
+}
+
+/// The bytes of weights.
+fn bytes_of(weights: &[u16]) -> Vec<u8> {
+    weights.iter().flat_map(|it| it.to_be_bytes()).collect()
+}
+
+#[test]
+fn keys() {
+    let rows: [(&str, Weighting, &[u16]); 6] = [
+        ("", Weighting::NonIgnorable, &[0, 0]),
+        ("a", Weighting::NonIgnorable, &[0x1C47, 0, 0x20, 0, 2]),
+        ("\u{E1}", Weighting::NonIgnorable, &[0x1C47, 0, 0x20, 0x24, 0, 2, 2]),
+        ("a\u{301}", Weighting::NonIgnorable, &[0x1C47, 0, 0x20, 0x24, 0, 2, 2]),
+        ("a b", Weighting::Shifted, &[0x1C47, 0x1C60, 0, 0x20, 0x20, 0, 2, 2, 0, 0xFFFF, 0x209, 0xFFFF]),
+        ("a b", Weighting::ByTable, &[0x1C47, 0x1C60, 0, 0x20, 0x20, 0, 2, 2, 0, 0xFFFF, 0x209, 0xFFFF]),
+    ];
+    for (text, weighting, weights) in rows {
+        let key = opened(weighting, Depth::Weights).key(text).unwrap();
+        assert_eq!(key, bytes_of(weights), "{text:?} {weighting:?}");
+        // the last level has three bytes for each code point in Normalization Form D
+        let code_points = text.replace('\u{E1}', "a\u{301}");
+        let last: Vec<_> = code_points.chars().flat_map(|it| u32::from(it).to_be_bytes()[1..].to_vec()).collect();
+        let identical = opened(weighting, Depth::Identical).key(text).unwrap();
+        assert_eq!(identical, [key, vec![0, 0], last].concat(), "{text:?} {weighting:?}");
+    }
+}
+
+#[test]
+fn a_key_into_a_vector_uses_it_again() {
+    let (mut collator, mut key) = (non_ignorable(), b"what is there".to_vec());
+    for (text, weights) in [("b", [0x1C60, 0, 0x20, 0, 2]), ("a", [0x1C47, 0, 0x20, 0, 2])] {
+        collator.key_into(text, &mut key).unwrap();
+        assert_eq!(key, bytes_of(&weights));
+    }
+    assert_eq!(collator.key_into(b"a\xFF", &mut key), Err(TextError::Utf8));
+    assert!(key.is_empty());
+}
+
+#[test]
+fn long_keys_get_more_room() {
+    let (mut collator, length) = (opened(Weighting::Shifted, Depth::Identical), 300_000);
+    let key = collator.key("a".repeat(length)).unwrap();
+    // three levels of one weight each, one of FFFF, one of three bytes, and four separators
+    assert_eq!(key.len(), length * (2 + 2 + 2 + 2 + 3) + 4 * 2);
+    assert_eq!(key[..2], [0x1C, 0x47]);
+    assert_eq!(key[key.len() - 3..], [0, 0, 0x61]);
+}
+
+#[test]
+fn rejected_texts() {
+    let mut collator = non_ignorable();
+    let rows = [
+        (b"a\xFF".to_vec(), TextError::Utf8),
+        ("a".repeat(1_048_577).into_bytes(), TextError::TooLong),
+        (format!("a{}", "\u{301}".repeat(65)).into_bytes(), TextError::LongRun),
+    ];
+    for (text, error) in rows {
+        assert_eq!(collator.key(&text), Err(error));
+        assert_eq!(collator.compare(&text, "a"), Err(error));
+        assert_eq!(collator.compare("a", &text), Err(error));
+        assert_eq!(collator.range(&text, RangeOf::SameLetters), Err(error));
+    }
+    assert!(collator.key(format!("a{}", "\u{301}".repeat(64))).is_ok());
+}
+
+#[test]
+fn comparisons() {
+    let mut collator = non_ignorable();
+    let rows = [
+        ("Aa", "ab", Less, 1),
+        ("\u{E1}", "a", Greater, 2),
+        ("a", "A", Less, 3),
+        ("\u{E1}", "a\u{301}", Equal, 0),
+        ("", "", Equal, 0),
+    ];
+    for (left, right, order, level) in rows {
+        assert_eq!(collator.compare(left, right).unwrap(), Comparison { order, level });
+        assert_eq!(collator.compare(right, left).unwrap(), Comparison { order: order.reverse(), level });
+        let keys = (collator.key(left).unwrap(), collator.key(right).unwrap());
+        assert_eq!(compare_keys(&keys.0, &keys.1, 3), Comparison { order, level });
+        assert_eq!(keys.0.cmp(&keys.1), order);
+    }
+}
+
+#[test]
+fn any_bytes_have_an_order() {
+    let mut collator = non_ignorable();
+    let rows: [(&[u8], &[u8], _); 4] =
+        [(b"a", b"b", Less), (b"b", b"a\xFF", Less), (b"a\xFE", b"a\xFF", Less), (b"a\xFF", b"a\xFF", Equal)];
+    for (left, right, order) in rows {
+        assert_eq!(collator.order(left, right), Ok(order));
+        assert_eq!(collator.order(right, left), Ok(order.reverse()));
+    }
+}
+
+#[test]
+fn sorting() {
+    let mut collator = non_ignorable();
+    let mut words = ["b", "ab", "A", "\u{E1}", "a", "a\u{301}"];
+    collator.sort(&mut words).unwrap();
+    // the texts with an acute accent are equal, and keep their order
+    assert_eq!(words, ["a", "A", "\u{E1}", "a\u{301}", "ab", "b"]);
+    let mut none: [&str; 0] = [];
+    collator.sort(&mut none).unwrap();
+    let mut rejected: [&[u8]; 3] = [b"b", b"\xFF", b"a"];
+    assert_eq!(collator.sort(&mut rejected), Err(TextError::Utf8));
+    assert_eq!(rejected, [&b"b"[..], b"\xFF", b"a"]);
+}
+
+#[test]
+fn sorting_arranges_every_permutation() {
+    let mut collator = non_ignorable();
+    let letters = ["a", "aa", "aaa", "b", "ba"];
+    for number in 0..5usize.pow(5) {
+        let chosen: Vec<_> = (0..5).map(|it| number / 5usize.pow(it) % 5).collect();
+        let mut rows: Vec<_> = chosen.iter().copied().enumerate().collect();
+        collator.sort_by_text(&mut rows, |row| letters[row.1]).unwrap();
+        let mut wanted: Vec<_> = chosen.iter().copied().enumerate().collect();
+        wanted.sort_by_key(|row| row.1);
+        assert_eq!(rows, wanted);
+    }
+}
+
+#[test]
+fn compact_keys() {
+    let (mut whole, mut compact) = (non_ignorable(), with_book());
+    let words = ["", "a", "A", "\u{E1}", "ab", "a b", "b"];
+    for word in words {
+        let (key, short) = (whole.key(word).unwrap(), compact.key(word).unwrap());
+        assert!(short.len() < key.len(), "{word:?}");
+        assert_eq!(compact.expand(&short).unwrap(), key);
+        assert_eq!(compact.compact(&key).unwrap(), short);
+        for other in words {
+            let order = key.cmp(&whole.key(other).unwrap());
+            assert_eq!(short.cmp(&compact.key(other).unwrap()), order, "{word:?} {other:?}");
+        }
+    }
+    assert_eq!(compact.expand(b"\xFF\xFF\xFF"), Err(StoredKeyError::NoKey));
+    assert_eq!(compact.compact(b"\x1C"), Err(StoredKeyError::NoKey));
+    assert_eq!(whole.compact(b"\0\0\0\0"), Err(StoredKeyError::NoBook));
+    assert_eq!(whole.expand(b""), Err(StoredKeyError::NoBook));
+}
+
+#[test]
+fn ranges() {
+    let words = ["a", "A", "\u{E1}", "ab", "Ab", "b"];
+    let rows: [(&str, RangeOf, &[&str]); 5] = [
+        ("A", RangeOf::SameAccents, &["a", "A"]),
+        ("\u{C1}", RangeOf::SameLetters, &["a", "A", "\u{E1}"]),
+        ("a", RangeOf::Begins, &["a", "A", "\u{E1}", "ab", "Ab"]),
+        ("ab", RangeOf::SameLetters, &["ab", "Ab"]),
+        ("bb", RangeOf::Begins, &[]),
+    ];
+    for mut collator in [non_ignorable(), with_book()] {
+        let map: BTreeMap<_, _> = words.iter().map(|it| (collator.key(it).unwrap(), *it)).collect();
+        for (text, of, wanted) in rows {
+            let found: Vec<_> = map.range(collator.range(text, of).unwrap()).map(|it| *it.1).collect();
+            assert_eq!(found, wanted, "{text:?} {of:?}");
+        }
+        let starts = ["a", "\u{E1}", "b"].map(|it| collator.range(it, RangeOf::SameLetters).unwrap().start);
+        assert_eq!(starts[0], starts[1]);
+        assert_ne!(starts[1], starts[2]);
+    }
+}
+
+#[test]
+fn rejected_files() {
+    let rejected = |file, line, kind| OpenError::Rejected { file, line, kind };
+    type Row<'a> = (&'a [u8], &'a [u8], Option<&'a [u8]>, OpenError);
+    let rows: [Row; 6] = [
+        (b"@version 1\n0061 ; [.1C", DATA, None, rejected(File::Table, 2, FileErrorKind::Weight)),
+        (b"", b"x\n", Some(b""), rejected(File::Table, 1, FileErrorKind::Order)),
+        (TABLE, b"@data 1\n\nccc 0300..0314 300\n", Some(b""), rejected(File::Data, 3, FileErrorKind::Weight)),
+        (TABLE, DATA, Some(b""), rejected(File::Book, 1, FileErrorKind::Order)),
+        (TABLE, DATA, Some(b"@book 1\n1 1c47\n"), rejected(File::Book, 2, FileErrorKind::Weight)),
+        (
+            b"@version 1\n0061 ; [.0001.0020.0002]\n0061 ; [.0002.0020.0002]\n",
+            DATA,
+            None,
+            rejected(File::Table, 3, FileErrorKind::DuplicateKey),
+        ),
+    ];
+    for (table, data, book, wanted) in rows {
+        let options = book.map_or(Collator::options(), |it| Collator::options().book(it));
+        assert_eq!(options.open(table, data).unwrap_err(), wanted);
+    }
+    assert_eq!(rejected(File::Data, 3, FileErrorKind::Weight).to_string(), "data file, line 3: Weight");
+}
+
+#[test]
+fn other_files_and_settings_are_an_error() {
+    let kept = opened(Weighting::Shifted, Depth::Weights).fingerprint();
+    let options = Collator::options().fingerprint(kept);
+    assert_eq!(options.weighting(Weighting::Shifted).open(TABLE, DATA).unwrap().fingerprint(), kept);
+    // the table has no line @variable, so its weighting is shifted
+    assert_eq!(options.open(TABLE, DATA).unwrap().fingerprint(), kept);
+    let comment = [TABLE, b"# a comment\n"].concat();
+    let others = [
+        options.weighting(Weighting::NonIgnorable).open(TABLE, DATA),
+        options.depth(Depth::Identical).open(TABLE, DATA),
+        options.book(BOOK).open(TABLE, DATA),
+        options.open(&comment, DATA),
+        options.open(TABLE, b"@data 1\n"),
+    ];
+    for (number, other) in others.into_iter().enumerate() {
+        assert!(
+            matches!(other, Err(OpenError::OtherFiles { wanted, found }) if wanted == kept && found != kept),
+            "{number}"
+        );
+    }
+}
+
+#[test]
+fn a_collator_moves_to_another_thread() {
+    let mut collator = non_ignorable();
+    let (mut collator, key) = thread::spawn(move || {
+        let key = collator.key("a").unwrap();
+        (collator, key)
+    })
+    .join()
+    .unwrap();
+    assert_eq!(collator.key("a").unwrap(), key);
+}
