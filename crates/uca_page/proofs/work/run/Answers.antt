@@ -1,7 +1,9 @@
-use Rattle.std.proofs.Common.{◌≡◌, ℕ, Bool, List, Option, Some, sym, ap, ◌∙◌, subst}
+use Rattle.std.proofs.Common.{◌≡◌, [], ℕ, Bool, false, List, Option, Some, map, sym, ap, ◌∙◌, subst}
+use Rattle.std.specs.Borrow.{Bor}
 use Rattle.uca_weights.specs.Streams.{SourceState, SinkState}
 use Rattle.uca_cli.specs.Command.{DoesCommand, streams}
-use Rattle.uca_page.specs.MemoryFiles.{MemoryState, memory_files}
+use Rattle.uca_page.specs.MemoryFiles.{MemoryState, given_files, memory_files}
+use Rattle.uca_page.specs.Results.{unread, unwritten}
 use Rattle.uca_page.proofs.work.run.Goals as goal
 
 -- a source, by its parts
@@ -31,17 +33,25 @@ does-from old old_as after arguments input input_as input_after out out_as out_a
     (subst (λ (it : MemoryState). DoesCommand memory_files it after arguments (streams input out) (streams input_after out_after) err err_after status) is_old does)))
 
 pub returns : goal.returns
-returns c = record {
-  after = c.run_command-status.new.opener;
-  input_after = c.run_command-status.new.input;
-  out_after = c.run_command-status.new.out;
-  err_after = c.run_command-status.new.err;
-  does = does-from _ _ _ _ _ _ _ _ _ _ _ _ _ _ c.new-opener.ensures
-      (source-by_parts _ _ _ c.new-input.ensures.bytes c.new-input.ensures.failed)
-      (sink-by_parts _ _ _ (c.new-out.ensures.bytes ∙ ap Some c.new.ensures.items) c.new-out.ensures.failed)
-      (sink-by_parts _ _ _ (c.new-err.ensures.bytes ∙ ap Some c.new-2.ensures.items) c.new-err.ensures.failed)
-      c.run_command-status.ensures;
-  is_out = sym c.into_inner.ensures;
-  is_err = sym c.into_inner-2.ensures;
-  is_kept = sym c.into_kept.ensures;
-}
+returns c =
+    let arguments = map (λ (argument : Bor (List ℕ)). argument.now) c.args.arguments.now in
+    let names = map (λ (name : Bor (List ℕ)). name.now) c.args.names.now in
+    let files = map (λ (file : Bor (List ℕ)). file.now) c.args.files.now in
+    let after = c.run_command-status.new in
+    record {
+      after = after.opener;
+      input_after = after.input;
+      out_after = after.out;
+      err_after = after.err;
+      does = does-from c.new-opener.result (given_files names files) after.opener arguments
+          c.new-input.result (unread c.args.input.now) after.input
+          c.new-out.result unwritten after.out c.new-err.result unwritten after.err c.run_command-status.result
+          c.new-opener.ensures
+          (source-by_parts c.new-input.result (Some c.args.input.now) false c.new-input.ensures.bytes c.new-input.ensures.failed)
+          (sink-by_parts c.new-out.result (Some []) false (c.new-out.ensures.bytes ∙ ap Some c.new.ensures.items) c.new-out.ensures.failed)
+          (sink-by_parts c.new-err.result (Some []) false (c.new-err.ensures.bytes ∙ ap Some c.new-2.ensures.items) c.new-err.ensures.failed)
+          c.run_command-status.ensures;
+      is_out = sym c.into_inner.ensures;
+      is_err = sym c.into_inner-2.ensures;
+      is_kept = sym c.into_kept.ensures;
+    }
