@@ -1,5 +1,5 @@
 -- Files that mean something are rejected by no cause of their own, and the numbers are those that were asked for.
-use Rattle.std.proofs.Common.{◌∙◌, ap}
+use Rattle.std.proofs.Common.{◌∙◌, ap, sym}
 use Rattle.std.specs.Prelude.{Option, unwrap_or}
 use Rattle.uca_weights.specs.declared.Depth.{Depth}
 use Rattle.uca_weights.specs.declared.Weighting.{Weighting}
@@ -21,4 +21,4 @@ returns-in-Err-clause-only c asked at meant properties asks = told_stop _ _ _ _ 
 pub returns-in-Err-clause-rejected : goal.returns-in-Err-clause-rejected
 returns-in-Err-clause-rejected c =
     told_cause c.args.weighting c.args.depth c.in-Some.asked c.in-Some-asked_depth.depth c.args.table.now c.args.data_file.now c.in-Err.fault _ _ _
-    c.in-Some.ensures c.in-Some-asked_depth.ensures c.in-Err.ensures.fault c.tell.ensures
+    (sym c.in-Some.ensures) (sym c.in-Some-asked_depth.ensures) c.in-Err.ensures.fault c.tell.ensures
