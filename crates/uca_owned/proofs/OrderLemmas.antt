@@ -1,11 +1,17 @@
 -- The order of all byte strings is that of lists: 0 before the key of an accepted text, and 1 before all other bytes.
-use Rattle.std.proofs.Common.{◌≡◌, ◌⊎◌, ℕ, List, ◌∷◌, ◌∙◌, sym, ap, refl, chars, inl, inr}
+use Rattle.std.proofs.Common.{◌≡◌, ◌⊎◌, ℕ, suc, ◌≤◌, List, [], ◌∷◌, length, ◌∙◌, sym, ap, refl, chars, inl, inr, arith}
+use Rattle.std.specs.Str.{IsUtf8}
 use Rattle.std.specs.declared.cmp.Ordering.{Ordering}
 use Rattle.std.specs.declared.cmp.Ordering.TheVariants.{Less, Equal, Greater}
 use Rattle.std.specs.Ordering.{ordering_reverse}
 use Rattle.std.proofs.lemmas.Cmp.{nat_list_cmp_total}
-use Rattle.uca_order.specs.Levels.{lexicographic}
+use Rattle.uca_text.specs.Texts.{nfd_text}
+use Rattle.uca_order.specs.Levels.{lexicographic, compare_from, decided}
+use Rattle.uca_order.specs.Depths.{read_text, lists_at}
 use Rattle.uca_order.specs.Laws.{StoredKeysCompareAsTexts}
+use Rattle.uca_order.proofs.KeyOrder.{lexicographic_itself}
+use Rattle.uca_text_comparer.proofs.PlainComparisons.{text_accepted}
+use Rattle.uca_text_comparer.proofs.PrimarySteps.{short_no_long_run}
 use Rattle.uca_order.specs.Keyings.{Keying, key_of_bytes, bytes_compared}
 use Rattle.uca_owned.specs.Causes.{IsAcceptedText}
 use Rattle.uca_owned.specs.Orders.{IsOrder, OrdersAreTotal}
@@ -25,6 +31,32 @@ stable Greater Greater h = refl
 -- an equation of orders may be shown for a fact and for its negation
 by_choice : (A : Type 0) (x y : Ordering) → (A ⊎ (A → ⊥) → x ≡ y) → x ≡ y
 by_choice A x y h = stable x y (λ differ. differ (h (inr (λ a. differ (h (inl a))))))
+
+-- a text is equal to itself, at each level
+lists_themselves : (level : ℕ) (lists : List (List ℕ)) → compare_from level lists lists ≡ record { order = Equal; level = 0 }
+lists_themselves level [] = refl
+lists_themselves level (a ∷ more) =
+    ap (λ o. decided o level (compare_from (suc level) more more)) (lexicographic_itself a) ∙ lists_themselves (suc level) more
+
+pub compared_itself : (k : Keying) (bytes : List ℕ) → bytes_compared k bytes bytes ≡ record { order = Equal; level = 0 }
+compared_itself k bytes =
+    lists_themselves 1 (lists_at k.settings.depth k.settings.weighting (read_text k.collation (nfd_text k.collation.properties (chars bytes))))
+
+-- all bytes are equal to themselves, accepted or not
+pub same_order : (k : Keying) (bytes : List ℕ) → IsOrder k bytes bytes Equal
+same_order k bytes = record {
+  both = λ _ _. sym (ap (λ c. c.order) (compared_itself k bytes));
+  left_alone = λ taken left_out. absurd (left_out taken);
+  right_alone = λ left_out taken. absurd (left_out taken);
+  neither = λ _ _. sym (lexicographic_itself bytes);
+}
+
+-- a short text is accepted
+pub short_accepted : (k : Keying) (bytes : List ℕ) → IsUtf8 bytes → length bytes ≤ 32 → IsAcceptedText k.collation.properties bytes
+short_accepted k bytes utf8 short = record {
+  utf8 = utf8;
+  accepted = text_accepted k.collation bytes utf8 (omega (arith, short)) (short_no_long_run k.collation.properties.class bytes utf8 short);
+}
 
 -- the order of two texts that are accepted
 pub accepted_order : (k : Keying) (left right : List ℕ) (o : Ordering) → IsAcceptedText k.collation.properties left → IsAcceptedText k.collation.properties right

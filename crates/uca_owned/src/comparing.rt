@@ -4,7 +4,7 @@ ghost use Rattle.std.specs.Prelude.{◌≡◌, chars, IfOk, IfErr, IfSome, OnOk}
 ghost use Rattle.std.specs.Str.{IsUtf8};
 ghost use Rattle.uca_values.specs.Content.{properties_of};
 ghost use Rattle.uca_text.specs.Texts.{nfd_text};
-ghost use Rattle.uca_order.specs.Keyings.{keying_by, bytes_compared, compared_by};
+ghost use Rattle.uca_order.specs.Keyings.{Keying, keying_by, bytes_compared, compared_by};
 ghost use Rattle.uca_plain.specs.PointCache.{AreTrueEntries};
 ghost use Rattle.uca_match.specs.OwnedCollations.{owned_collation};
 ghost use Rattle.uca_owned.specs.Causes.{IsAcceptedText, IsKeyCause, IsCompareCause};
@@ -18,6 +18,26 @@ use uca_text::Normal;
 use uca_text_comparer::PlainComparison;
 use uca_values::Data;
 use uca_weights::Settings;
+
+/// A text of so many bytes is accepted: it has at most 64 code points in Normalization Form D.
+const SHORT_TEXT: usize = 32;
+
+/// How a short text compares with itself. It is accepted, so none of its code points is looked up. There is no result for two
+/// other texts, for a long one, and for bytes that are no UTF-8.
+pub(crate) fn compare_same(left: &[u8], right: &[u8]) -> Option<(Ordering, u8)>
+    ensures compared { (k : Keying) → IfSome result (λ pair.
+        let answer = bytes_compared k left.now right.now in (pair.0 ≡ answer.order) × (pair.1 ≡ answer.level)) }
+    ensures accepted { (k : Keying) → IfSome result (λ _.
+        IsAcceptedText k.collation.properties left.now × IsAcceptedText k.collation.properties right.now) }
+{
+    if left.len() > SHORT_TEXT || left != right {
+        return None;
+    }
+    match str::from_utf8(left) {
+        Ok(_) => Some((Ordering::Equal, 0)),
+        Err(_) => None,
+    }
+}
 
 /// Takes the text of these bytes in place of the one that was there.
 pub(crate) fn renew(normal: &mut Normal, bytes: &[u8], properties: &Data) -> Result<(), KeyFault>

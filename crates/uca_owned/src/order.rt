@@ -93,6 +93,9 @@ impl OwnedCollator {
         ensures keying { keying_in self.new ≡ keying_in self.old }
         ensures key { key_in self.new ≡ key_in self.old }
     {
+        if left == right {
+            return Ok(Ordering::Equal);
+        }
         let found = compare_plain(&self.collation, &mut self.plain, self.settings, left, right)?;
         if let Some(pair) = found {
             return Ok(pair.0);
