@@ -6,7 +6,7 @@ ghost use Rattle.uca_owned.specs.Owned.{keying_in, key_in};
 ghost use Rattle.uca_owned.specs.Causes.{IsAcceptedText, IsKeyCause, IsCompareCause};
 
 use crate::OwnedCollator;
-use crate::comparing::{compare_normalized, compare_plain, compare_same};
+use crate::comparing::{compare_normalized, compare_plain};
 use crate::faults::{CompareFault, KeyFault};
 use std::cmp::Ordering;
 use uca_text::TextFault;
@@ -58,9 +58,6 @@ impl OwnedCollator {
         ensures keying { keying_in self.new ≡ keying_in self.old }
         ensures key { key_in self.new ≡ key_in self.old }
     {
-        if let Some(pair) = compare_same(left, right) {
-            return Ok(pair);
-        }
         let Ok(found) = compare_plain(&self.collation, &mut self.plain, self.settings, left, right)
         else {
             return Err(CompareFault::Left(KeyFault::Text(TextFault::Memory)));

@@ -22,21 +22,21 @@ use uca_weights::Settings;
 /// A text of so many bytes is accepted: it has at most 64 code points in Normalization Form D.
 const SHORT_TEXT: usize = 32;
 
-/// How a short text compares with itself. It is accepted, so none of its code points is looked up. There is no result for two
-/// other texts, for a long one, and for bytes that are no UTF-8.
-pub(crate) fn compare_same(left: &[u8], right: &[u8]) -> Option<(Ordering, u8)>
+// How a short text compares with itself. It is accepted, so none of its code points is looked up. There is no result for two
+// other texts, for a long one, and for bytes that are no UTF-8.
+fn compare_same(left: &[u8], right: &[u8]) -> Option<(Ordering, u8)>
     ensures compared { (k : Keying) → IfSome result (λ pair.
         let answer = bytes_compared k left.now right.now in (pair.0 ≡ answer.order) × (pair.1 ≡ answer.level)) }
     ensures accepted { (k : Keying) → IfSome result (λ _.
         IsAcceptedText k.collation.properties left.now × IsAcceptedText k.collation.properties right.now) }
 {
-    if left.len() > SHORT_TEXT || left != right {
-        return None;
+    if left.len() <= SHORT_TEXT
+        && left == right
+        && let Ok(_) = str::from_utf8(left)
+    {
+        return Some((Ordering::Equal, 0));
     }
-    match str::from_utf8(left) {
-        Ok(_) => Some((Ordering::Equal, 0)),
-        Err(_) => None,
-    }
+    None
 }
 
 /// Takes the text of these bytes in place of the one that was there.
@@ -54,13 +54,8 @@ pub(crate) fn renew(normal: &mut Normal, bytes: &[u8], properties: &Data) -> Res
     }
 }
 
-/// How two texts compare that are plain, as they are: their order, and the first level at which they differ, or 0. There is no
-/// result where one of them is no UTF-8, and where a [`PlainComparison`] has none.
-///
-/// # Errors
-///
-/// An allocation failed.
-pub(crate) fn compare_plain(
+// How two texts compare by what is known of their code points, as `compare_plain` says.
+fn compare_known(
     collation: &OwnedCollation,
     plain: &mut PlainComparison,
     settings: Settings,
@@ -88,6 +83,34 @@ pub(crate) fn compare_plain(
         return Ok(Some((compared.order, compared.level)));
     }
     Ok(None)
+}
+
+/// How two texts compare that are plain, as they are: their order, and the first level at which they differ, or 0. There is no
+/// result where one of them is no UTF-8, and where a [`PlainComparison`] has none. A short text and itself are equal at once.
+///
+/// # Errors
+///
+/// An allocation failed.
+pub(crate) fn compare_plain(
+    collation: &OwnedCollation,
+    plain: &mut PlainComparison,
+    settings: Settings,
+    left: &[u8],
+    right: &[u8],
+) -> Result<Option<(Ordering, u8)>, AllocError>
+    requires { AreTrueEntries (owned_collation collation.now) plain.old.points.entries.items }
+    ensures known { AreTrueEntries (owned_collation collation.now) plain.new.points.entries.items }
+    ensures compared { IfOk result (λ found. IfSome found (λ pair.
+        let answer = bytes_compared (keying_by (owned_collation collation.now) settings) left.now right.now in
+        (pair.0 ≡ answer.order) × (pair.1 ≡ answer.level))) }
+    ensures accepted { let properties = properties_of collation.now.properties in IfOk result (λ found. IfSome found (λ _.
+        IsAcceptedText properties left.now × IsAcceptedText properties right.now)) }
+    ensures utf8 { IfErr result (λ _. IsUtf8 left.now) }
+{
+    match compare_same(left, right) {
+        Some(pair) => Ok(Some(pair)),
+        None => compare_known(collation, plain, settings, left, right),
+    }
 }
 
 /// How two texts in Normalization Form D compare: their order, and the first level at which they differ, or 0.

@@ -1,5 +1,5 @@
 -- What is read of the bytes of two files is what they mean.
-use Rattle.std.proofs.Common.{◌≡◌, ◌∙◌}
+use Rattle.std.proofs.Common.{◌∙◌}
 use Rattle.uca_order.specs.Keyings.{keying}
 use Rattle.uca_owned.proofs.owned.OwnedCollator.open.Goals as goal
 

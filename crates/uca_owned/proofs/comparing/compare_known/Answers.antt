@@ -5,7 +5,7 @@ use Rattle.uca_elements.specs.Collations.{Collation, collation_of}
 use Rattle.uca_match.specs.NumberedKeys.{rows_at}
 use Rattle.uca_order.specs.Depths.{texts_compared}
 use Rattle.uca_comparison.specs.declared.comparison.Compared.{Compared}
-use Rattle.uca_owned.proofs.comparing.compare_plain.Goals as goal
+use Rattle.uca_owned.proofs.comparing.compare_known.Goals as goal
 
 pub returns-in-Some-clause-compared : goal.returns-in-Some-clause-compared
 returns-in-Some-clause-compared c =
