@@ -12,15 +12,17 @@ ghost use Rattle.uca_changes.specs.Changes.{Change};
 ghost use Rattle.uca_owned.specs.Opening.{MeanFiles, IsOpenCause, IsOpenStop};
 ghost use Rattle.uca_upgrade.specs.Files.{MeanChange};
 ghost use Rattle.uca_upgrade.specs.Causes.{AreEditions, IsUpgradeCause, IsUpgradeStop, RejectsChanges, RejectsCertificate};
-ghost use Rattle.uca_upgrade.specs.inside.Read.{AreEditionsOf, EditionsMean, IsListedOf, ListMeans, change_of, new_fault_of, old_fault_of};
+ghost use Rattle.uca_change_runs.specs.ReadChange.{change_of};
+ghost use Rattle.uca_upgrade.specs.inside.Read.{AreEditionsOf, EditionsMean, IsListedOf, ListMeans, new_fault_of, old_fault_of};
 
 use crate::faults::UpgradeFault;
 use std::alloc::Global;
 use uca_certificates::{Certificate, CertificateFault, CertificateFaultKind, read_certificate};
 use uca_change_files::{ChangeList, read_changes};
+use uca_change_runs::{ChangeFiles, Edition, EditionFiles, Listed};
 use uca_owned::{OpenFault, in_memory};
 use uca_table::{read_data, read_table};
-use uca_values::{Data, Table, TableFault};
+use uca_values::TableFault;
 use uca_weights::Source;
 
 /// The bytes of the six files of an upgrade.
@@ -40,36 +42,8 @@ pub struct UpgradeFiles<'a> {
     pub certificate: &'a [u8],
 }
 
-// What a table and its data file mean.
-#[derive(Drop)]
-pub(crate) struct Edition {
-    pub(crate) table: Table,
-    pub(crate) properties: Data,
-}
-
-// What the files of both editions mean.
-#[derive(Drop)]
-pub(crate) struct Editions {
-    pub(crate) old: Edition,
-    pub(crate) new: Edition,
-}
-
-// What a file of changes and a certificate mean.
-#[derive(Drop)]
-pub(crate) struct Listed {
-    pub(crate) list: ChangeList,
-    pub(crate) certificate: Certificate,
-}
-
-// What all six files mean.
-#[derive(Drop)]
-pub(crate) struct ReadChange {
-    pub(crate) editions: Editions,
-    pub(crate) listed: Listed,
-}
-
 // Reads the six files, in their order.
-pub(crate) fn read_change(alloc: Global, files: &UpgradeFiles) -> Result<ReadChange, UpgradeFault>
+pub(crate) fn read_change(alloc: Global, files: &UpgradeFiles) -> Result<ChangeFiles, UpgradeFault>
     ensures found { IfOk result (λ read. MeanChange files.now (change_of read)) }
     ensures only { (change : Change) → MeanChange files.now change →
         MatchResult result (λ read. change_of read ≡ change) (IsUpgradeStop change) }
@@ -77,7 +51,7 @@ pub(crate) fn read_change(alloc: Global, files: &UpgradeFiles) -> Result<ReadCha
 {
     match read_editions(alloc, files) {
         Ok(editions) => match read_listed(alloc, files) {
-            Ok(listed) => Ok(ReadChange { editions, listed }),
+            Ok(listed) => Ok(ChangeFiles { editions, listed }),
             Err(fault) => {
                 drop(editions);
                 Err(fault)
@@ -88,7 +62,7 @@ pub(crate) fn read_change(alloc: Global, files: &UpgradeFiles) -> Result<ReadCha
 }
 
 // Reads the files of the old edition, and then those of the new one.
-fn read_editions(alloc: Global, files: &UpgradeFiles) -> Result<Editions, UpgradeFault>
+fn read_editions(alloc: Global, files: &UpgradeFiles) -> Result<EditionFiles, UpgradeFault>
     ensures found { IfOk result (EditionsMean files.now) }
     ensures only { (change : Change) → MeanChange files.now change →
         MatchResult result (AreEditionsOf change) (IsUpgradeStop change) }
@@ -96,7 +70,7 @@ fn read_editions(alloc: Global, files: &UpgradeFiles) -> Result<Editions, Upgrad
 {
     match read_edition(alloc, files.old_table, files.old_data) {
         Ok(old) => match read_edition(alloc, files.new_table, files.new_data) {
-            Ok(new) => Ok(Editions { old, new }),
+            Ok(new) => Ok(EditionFiles { old, new }),
             Err(fault) => {
                 drop(old);
                 Err(new_fault(fault))
