@@ -14,11 +14,13 @@ pub struct FileError {
 #[repr(C)]
 #[derive(Clone, Copy, Debug, Drop)]
 pub struct UpgradeError {
-    /// The file: 1 the old table, 2 its data file, 3 the new table, 4 its data file, 5 the file of changes, 6 the certificate.
+    /// The file: 1 the old table, 2 its data file, 3 the new table, 4 its data file, 5 the file of changes,
+    /// 6 the certificate.
     pub file: u32,
     /// Its line, counted from 1.
     pub line: u32,
-    /// The kind, as in a `FileError`; of a certificate also 10 `Map Empty`, 11 `Map NotRising`, 12 `Map OutOfRange`, 13 `Map Fixed`.
+    /// The kind, as in a `FileError`; of a certificate also 10 `Map Empty`, 11 `Map NotRising`, 12 `Map OutOfRange`,
+    /// 13 `Map Fixed`.
     pub kind: u32,
     /// The condition of the audit that is not met, counted from 1.
     pub condition: u32,

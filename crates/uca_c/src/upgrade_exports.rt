@@ -28,8 +28,8 @@ pub extern "C" fn uca_upgrade_size() -> usize
     size_of::<UpgradeSlot>()
 }
 
-/// Opens an upgrade that is closed, by the bytes of six files. An upgrade that is opened is one of an accepted change. By it the old key of
-/// each text that is not affected, put through the maps, is the text's new key.
+/// Opens an upgrade that is closed, by the bytes of six files. An upgrade that is opened is one of an accepted change.
+/// By it the old key of each text that is not affected, put through the maps, is the text's new key.
 #[unsafe(no_mangle)]
 pub extern "C" fn uca_open_upgrade(
     alloc: Global,
@@ -131,7 +131,8 @@ pub extern "C" fn uca_rekey(
     status
 }
 
-/// Writes the fingerprint of what the old keys were made by at `old_out`, and that of what the new keys are made by at `new_out`.
+/// Writes the fingerprint of what the old keys were made by at `old_out`, and that of what the new keys are made by at
+/// `new_out`.
 #[unsafe(no_mangle)]
 pub extern "C" fn uca_upgrade_fingerprints(
     alloc: Global,

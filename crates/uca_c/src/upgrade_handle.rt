@@ -1,5 +1,5 @@
-//! What C has of an upgrade: one in memory of its own, or nothing. It is a `Handle` (`handle.rt`) of another type: the compiler takes no type
-//! with parameters from C.
+//! What C has of an upgrade: one in memory of its own, or nothing. It is as a `Handle` (`handle.rt`) is. The compiler
+//! takes no type with parameters from C, so it is a type of its own.
 
 ghost use Rattle.std.specs.Prelude.{◌≡◌, true, false};
 ghost use Rattle.uca_upgrade.specs.Upgrades.{UpgradeState};
@@ -11,7 +11,8 @@ use std::alloc::Global;
 use std::marker::Model;
 use std::ptr;
 
-/// In C `struct { void *inside; bool is_kept; }`. Where `full` is false it owns nothing. It is never dropped, as a `Handle` is not.
+/// In C `struct { void *inside; bool is_kept; }`. Where `full` is false it owns nothing. It is never dropped, as a
+/// `Handle` is not.
 #[repr(C)]
 pub struct UpgradeHandle {
     ptr: *mut u8,

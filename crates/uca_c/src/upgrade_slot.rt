@@ -8,7 +8,8 @@ use crate::upgrade_handle::UpgradeHandle;
 use std::alloc::Global;
 use std::mem;
 
-/// In C `struct uca_upgrade`: a handle, and whether there is an upgrade in it. It is never dropped, as its handle is not.
+/// In C `struct uca_upgrade`: a handle, and whether there is an upgrade in it. It is never dropped, as its handle is
+/// not.
 #[repr(C)]
 pub struct UpgradeSlot {
     pub(crate) handle: UpgradeHandle,
