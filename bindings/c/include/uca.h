@@ -7,20 +7,26 @@
      writable, and not written by anyone while the call lasts. What a call writes does not overlap anything else that it is
      given. A pointer is never NULL, not even where the length is 0. A length is below 2^63.
    - A uca_collator was zeroed (UCA_CLOSED_COLLATOR) before its first call, and its members are written by calls alone. It may be
-     moved in memory, between calls, if the old bytes are forgotten. A copy of an open one is none.
-   - A uca_collator is in one call at a time. It may change threads between two calls, if a lock or a thread's start or join orders
-     these. uca_abi, uca_version, uca_collator_size, uca_compare_keys, uca_fingerprint and uca_compact_fingerprint may be called
-     from any thread at any time.
+     moved in memory, between calls, if the old bytes are forgotten. A copy of an open one is none. So it is with a uca_upgrade
+     (UCA_CLOSED_UPGRADE).
+   - A uca_collator or a uca_upgrade is in one call at a time. It may change threads between two calls, if a lock or a thread's
+     start or join orders these. uca_abi, uca_version, uca_collator_size, uca_upgrade_size, uca_compare_keys, uca_fingerprint and
+     uca_compact_fingerprint may be called from any thread at any time.
    - malloc, realloc and free are one allocator, whose blocks are aligned to 16 bytes. No call is made in a signal handler, or in
      the forked child of a process with threads.
 
    Who owns what: memory that a pointer names stays the caller's. An open collator has memory of its own, which uca_close
-   gives back. uca_open and uca_open_compact keep none of the bytes that they read.
+   gives back, and so has an open upgrade, for uca_close_upgrade. uca_open, uca_open_compact and uca_open_upgrade keep none of
+   the bytes that they read.
 
    Keys are whole or compact. uca_key makes whole keys (UTS #10, section 7.3) where the collator was opened by uca_open, and
    compact keys where it was opened by uca_open_compact. A compact key is the same key in fewer bytes, by a book: a small file that
    says which weights have short codes (docs/FORMATS.md, "Book files"). Compact keys of one book compare as bytes as the whole keys
-   do. Keys of two books do not mix, and compact keys do not mix with whole ones. */
+   do. Keys of two books do not mix, and compact keys do not mix with whole ones.
+
+   A new edition of the table makes other keys. Say a database has words with whole keys by an old table and data file. An upgrade
+   (uca_open_upgrade) tells which words need a new key by the new files (uca_affected). The old keys of all other words become
+   their new keys without the words (uca_rekey). */
 #ifndef UCA_H
 #define UCA_H
 
@@ -38,8 +44,8 @@ extern "C" {
 /* What a call did. No call ends the program: each error is a status. */
 typedef enum uca_status {
     UCA_OK = 0,           /* the call did what it says */
-    UCA_CLOSED = 1,       /* the collator is closed */
-    UCA_ALREADY_OPEN = 2, /* the collator is open, and stays as it is */
+    UCA_CLOSED = 1,       /* the collator or the upgrade is closed */
+    UCA_ALREADY_OPEN = 2, /* the collator or the upgrade is open, and stays as it is */
     UCA_ARGUMENT = 3,     /* the weighting or the depth is none of those below */
     UCA_TABLE = 4,        /* the table is rejected: the error has the line and why */
     UCA_DATA = 5,         /* the table is read, and the data file is rejected: the error has the line and why */
@@ -50,7 +56,10 @@ typedef enum uca_status {
     UCA_SMALL = 10,       /* what is written has more bytes than there is room for */
     UCA_BOOK = 11,        /* the table and the data file are read, and the book is rejected: the error has the line and why */
     UCA_NO_BOOK = 12,     /* the collator has no book: it was opened by uca_open */
-    UCA_NO_KEY = 13       /* the bytes are no key of the collator's settings, or no compact key of its book */
+    UCA_NO_KEY = 13,      /* the bytes are no key of the collator's settings, or no compact key of its book */
+    UCA_FILE = 14,        /* a file of an upgrade is rejected: the error has which one, the line and why */
+    UCA_NOT_MET = 15,     /* the files of an upgrade are read, and the audit rejects them: the error has the condition and the position */
+    UCA_NO_IMAGE = 16     /* a weight of the key has no image under the upgrade */
 } uca_status;
 
 /* How variable elements, such as spaces and punctuation, are weighted (UTS #10, section 4). */
@@ -90,7 +99,11 @@ typedef enum uca_kind {
     UCA_KIND_RANGE = 6,
     UCA_KIND_LIMIT = 7,
     UCA_KIND_READ = 8, /* bytes in memory are always read, so this does not come */
-    UCA_KIND_MEMORY = 9 /* memory ran out while the file was read */
+    UCA_KIND_MEMORY = 9, /* memory ran out while the file was read */
+    UCA_KIND_MAP_EMPTY = 10, /* of a certificate alone, and so are the others of a map */
+    UCA_KIND_MAP_NOT_RISING = 11,
+    UCA_KIND_MAP_OUT_OF_RANGE = 12,
+    UCA_KIND_MAP_FIXED = 13
 } uca_kind;
 
 /* A collator. Zeros are a closed one. The members are the library's; uca_collator_size tells how many bytes they have. */
@@ -115,6 +128,59 @@ typedef struct uca_comparison {
     int32_t order;  /* -1 if the left one comes first, 1 if the right one does, 0 if they are equal */
     uint32_t level; /* the first level at which they differ, from 1 on, or 0 */
 } uca_comparison;
+
+/* An upgrade of stored keys. Zeros are a closed one. The members are the library's; uca_upgrade_size tells how many bytes
+   they have. */
+typedef struct uca_upgrade {
+    struct {
+        void *inside;
+        bool is_kept;
+    } handle;
+    bool is_open;
+} uca_upgrade;
+
+#define UCA_CLOSED_UPGRADE {{0, 0}, 0}
+
+/* A file of an upgrade. */
+typedef enum uca_upgrade_file {
+    UCA_OLD_TABLE = 1,
+    UCA_OLD_DATA = 2,
+    UCA_NEW_TABLE = 3,
+    UCA_NEW_DATA = 4,
+    UCA_CHANGES = 5,
+    UCA_CERTIFICATE = 6
+} uca_upgrade_file;
+
+/* A condition of the audit that is not met. docs/FORMATS.md says what each means, as `uca audit-changes` prints it. */
+typedef enum uca_condition {
+    UCA_OLD_ILL_FORMED = 1,
+    UCA_NEW_ILL_FORMED = 2,
+    UCA_RANGE_CHANGED = 3,
+    UCA_UNCOVERED = 4,
+    UCA_ROW_CHANGED = 5,
+    UCA_ROW_MISSING = 6,
+    UCA_ROW_EXTRA = 7,
+    UCA_POINT_CHANGED = 8,
+    UCA_SETTING_CHANGED = 9
+} uca_condition;
+
+/* What the number of a position counts. */
+typedef enum uca_place {
+    UCA_NOWHERE = 0,      /* nothing: there is no position */
+    UCA_AT_OLD_ROW = 1,   /* rows of the old table, from 1 on */
+    UCA_AT_NEW_ROW = 2,   /* rows of the new table, from 1 on */
+    UCA_AT_CODE_POINT = 3 /* it is a code point */
+} uca_place;
+
+/* Why an upgrade is not opened. All members are 0 unless the status is UCA_FILE or UCA_NOT_MET. */
+typedef struct uca_upgrade_error {
+    uint32_t file;      /* UCA_FILE: a uca_upgrade_file, the first that is rejected */
+    uint32_t line;      /* UCA_FILE: its line, from 1 on */
+    uint32_t kind;      /* UCA_FILE: a uca_kind */
+    uint32_t condition; /* UCA_NOT_MET: a uca_condition, the first that is not met */
+    uint32_t place;     /* UCA_NOT_MET: a uca_place, what the number below is */
+    uint32_t number;    /* UCA_NOT_MET: the first position where it is not met */
+} uca_upgrade_error;
 
 /* UCA_ABI, as the library was built. */
 uint32_t uca_abi(void);
@@ -242,6 +308,51 @@ void uca_compact_fingerprint(const uint8_t *keys, const uint8_t *book, size_t bo
 
 /* Gives back all memory of a collator, which is closed then. A closed one stays so. */
 void uca_close(uca_collator *collator);
+
+/* sizeof(uca_upgrade), as the library was built. */
+size_t uca_upgrade_size(void);
+
+/* Opens a closed upgrade by the bytes of six files: the table and the data file that the stored keys were made by, the new
+   table and data file, and the file of changes and the certificate that `uca changes` made of these four. The files are judged
+   in this order. Then the change that they mean is audited, as `uca audit-changes` does. `weighting` and `depth` are those that
+   the stored keys were made with, also where that is UCA_BY_TABLE.
+
+   UCA_OK: the audit accepts the change. Take any text of UTF-8 that the change does not affect, by uca_affected. uca_rekey makes
+   of its key by the old files its key by the new files. Two such texts compare by the new files as by the old ones.
+   UCA_ALREADY_OPEN, UCA_ARGUMENT, UCA_FILE, UCA_NOT_MET, UCA_MEMORY: the upgrade is as before. */
+uint32_t uca_open_upgrade(uca_upgrade *upgrade, const uint8_t *old_table, size_t old_table_length, const uint8_t *old_data,
+                          size_t old_data_length, const uint8_t *new_table, size_t new_table_length, const uint8_t *new_data,
+                          size_t new_data_length, const uint8_t *changes, size_t changes_length, const uint8_t *certificate,
+                          size_t certificate_length, uint32_t weighting, uint32_t depth, uca_upgrade_error *error);
+
+/* Whether the key of a text has to be made anew, by a collator of the new files. `uca affected --changes` prints exactly the
+   lines of such texts.
+
+   UCA_OK: `*affected` is 1 if the change affects the text, else 0.
+   UCA_CLOSED, UCA_UTF8, UCA_TOO_LONG, UCA_LONG_RUN, UCA_MEMORY: `*affected` is 0. */
+uint32_t uca_affected(uca_upgrade *upgrade, const uint8_t *text, size_t length, uint32_t *affected);
+
+/* The new key of the old key of a text that the change does not affect. Give it whole keys of the first fingerprint of
+   uca_upgrade_fingerprints alone. No other key is told from these. The key of an affected text has to be made anew: here it
+   becomes other bytes, or has no image. Compact keys are expanded before (uca_expand), and the new keys are made compact after
+   (uca_compact).
+
+   UCA_OK: the first `*needed` bytes of `out` are the new key, and those after them are as before.
+   UCA_SMALL: the new key has `*needed` bytes, and `room` is less.
+   UCA_NO_IMAGE: a weight of the key has no image. So it is if the bytes are no key of the weighting and the depth. `*needed` is 0.
+   UCA_CLOSED, UCA_MEMORY: `*needed` is 0.
+   Unless the status is UCA_OK, `out` is as before. */
+uint32_t uca_rekey(uca_upgrade *upgrade, const uint8_t *key, size_t length, uint8_t *out, size_t room, size_t *needed);
+
+/* The fingerprints of the old keys and of the new keys, as uca_fingerprint makes them of the old files and of the new ones.
+   The upgrade is for keys of the old one alone: compare it with the fingerprint that is kept beside the stored keys.
+
+   UCA_OK: the 32 bytes at `old_out` and those at `new_out` are written.
+   UCA_CLOSED: they are as before. */
+uint32_t uca_upgrade_fingerprints(uca_upgrade *upgrade, uint8_t *old_out, uint8_t *new_out);
+
+/* Gives back all memory of an upgrade, which is closed then. A closed one stays so. */
+void uca_close_upgrade(uca_upgrade *upgrade);
 
 #ifdef __cplusplus
 }
