@@ -8,7 +8,10 @@ use std::test::Fail;
 use test_kit::{TABLE, holds, joined, repeated, same_bytes};
 use uca_books::Book;
 use uca_compact::KeyCompacter;
-use uca_lookups::write_same_levels_range;
+use uca_lookups::{
+    read_letters, write_letters_range, write_same_compact_levels_range, write_same_letters_range,
+    write_same_levels_range,
+};
 use uca_owned::OwnedCollator;
 use uca_weights::{Depth, Settings, Weighting};
 
@@ -37,35 +40,78 @@ const ACUTE: Part<'static> = Part {
     tertiary: "\0\x02\0\x02",
 };
 
-/// The first two levels of the key of a part that comes so many times.
-fn first_levels(alloc: Global, part: &Part, count: usize) -> Result<String, AllocError> {
-    let primary = repeated(alloc, part.primary, count)?;
-    let secondary = repeated(alloc, part.secondary, count)?;
-    joined(alloc, &[primary.as_str(), "\0\0", secondary.as_str()])
+/// A part that comes so many times: its text, its key, and the first levels of that.
+#[derive(Drop)]
+struct Repeated {
+    text: String,
+    primary: String,
+    first: String,
+    key: String,
 }
 
-/// A key becomes compact, and whole again.
-fn check_compact(
-    alloc: Global,
-    compacter: &mut KeyCompacter,
-    key: &[u8],
-    case: &str,
-) -> Result<(), Fail> {
+/// What a part is that comes so many times.
+fn repeated_part(alloc: Global, part: &Part, count: usize) -> Result<Repeated, AllocError> {
+    let text = repeated(alloc, part.text, count)?;
+    let primary = repeated(alloc, part.primary, count)?;
+    let secondary = repeated(alloc, part.secondary, count)?;
+    let tertiary = repeated(alloc, part.tertiary, count)?;
+    let first = joined(alloc, &[primary.as_str(), "\0\0", secondary.as_str()])?;
+    let key = joined(alloc, &[first.as_str(), "\0\0", tertiary.as_str()])?;
+    Ok(Repeated {
+        text,
+        primary,
+        first,
+        key,
+    })
+}
+
+/// A key becomes compact, and whole again. Compact keys have a range too.
+fn check_compact(alloc: Global, key: &[u8], case: &str) -> Result<(), Fail> {
+    let settings = Settings {
+        weighting: Weighting::NonIgnorable,
+        depth: Depth::Weights,
+    };
+    let mut compacter = KeyCompacter::new(alloc, Book::new(alloc), settings);
     let mut compact = Vec::new(alloc);
     let mut whole = Vec::new(alloc);
     holds(compacter.write_compact(key, &mut compact)?, case)?;
     holds(compacter.write_key(&compact, &mut whole)?, case)?;
-    same_bytes(&whole, key, case)
+    same_bytes(&whole, key, case)?;
+    holds(
+        write_same_compact_levels_range(
+            &mut compacter,
+            settings,
+            key,
+            2,
+            &mut compact,
+            &mut whole,
+        )?,
+        case,
+    )?;
+    holds(compact.as_slice() < whole.as_slice(), case)
 }
 
-/// The keys with the same letters and accents begin at the first two levels, and end before these and 0001.
-fn check_range(alloc: Global, key: &[u8], first: &str, case: &str) -> Result<(), Fail> {
+/// Whether a range begins at these bytes, and ends before these and two more.
+fn is_range(low: &[u8], high: &[u8], front: &[u8], end: &[u8]) -> bool {
+    low == front && high.get(..front.len()) == Some(front) && high.get(front.len()..) == Some(end)
+}
+
+/// The ranges of the whole keys with the same letters, with letters that begin so, and with the same letters and accents.
+fn check_ranges(alloc: Global, it: &Repeated, case: &str) -> Result<(), Fail> {
+    let key = it.key.as_bytes();
+    let mut letters = Vec::new(alloc);
     let mut low = Vec::new(alloc);
     let mut high = Vec::new(alloc);
+    holds(read_letters(key, &mut letters)?, case)?;
+    write_same_letters_range(&letters, &mut low, &mut high)?;
+    holds(is_range(&low, &high, it.primary.as_bytes(), &[0, 1]), case)?;
+    write_letters_range(&letters, &mut low, &mut high)?;
+    holds(
+        is_range(&low, &high, it.primary.as_bytes(), &[0xFF, 0xFF]),
+        case,
+    )?;
     holds(write_same_levels_range(key, 2, &mut low, &mut high)?, case)?;
-    let end = joined(alloc, &[first, "\0\x01"])?;
-    same_bytes(&low, first.as_bytes(), case)?;
-    same_bytes(&high, end.as_bytes(), case)
+    holds(is_range(&low, &high, it.first.as_bytes(), &[0, 1]), case)
 }
 
 /// A text equals itself, and comes before itself with one more letter.
@@ -90,31 +136,22 @@ fn check_order(
 fn check_length(
     alloc: Global,
     collator: &mut OwnedCollator,
-    compacter: &mut KeyCompacter,
     part: &Part,
     count: usize,
 ) -> Result<(), Fail> {
     let case = format!(in alloc; "{count} times {}", part.text)?;
-    let text = repeated(alloc, part.text, count)?;
-    let first = first_levels(alloc, part, count)?;
-    let tertiary = repeated(alloc, part.tertiary, count)?;
-    let key = joined(alloc, &[first.as_str(), "\0\0", tertiary.as_str()])?;
-    check_key(collator, text.as_bytes(), key.as_bytes(), &case)?;
-    check_compact(alloc, compacter, key.as_bytes(), &case)?;
-    check_range(alloc, key.as_bytes(), &first, &case)?;
-    check_order(alloc, collator, &text, &case)
+    let it = repeated_part(alloc, part, count)?;
+    check_key(collator, it.text.as_bytes(), it.key.as_bytes(), &case)?;
+    check_compact(alloc, it.key.as_bytes(), &case)?;
+    check_ranges(alloc, &it, &case)?;
+    check_order(alloc, collator, &it.text, &case)
 }
 
 /// A part in each number.
 fn check_lengths(alloc: Global, part: &Part) -> Result<(), Fail> {
     let mut collator = opened(alloc, TABLE.as_bytes(), "the table")?;
-    let settings = Settings {
-        weighting: Weighting::NonIgnorable,
-        depth: Depth::Weights,
-    };
-    let mut compacter = KeyCompacter::new(alloc, Book::new(alloc), settings);
     for count in &sizes(alloc)? {
-        check_length(alloc, &mut collator, &mut compacter, part, *count)?;
+        check_length(alloc, &mut collator, part, *count)?;
     }
     Ok(())
 }
