@@ -1,7 +1,7 @@
-"""Each allocation fails in turn, also those of `unicode_normalization` and `clap`, which take memory by themselves.
+"""Each allocation fails, alone and with all after it, also those of `unicode_normalization` and `clap`, which take memory by themselves.
 
-How a run may end then is said in `tests/by_hand/refusals.py`, which lets reads, writes and openings fail too. A C compiler is needed for that, so these tests are
-not run where there is none.
+`tests/by_hand/refusals.py` says how a run may end then, and lets reads, writes and openings fail too. It needs a C compiler: without one these tests are not
+run.
 """
 import os
 import shutil
@@ -22,7 +22,7 @@ NORMALIZED = (
     "tailor table.txt data.txt spellings.txt made.txt",
     "affected data.txt rules.txt",
 )
-TOLD = ("tailor --help", "audit table.txt")
+TOLD = ("tailor --help", "keys --weighting none table.txt data.txt", "audit table.txt")
 
 
 @unittest.skipUnless(shutil.which("cc"), "there is no C compiler cc")
@@ -32,9 +32,9 @@ class Allocations(unittest.TestCase):
         with tempfile.TemporaryDirectory(prefix="uca-") as folder:
             trials = refusals.Trials(UCA, folder)
             for words in lines:
-                trials.judge_all(refusals.Case(words, *cases[words], trials.files), "a")
+                trials.judge_all(refusals.Case(words, *cases[words], trials.files), "aA")
         self.assertEqual(trials.wrong, 0, "what ended otherwise is printed above")
-        self.assertGreater(trials.failed["a"], 50 * len(lines))
+        self.assertGreater(trials.failed["a"], 100 * len(lines))
 
     def test_texts_that_are_normalized(self):
         self.judge(NORMALIZED)

@@ -28,7 +28,7 @@ Where `keys`, `affected`, `rekey`, `compact` or `expand` ends at an input line, 
 early, it has nothing. A certificate is there just where the whole of it was written, and no temporary file is left. No run ends by a
 signal, or reads or writes again where it failed. Lines that CASES names must come: `memory` for sorting, after the last line of the
 input, and for the text that `clap` makes. What ends otherwise is printed, and the status is then 1. This is no part of the gate: it
-takes some minutes. `tests/test_refusals.py` is, and lets single allocations fail under some of these command lines. The last line is
+takes some minutes. `tests/test_refusals.py` is, and lets the allocations of some of these command lines fail. The last line is
 `N passed, M failed`: of runs with a failure, and of lines that must come.
 """
 

@@ -61,11 +61,12 @@ fn check_letters(
     Ok(())
 }
 
-/// A collator of a table and a data file that were read.
-fn made(alloc: Global, table: &[u8]) -> Result<OwnedCollator, Fail> {
+/// A table and a data file that were read make a collator.
+fn check_made(alloc: Global, table: &[u8]) -> Result<(), Fail> {
     let table = table_of(alloc, &mut Source::new(table))?;
     let data = data_of(alloc, &mut Source::new(DATA.as_bytes()))?;
-    Ok(OwnedCollator::new(alloc, table, data, None, Depth::Weights)?)
+    drop(OwnedCollator::new(alloc, table, data, None, Depth::Weights)?);
+    Ok(())
 }
 
 /// The beginning of the longest table that has so many rows.
@@ -81,7 +82,7 @@ fn check_rows(alloc: Global, longest: &str, count: usize) -> Result<(), Fail> {
     drop(collator);
     let found = fingerprint_of(alloc, table, DATA.as_bytes(), None, Depth::Weights);
     holds(found.is_ok(), &case)?;
-    holds(made(alloc, table).is_ok(), &case)
+    check_made(alloc, table)
 }
 
 #[test]
