@@ -4,7 +4,7 @@
     tests/run.py [MODULE ..]        such as test_keys; all of this folder unless some are named
 
 The program is crates/uca/out/uca, which `rt ci` and tools/build.py make, or what the environment variable UCA names. It needs
-python3 alone. Its last line is `N passed, M failed`.
+python3 alone; `test_refusals` needs a C compiler too, and is not run without one. The last line is `N passed, M failed`, without what was not run.
 """
 import os
 import sys
@@ -25,9 +25,11 @@ def main(names):
     suite = loader.loadTestsFromNames(names) if names else loader.discover(HERE)
     result = unittest.TextTestRunner(stream=sys.stdout, verbosity=0).run(suite)
     tests_that_failed = {getattr(test, "test_case", test) for test, _ in [*result.failures, *result.errors]}
+    for test, why in result.skipped:
+        print(f"not run, since {why}: {test}")
     # where no test is found, that is a failure
     failed = len(tests_that_failed) + (result.testsRun == 0)
-    print(f"{max(result.testsRun - failed, 0)} passed, {failed} failed")
+    print(f"{max(result.testsRun - failed - len(result.skipped), 0)} passed, {failed} failed")
     return 1 if failed else 0
 
 

@@ -43,31 +43,37 @@ class Help(ProgramTest):
         none = "error: 'uca' requires a subcommand but one was not provided\n"
         none += f"  [subcommands: {', '.join(COMMANDS)}, help]\n\nUsage: uca <COMMAND>\n\n"
         other = "error: unrecognized subcommand 'other'\n\nUsage: uca <COMMAND>\n\n"
-        keys, sort = "keys [OPTIONS] <TABLE> <DATA>", "sort [OPTIONS] <TABLE> <DATA>"
+        languages = "\n       The order of a language is a TABLE: docs/LANGUAGES.md"
+        keys, sort = (f"{name} [OPTIONS] <TABLE> <DATA> < LINES{languages}" for name in ("keys", "sort"))
+        compare = f"compare [OPTIONS] <TABLE> <DATA> <LEFT> <RIGHT>{languages}"
         tailor = "tailor <TABLE> <DATA> <RULES> <CERTIFICATE>"
-        affected = "affected [OPTIONS] <DATA> <RULES>"
+        affected = "affected [OPTIONS] <DATA> <RULES> < LINES"
+        rekey, compact, expand = "rekey [OPTIONS] <CERTIFICATE> < LINES", "compact [OPTIONS] <BOOK> < LINES", "expand [OPTIONS] <BOOK> < LINES"
         changes = "changes <OLD> <OLD-DATA> <NEW> <NEW-DATA> <CERTIFICATE>"
         similar = "error: unrecognized subcommand 'change'\n\n  tip: a similar subcommand exists: 'changes'\n\nUsage: uca <COMMAND>\n\n"
         cases = [
             ("", none),
             ("other t d", other),
             ("help other", other),
-            ("keys t", missing("DATA", "keys <TABLE> <DATA>")),
+            ("keys t", missing("DATA", keys)),
             ("tailor t d r", missing("CERTIFICATE", tailor)),
-            ("affected d", missing("RULES", "affected <DATA> <RULES>")),
+            ("affected d", missing("RULES", affected)),
             ("changes o d n e", missing("CERTIFICATE", changes)),
-            ("rekey", missing("CERTIFICATE", "rekey <CERTIFICATE>")),
+            ("rekey", missing("CERTIFICATE", rekey)),
             ("change o d n e c", similar),
             ("keys t d l", unexpected("l", keys)),
+            ("sort t d pl_PL", unexpected("pl_PL", sort)),
+            ("sort --locale pl t d", unexpected("--locale", sort)),
+            ("compare t d a b pl", unexpected("pl", compare)),
             ("tailor t d r c l", unexpected("l", tailor)),
             ("keys --quiet t d", unexpected("--quiet", keys)),
             ("sort --lines t d", unexpected("--lines", sort)),
             ("changes --changes o d n e c", unexpected("--changes", changes)),
-            ("rekey --lines c", unexpected("--lines", "rekey [OPTIONS] <CERTIFICATE>")),
-            ("compact", missing("BOOK", "compact <BOOK>")),
-            ("expand", missing("BOOK", "expand <BOOK>")),
-            ("compact b b", unexpected("b", "compact [OPTIONS] <BOOK>")),
-            ("expand --lines b", unexpected("--lines", "expand [OPTIONS] <BOOK>")),
+            ("rekey --lines c", unexpected("--lines", rekey)),
+            ("compact", missing("BOOK", compact)),
+            ("expand", missing("BOOK", expand)),
+            ("compact b b", unexpected("b", compact)),
+            ("expand --lines b", unexpected("--lines", expand)),
             ("book c", missing("BOOK", "book <CERTIFICATE> <BOOK>")),
             ("book --identical c b", unexpected("--identical", "book <CERTIFICATE> <BOOK>")),
             ("fingerprint t", missing("DATA", "fingerprint <TABLE> <DATA>")),

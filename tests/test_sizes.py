@@ -1,5 +1,11 @@
-"""Sizes on both sides of each power of two and of ten. There is memory to spare, so no run may say that it is short of memory."""
-from program import A_ACUTE, ACUTE, DATA, DOT_BELOW, TABLE, ProgramTest, key_of, many
+"""Sizes on both sides of each power of two and of ten. There is memory to spare, so no run may say that it is short of memory.
+
+Lengths of texts and numbers of rows are also round, such as 70,000, and random. `crates/test_sizes` and `bindings/c/sizes.c` do the same with the calls of
+the library.
+"""
+import random
+
+from program import A_ACUTE, ACUTE, DATA, DOT_BELOW, NO_WEIGHTS, TABLE, ProgramTest, key_of, many
 
 BY_THREE = "--weighting non-ignorable t d"
 
@@ -14,6 +20,14 @@ def sizes(most):
     """The powers of two and of ten up to this size, and their neighbours."""
     powers = {base**exponent for base in (2, 10) for exponent in range(21)}
     return sorted(it for it in {power + more for power in powers for more in (-1, 0, 1)} if 0 < it <= most)
+
+
+def many_sizes(most, count):
+    """These, one to nine times each power of ten with their neighbours, and so many random ones, as many below each power of two."""
+    round_ones = {digit * 10**exponent + more for digit in range(1, 10) for exponent in range(8) for more in (-1, 0, 1)}
+    numbers = random.Random(59)
+    random_ones = {numbers.randrange(1, 2 << (number % most.bit_length())) for number in range(count)}
+    return sorted(it for it in {*sizes(most)} | round_ones | random_ones if 0 < it <= most)
 
 
 def letter(number):
@@ -94,6 +108,25 @@ class Lines(ProgramTest):
         lengths = sizes(65_537)
         keys = [key_of(*(many(weight, length) for weight in ("1C47", "0020", "0002"))) for length in lengths]
         self.expect(f"keys {BY_THREE}", "".join("a" * length + "\n" for length in lengths), out="".join(keys))
+
+    def test_many_lengths_of_texts(self):
+        """Of letters; of letters that have an accent in Normalization Form D; and of code points without weights, whose keys are empty."""
+        self.write(t=TABLE + NO_WEIGHTS)
+        for text, most, weights in ("a", 131_073, ("1C47", "0020", "0002")), ("\u00e1", 65_537, ("1C47", "0020 0024", "0002 0002")), ("\1", 1_048_576, None):
+            lengths = many_sizes(most, 300)
+            lines = "".join(text * length + "\n" for length in lengths)
+            keys = [key_of(*(many(weight, length) for weight in weights)) if weights else key_of("", "", "") for length in lengths]
+            self.expect(f"keys {BY_THREE}", lines, out="".join(keys))
+            self.expect(f"sort {BY_THREE}", lines, out=lines)
+
+    def test_letters_of_all_pages(self):
+        """One of each 256 code points, from plane 3 on. What is known of code points is kept by such pages."""
+        codes = range(0x30001, 0x110000, 0x100)
+        lines, text = "".join(f"{chr(code)}\n" for code in codes), "".join(map(chr, codes))
+        self.expect(f"keys {BY_THREE}", lines, out="".join(key_of(implicit(0xFBC0, code), "0020", "0002") for code in codes))
+        self.expect(f"sort {BY_THREE}", lines, out=lines)
+        for right, printed in (text, "= 0\n"), (text + "a", "< 1\n"), ("a" + text, "> 1\n"):
+            self.expect(["compare", *BY_THREE.split(), text, right], out=printed)
 
     def test_lengths_of_lines_in_each_setting(self):
         lines = ["a" * length + "\n" for length in sizes(10_001)]
@@ -315,6 +348,18 @@ class Changes(ProgramTest):
             self.accept("n d o d", changes)
             self.expect("rekey --weighting non-ignorable c", keys.replace("1C60", "7C60"), out=keys)
 
+    def test_numbers_of_rows_and_votes(self):
+        """So many rows of one weight have another one in the new table. Each is a vote for this move, and none is listed."""
+        self.write(d=DATA)
+        head, most = "@version 1\n", 200_000
+        old, new = (rows_of(range(0x30000, 0x30000 + most), [weight] * most) for weight in (0x1C60, 0x7C60))
+        for count in sorted({*many_sizes(20_000, 60), *sizes(most), most}):
+            length = len(old) // most * count
+            self.write(o=head + old[:length], n=head + new[:length])
+            with self.subTest(count=count):
+                self.accept("o d n d", listed([]))
+                self.assertEqual(self.read("c").decode(), certificate_of(1, "1 1C60 7C60 0001\n"))
+
     def test_numbers_of_weights_that_move(self):
         """Each by a step more than the one before it, at all levels. The certificate has a run for each."""
         self.write(d=DATA)
@@ -340,7 +385,7 @@ class Changes(ProgramTest):
 
     def test_numbers_of_texts_and_ranges_that_are_listed(self):
         self.write(d=DATA)
-        for count in sizes(10_001):
+        for count in many_sizes(50_000, 30):
             codes = range(0xF0000, 0xF0000 + 2 * count, 2)
             lines, printed = "".join(f"{chr(code)}\n" for code in (codes[0], codes[-1], codes[-1] + 1)), f"{chr(codes[0])}\n{chr(codes[-1])}\n"
             for changes in [f"text {code:04X}" for code in codes], [f"range {code:04X}..{code:04X}" for code in codes]:

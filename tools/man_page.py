@@ -40,11 +40,11 @@ def paragraphs(lines):
 
 
 def usage(text):
-    """A usage: `<TABLE>` as an argument in italics, all else in bold."""
+    """A usage: `<TABLE>` and the `LINES` of standard input in italics, all else in bold."""
     words = []
     for word in text.split():
-        name = re.fullmatch(r"<([\w-]+)>", word)
-        words.append(rf"\fI{plain(name[1])}\fR" if name else word if word == "[OPTIONS]" else rf"\fB{plain(word)}\fR")
+        name = re.fullmatch(r"<([\w-]+)>|LINES", word)
+        words.append(rf"\fI{plain(name[1] or word)}\fR" if name else word if word == "[OPTIONS]" else rf"\fB{plain(word)}\fR")
     return " ".join(words)
 
 

@@ -7,6 +7,7 @@ First prove and build the static library: `tools/build.py uca_c`. Then this scri
 
 - `calls`, which calls everything in uca.h with good and bad input: as it is, under valgrind, and with the sanitizers of gcc;
 - `memory`, in which each allocation fails in turn: as it is, and under valgrind;
+- `sizes`, over texts and tables of many sizes, where memory may not run out;
 - `keys` and the module over files of examples/, whose keys and orders have to be those of `uca keys` and `uca sort`;
 - the names that libuca.so.1 exports, which have to be those of uca.h, and the header as C++;
 - a program that is compiled by what pkg-config says of a temporary installation, and the programs of docs/BINDINGS.md;

@@ -28,7 +28,8 @@ Where `keys`, `affected`, `rekey`, `compact` or `expand` ends at an input line, 
 early, it has nothing. A certificate is there just where the whole of it was written, and no temporary file is left. No run ends by a
 signal, or reads or writes again where it failed. Lines that CASES names must come: `memory` for sorting, after the last line of the
 input, and for the text that `clap` makes. What ends otherwise is printed, and the status is then 1. This is no part of the gate: it
-takes some minutes. The last line is `N passed, M failed`: of runs with a failure, and of lines that must come.
+takes some minutes. `tests/test_refusals.py` is, and lets the allocations of some of these command lines fail. The last line is
+`N passed, M failed`: of runs with a failure, and of lines that must come.
 """
 
 import argparse
@@ -41,6 +42,8 @@ import sys
 import tempfile
 
 NEEDS, WANTS = ["gcc"], []
+HERE = os.path.dirname(os.path.abspath(__file__))
+EXAMPLES = os.path.join(os.path.dirname(os.path.dirname(HERE)), "examples")
 ROLES = {
     "check": ("table", "data"),
     "keys": ("table", "data", "input"),
@@ -132,10 +135,10 @@ def contents():
     """The files, by name: those of examples/, and some made of them."""
     files = {}
     for name in ("table.txt", "data.txt", "rules.txt", "tailored.txt", "certificate.txt", "lines.txt"):
-        with open(os.path.join("examples", name), "rb") as file:
+        with open(os.path.join(EXAMPLES, name), "rb") as file:
             files[name] = file.read()
     for name, file_name in (("new.txt", "table.txt"), ("new_data.txt", "data.txt"), ("changes.txt", "changes.txt"), ("images.txt", "certificate.txt")):
-        with open(os.path.join("examples/editions", file_name), "rb") as file:
+        with open(os.path.join(EXAMPLES, "editions", file_name), "rb") as file:
             files[name] = file.read()
     files["stored.txt"] = b"1C47 0000 0020 0000 0002 0000 FFFF\n1C60000000200000000800000209\tb\n" * 2 + b"0000 0000 0000"
     files["book.txt"] = b"@book 1\n1 1C47\n1 1C48\n1 1C60\n1 1C61\n1 2000\n4 0209\n4 020A\n"
@@ -234,12 +237,13 @@ class Case:
 
 
 class Trials:
-    def __init__(self, options, folder):
-        self.uca, self.verbose, self.folder = os.path.abspath(options.uca), options.verbose, folder
+    """Runs of a program in a folder, in which calls fail."""
+
+    def __init__(self, uca, folder):
+        self.uca, self.folder = os.path.abspath(uca), folder
         self.shim, self.runs, self.passed, self.wrong = os.path.join(folder, "refusals.so"), 0, 0, 0
         self.failed, self.done_without = collections.Counter(), 0
-        source = os.path.join(os.path.dirname(os.path.abspath(__file__)), "refusals.c")
-        subprocess.run(["cc", "-O2", "-shared", "-fPIC", "-o", self.shim, source], check=True)
+        subprocess.run(["cc", "-O2", "-shared", "-fPIC", "-o", self.shim, os.path.join(HERE, "refusals.c")], check=True)
         self.files = contents()
         for name, content in self.files.items():
             with open(os.path.join(folder, name), "wb") as file:
@@ -285,20 +289,18 @@ class Trials:
                 case.said.append(ending.err)
         return bool(told)
 
-    def judge_all(self, case):
+    def judge_all(self, case, kinds=tuple(FAILING)):
+        """A command line, where each call of these kinds fails in turn."""
         case.plain, _ = self.run(case, "-0")
         self.endings = collections.Counter()
         self.judge(case, "s", 0)
-        for kind in FAILING:
+        for kind in kinds:
             # A number of bytes may be more than a call before the end of a run can reach, so all are tried.
             last = sum(len(content) for _, content in case.read) if kind == "R" else -1
             number, case.reached = 0, (0, 0)
             while self.judge(case, kind, number) or number < last:
                 number += 1 if number < 2000 else 97
         self.see(case.must in "".join(case.said), "%s: nowhere %r" % (" ".join(case.words), case.must))
-        print("%s: status %d" % (" ".join(case.words), case.plain.status), flush=True)
-        for (status, said), count in self.endings.items() if self.verbose else ():
-            print("    %4d  %d %s" % (count, status, said.split("\n")[0]), flush=True)
 
 
 def main():
@@ -309,9 +311,13 @@ def main():
     options = parser.parse_args()
     cases = [case for case in CASES if case[0].startswith(options.only)]
     with tempfile.TemporaryDirectory() as folder:
-        trials = Trials(options, folder)
+        trials = Trials(options.uca, folder)
         for words, given, must in cases:
-            trials.judge_all(Case(words, given, must, trials.files))
+            case = Case(words, given, must, trials.files)
+            trials.judge_all(case)
+            print("%s: status %d" % (words, case.plain.status), flush=True)
+            for (status, said), count in trials.endings.items() if options.verbose else ():
+                print("    %4d  %d %s" % (count, status, said.split("\n")[0]), flush=True)
     print("%d command lines, %d runs" % (len(cases), trials.runs))
     for kind, name in FAILING.items():
         print("    %6d %s" % (trials.failed[kind], name))

@@ -129,7 +129,7 @@ const CHECK: &str =
     \n\
     Arguments:\n\
     \x20 <TABLE>\n\
-    \x20         A weight table in the format of allkeys.txt\n\
+    \x20         A weight table in the format of allkeys.txt; that of a language: docs/LANGUAGES.md\n\
     \n\
     \x20 <DATA>\n\
     \x20         A data file: combining classes and Han ranges\n\
@@ -167,7 +167,8 @@ fn check_error(alloc: Global, words: &str, whole: &End) -> Result<(), Fail> {
 const NO_DATA: &str = "error: the following required arguments were not provided:\n\
     \x20 <DATA>\n\
     \n\
-    Usage: uca keys <TABLE> <DATA>\n\
+    Usage: uca keys [OPTIONS] <TABLE> <DATA> < LINES\n\
+    \x20      The order of a language is a TABLE: docs/LANGUAGES.md\n\
     \n\
     For more information, try '--help'.\n";
 

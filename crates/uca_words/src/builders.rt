@@ -41,10 +41,14 @@ fn described<'a>(alloc: Global, argument: Argument<'a>) -> Arg<'a>
 fn named<'a>(alloc: Global, subcommand: &Subcommand<'a>) -> Command<'a>
     ensures { StandsFor (new_app subcommand.now.name.now) result }
 {
-    Command::new(alloc, subcommand.name)
+    let command = Command::new(alloc, subcommand.name)
         .about(subcommand.line)
         .long_about(subcommand.text)
-        .after_help(subcommand.example)
+        .after_help(subcommand.example);
+    match subcommand.usage {
+        Some(usage) => command.override_usage(usage),
+        None => command,
+    }
 }
 
 // A subcommand with its arguments.

@@ -31,6 +31,8 @@ pub(crate) struct Subcommand<'a> {
     pub(crate) line: &'a str,
     /// What it does, in full.
     pub(crate) text: &'a str,
+    /// Its usage, where that says more than its arguments do: that it reads lines, or which page is on languages.
+    pub(crate) usage: Option<&'a str>,
     /// How it is called.
     pub(crate) example: &'a str,
     /// Its arguments, in their order.
@@ -113,7 +115,7 @@ const CHANGED: Argument<'static> = Argument::Flag {
 const TABLE: Argument<'static> = Argument::Word {
     id: "table",
     name: "TABLE",
-    help: "A weight table in the format of allkeys.txt",
+    help: "A weight table in the format of allkeys.txt; that of a language: docs/LANGUAGES.md",
 };
 
 const DATA: Argument<'static> = Argument::Word {
@@ -125,7 +127,7 @@ const DATA: Argument<'static> = Argument::Word {
 const RULES: Argument<'static> = Argument::Word {
     id: "rules",
     name: "RULES",
-    help: "The tailoring rules",
+    help: "The file of tailoring rules",
 };
 
 const LEFT: Argument<'static> = Argument::Word {
@@ -217,6 +219,7 @@ const CHECK_COMMAND: Subcommand<'static> = Subcommand {
     line: "Say whether a weight table is well-formed",
     text: "Says whether a weight table is well-formed (UTS #10, section 9.2). Prints `well-formed`, or the\n\
            first condition that fails and the first row that fails it, such as `WF5 row 8`, with status 1.",
+    usage: None,
     example: "Example: uca check allkeys.txt data.txt",
     arguments: &[TABLE, DATA],
 };
@@ -231,6 +234,10 @@ const KEYS_COMMAND: Subcommand<'static> = Subcommand {
            first line has the weighting, the depth and the fingerprint. `rekey` tests it, and `sort` in the locale C\n\
            leaves it first. With `--compact` it prints the compact key of each line, without blanks, as\n\
            `uca compact BOOK` makes it of the key. The header then names the book too.",
+    usage: Some(
+        "uca keys [OPTIONS] <TABLE> <DATA> < LINES\n\
+        \x20      The order of a language is a TABLE: docs/LANGUAGES.md",
+    ),
     example: "Examples:\n\
          \x20 uca keys allkeys.txt data.txt < lines.txt\n\
          \x20 uca keys --lines --header allkeys.txt data.txt < lines.txt > keyed.tsv\n\
@@ -244,6 +251,10 @@ const SORT_COMMAND: Subcommand<'static> = Subcommand {
     text: "Sorts the lines of standard input by their sort keys. Lines of equal keys keep their order.\n\
            With `--identical` lines of equal weight are in the order of their code points. Then only lines that\n\
            are canonically equivalent keep the order of the input.",
+    usage: Some(
+        "uca sort [OPTIONS] <TABLE> <DATA> < LINES\n\
+        \x20      The order of a language is a TABLE: docs/LANGUAGES.md",
+    ),
     example: "Example: uca sort --weighting non-ignorable allkeys.txt data.txt < lines.txt",
     arguments: &[WEIGHTING, IDENTICAL, TABLE, DATA],
 };
@@ -254,6 +265,10 @@ const COMPARE_COMMAND: Subcommand<'static> = Subcommand {
     text: "Prints `<`, `=` or `>`: LEFT comes before RIGHT, is equal to it, or comes after it. Then comes the\n\
            level at which the two first differ, or 0: `< 2`. With `--identical` texts that weigh the same are\n\
            compared at one more level, by the code points of Normalization Form D.",
+    usage: Some(
+        "uca compare [OPTIONS] <TABLE> <DATA> <LEFT> <RIGHT>\n\
+        \x20      The order of a language is a TABLE: docs/LANGUAGES.md",
+    ),
     example: "Example: uca compare allkeys.txt data.txt cote côté",
     arguments: &[WEIGHTING, IDENTICAL, TABLE, DATA, LEFT, RIGHT],
 };
@@ -264,6 +279,7 @@ const TAILOR_COMMAND: Subcommand<'static> = Subcommand {
     text: "Tailors TABLE by RULES (UTS #35 Part 5, Collation) and prints the tailored table. Before that it\n\
            writes the old and the new weights of TABLE to the file CERTIFICATE, once there is a plan. `uca audit`\n\
            checks both. A file of that name is replaced, unless it is one that `tailor` reads.",
+    usage: None,
     example: "Example: uca tailor table.txt data.txt rules.txt certificate.txt > tailored.txt",
     arguments: &[TABLE, DATA, RULES, NEW_CERTIFICATE],
 };
@@ -275,6 +291,7 @@ const AUDIT_COMMAND: Subcommand<'static> = Subcommand {
            `accepted`, or the first condition that fails and where, such as `refused 9 NotPlaced relation 3`,\n\
            with status 1. If it accepts, each relation of the rules holds, and all texts in which no target of\n\
            the rules occurs compare as under BASE.",
+    usage: None,
     example: "Example: uca audit table.txt data.txt rules.txt tailored.txt certificate.txt",
     arguments: &[BASE, DATA, RULES, TAILORED, CERTIFICATE],
 };
@@ -287,6 +304,7 @@ const AFFECTED_COMMAND: Subcommand<'static> = Subcommand {
            tailored by RULES. All other lines keep their order among themselves. With `--changes` RULES is a file\n\
            of changes, as `uca changes` prints it, and DATA is the new data file. Then it prints the lines in\n\
            which a changed text occurs so, and those with a code point of a changed range.",
+    usage: Some("uca affected [OPTIONS] <DATA> <RULES> < LINES"),
     example: "Examples:\n\
          \x20 uca affected data.txt rules.txt < lines.txt > moved.txt\n\
          \x20 uca affected --changes new-data.txt changes.txt < lines.txt > changed.txt",
@@ -301,6 +319,7 @@ const CHANGES_COMMAND: Subcommand<'static> = Subcommand {
            replaced, unless it is one that `changes` reads. Then it prints the changes. `uca audit-changes` checks\n\
            both. All texts in which none of the changes occurs keep their order among themselves, and `uca rekey`\n\
            mends their stored keys.",
+    usage: None,
     example: "Example: uca changes old.txt old-data.txt new.txt new-data.txt certificate.txt > changes.txt",
     arguments: &[OLD, OLD_DATA, NEW, NEW_DATA, NEW_CERTIFICATE],
 };
@@ -312,6 +331,7 @@ const AUDIT_CHANGES_COMMAND: Subcommand<'static> = Subcommand {
            with the weights moved as CERTIFICATE says. Prints `accepted`, or the first condition that fails and\n\
            where, such as `refused 5 RowChanged old row 3`, with status 1. If it accepts, all texts in which none\n\
            of the changes occurs compare as under OLD, and `uca rekey` mends their stored keys.",
+    usage: None,
     example: "Example: uca audit-changes old.txt old-data.txt new.txt new-data.txt changes.txt certificate.txt",
     arguments: &[OLD, OLD_DATA, NEW, NEW_DATA, CHANGES, CHANGE_CERTIFICATE],
 };
@@ -321,9 +341,11 @@ const REKEY_COMMAND: Subcommand<'static> = Subcommand {
     line: "Mend the stored keys on standard input by a certificate",
     text: "Reads lines as `uca keys` or `uca keys --lines` prints them, and prints each with its key put through\n\
            the maps of CERTIFICATE: each old weight becomes its new one. The rest of the line stays. So a text in\n\
-           which no change occurs gets its key under the new table. `--weighting` and `--identical` have to be\n\
-           those that made the keys. `--from` and `--to` belong together: the input then begins with a header of\n\
-           that weighting, depth and fingerprint, and so does the output, with the other fingerprint.",
+           which no change occurs gets its key under the new table. It does not find affected lines: `uca affected`\n\
+           does. `--weighting` and `--identical` have to be those that made the keys. `--from` and `--to` belong\n\
+           together: the input then begins with a header of that weighting, depth and fingerprint, and so does the\n\
+           output, with the other fingerprint.",
+    usage: Some("uca rekey [OPTIONS] <CERTIFICATE> < LINES"),
     example: "Example: uca rekey certificate.txt < keyed.tsv > mended.tsv",
     arguments: &[MADE_WEIGHTING, MADE_IDENTICAL, FROM, TO, ANY_CERTIFICATE],
 };
@@ -338,6 +360,7 @@ const COMPACT_COMMAND: Subcommand<'static> = Subcommand {
            of two books do not mix. `--from` and `--to` belong together: the input then begins with a header of\n\
            keys of that weighting, depth and fingerprint, and the output with one of compact keys, with the other\n\
            fingerprint, as `uca fingerprint --compact BOOK` prints it.",
+    usage: Some("uca compact [OPTIONS] <BOOK> < LINES"),
     example: "Example: uca compact my.book < keyed.tsv > compact.tsv",
     arguments: &[MADE_WEIGHTING, MADE_IDENTICAL, FROM, TO_COMPACT, BOOK],
 };
@@ -349,6 +372,7 @@ const EXPAND_COMMAND: Subcommand<'static> = Subcommand {
            blanks. The rest of the line stays. `--weighting`, `--identical` and BOOK have to be those that made the\n\
            compact keys. `--from` and `--to` belong together: the input then begins with a header of compact keys\n\
            of that weighting, depth and fingerprint, and the output with one of keys, with the other fingerprint.",
+    usage: Some("uca expand [OPTIONS] <BOOK> < LINES"),
     example: "Example: uca expand my.book < compact.tsv > keyed.tsv",
     arguments: &[MADE_WEIGHTING, MADE_IDENTICAL, FROM, TO_KEYS, BOOK],
 };
@@ -360,6 +384,7 @@ const BOOK_COMMAND: Subcommand<'static> = Subcommand {
            One that has none becomes the weight after the last new one below it. Mend the keys by `uca rekey` and\n\
            this certificate, and make them compact by the new book. Then a key whose weights keep their places in\n\
            their cells has the compact key that it had.",
+    usage: None,
     example: "Example: uca book new.certificate my.book > new.book",
     arguments: &[ANY_CERTIFICATE, BOOK],
 };
@@ -372,6 +397,7 @@ const FINGERPRINT_COMMAND: Subcommand<'static> = Subcommand {
            SHA-256. Keep it beside stored keys: two runs with one fingerprint make the same keys. It changes with\n\
            each byte of a file, also in a comment. With `--compact` it is the fingerprint of compact keys: the\n\
            SHA-256 of a text that names the fingerprint of the keys, and the book by its SHA-256.",
+    usage: None,
     example: "Examples:\n\
          \x20 uca fingerprint allkeys.txt data.txt\n\
          \x20 uca fingerprint --compact my.book allkeys.txt data.txt",

@@ -1,0 +1,95 @@
+//! Tables of many numbers of rows.
+
+use crate::letters::{check_key, implicit, letter, letter_key, opened};
+use crate::sizes::{MOST, sizes};
+use std::alloc::{AllocError, Global};
+use std::fmt::Write;
+use std::test::Fail;
+use test_kit::{DATA, data_of, holds, table_of};
+use uca_owned::{OwnedCollator, fingerprint_of};
+use uca_weights::{Depth, Source};
+
+/// The first lines of a table.
+const HEAD: &str = "@version 1\n";
+
+/// How many bytes a row has.
+const ROW: usize = 26;
+
+/// The letter of the first row.
+const FIRST: u32 = 0x3_0000;
+
+/// The weight of a row, by its number from 0 on.
+fn weight_of(number: u32) -> u16 {
+    (0x1000 + number % 0x8000) as u16
+}
+
+/// A table with the greatest number of rows.
+fn longest_table(alloc: Global) -> Result<String, AllocError> {
+    let mut table = String::from_str(alloc, HEAD)?;
+    for number in 0..MOST as u32 {
+        let weight = weight_of(number);
+        write!(
+            table,
+            "{:04X} ; [.{weight:04X}.0020.0002]\n",
+            FIRST + number
+        )?;
+    }
+    Ok(table)
+}
+
+/// The key of the letter of a row, where there are so many rows. After these a letter has its implicit weights.
+fn key_at(alloc: Global, number: u32, count: u32) -> Result<Vec<u8>, AllocError> {
+    if number < count {
+        letter_key(alloc, &[weight_of(number)])
+    } else {
+        letter_key(alloc, &implicit(FIRST.saturating_add(number)))
+    }
+}
+
+/// The first row, the last one, and the letter after it.
+fn check_letters(
+    alloc: Global,
+    collator: &mut OwnedCollator,
+    count: u32,
+    case: &str,
+) -> Result<(), Fail> {
+    for number in [0, count.saturating_sub(1), count] {
+        let text = letter(alloc, FIRST.saturating_add(number))?;
+        let wanted = key_at(alloc, number, count)?;
+        check_key(collator, text.as_bytes(), &wanted, case)?;
+    }
+    Ok(())
+}
+
+/// A table and a data file that were read make a collator.
+fn check_made(alloc: Global, table: &[u8]) -> Result<(), Fail> {
+    let table = table_of(alloc, &mut Source::new(table))?;
+    let data = data_of(alloc, &mut Source::new(DATA.as_bytes()))?;
+    drop(OwnedCollator::new(alloc, table, data, None, Depth::Weights)?);
+    Ok(())
+}
+
+/// The beginning of the longest table that has so many rows.
+fn check_rows(alloc: Global, longest: &str, count: usize) -> Result<(), Fail> {
+    let case = format!(in alloc; "{count} rows")?;
+    let length = HEAD.len().saturating_add(count.saturating_mul(ROW));
+    let table = longest
+        .as_bytes()
+        .get(..length)
+        .ok_or("the table is too short")?;
+    let mut collator = opened(alloc, table, &case)?;
+    check_letters(alloc, &mut collator, u32::try_from(count)?, &case)?;
+    drop(collator);
+    let found = fingerprint_of(alloc, table, DATA.as_bytes(), None, Depth::Weights);
+    holds(found.is_ok(), &case)?;
+    check_made(alloc, table)
+}
+
+#[test]
+fn numbers_of_rows(rt: HostRuntime) -> Result<(), Fail> {
+    let longest = longest_table(rt.alloc())?;
+    for count in &sizes(rt.alloc())? {
+        check_rows(rt.alloc(), &longest, *count)?;
+    }
+    Ok(())
+}
