@@ -6,7 +6,9 @@ use std::cmp::Ordering::{Equal, Greater, Less};
 use std::test::Fail;
 use test_kit::{DATA, data_of, holds, repeated, same_bytes, table_of};
 use uca_match::{Collator, Lookup, Trie};
-use uca_number_texts::{NumberComparison, NumberKeys};
+use uca_number_keys::orders_numbers;
+use uca_number_texts::{NumberComparison, NumberKeys, PairFault};
+use uca_table::read_packed_table;
 use uca_text::TextFault;
 use uca_weights::Depth::{Identical, Weights};
 use uca_weights::{Depth, Settings, Source, Weighting};
@@ -159,7 +161,11 @@ fn check_limits<L: Lookup>(alloc: Global, collator: &Collator<L>) -> Result<(), 
         &[0x1C3E, 0x1C3D, 0, 0x20, 0x20, 0, 2, 2],
         "",
     )?;
-    same_bytes(keys.bytes(), &wanted, "many zeros")
+    same_bytes(keys.bytes(), &wanted, "many zeros")?;
+    let mut comparison = NumberComparison::new(alloc, alloc);
+    let found = comparison.compare(collator, settings_at(Weights), "1", &run);
+    let wanted = Err(PairFault::Right(TextFault::LongRun(2)));
+    holds(found == wanted, "a run of 65 accents on the right")
 }
 
 fn check_all<L: Lookup>(alloc: Global, collator: &Collator<L>) -> Result<(), Fail> {
@@ -180,4 +186,20 @@ fn orders_numbers_by_value(rt: HostRuntime) -> Result<(), Fail> {
     let data = data_of(alloc, &mut Source::new(DATA.as_bytes()))?;
     let trie = Trie::new(alloc, &table)?;
     check_all(alloc, &Collator::new(&trie, &table.header, &data))
+}
+
+/// Whether numbers are ordered by value under a table file.
+fn check_table(alloc: Global, file: &str, wanted: bool) -> Result<(), Fail> {
+    let table = read_packed_table(alloc, &mut Source::new(file.as_bytes()))?;
+    let data = data_of(alloc, &mut Source::new(DATA.as_bytes()))?;
+    holds(orders_numbers(&table, &data) == wanted, file)
+}
+
+#[test]
+fn finds_tables_that_order_numbers(rt: HostRuntime) -> Result<(), Fail> {
+    let alloc = rt.alloc();
+    check_table(alloc, TABLE, true)?;
+    // a row of a digit with an accent, so the digit has a part in another key
+    let file = format!(in alloc; "{TABLE}0031 0301 ; [.1C50.0020.0002]\n")?;
+    check_table(alloc, &file, false)
 }

@@ -1,22 +1,23 @@
 //! `NumberComparison`: compares texts whose numbers are ordered by value.
 
-ghost use Rattle.std.specs.Prelude.{◌≡◌, ◌⊎◌, chars, IfOk, OnOk, IfErr};
+ghost use Rattle.std.specs.Prelude.{◌≡◌, chars, IfOk, OnOk, IfErr};
 ghost use Rattle.uca_text.specs.Texts.{nfd_text};
 ghost use Rattle.uca_text.specs.Limits.{IsAccepted};
-ghost use Rattle.uca_text.specs.Faults.{IsCause};
 ghost use Rattle.uca_elements.specs.Collations.{Collation, collation_of, elements_of};
 ghost use Rattle.uca_order.specs.Levels.{compared};
 ghost use Rattle.uca_plain.specs.PointCache.{AreTrueEntries};
 ghost use Rattle.uca_comparison.specs.inside.Comparisons.{compared_points};
 ghost use Rattle.uca_number_keys.specs.Keys.{numeric_text, numeric_texts_compared};
+ghost use Rattle.uca_number_texts.specs.Causes.{IsPairCause};
 
+use crate::faults::PairFault;
 use crate::written::{Written, has_no_digit, write_nfd};
 use std::alloc::{AllocError, Allocator, Global};
 use std::cmp::Ordering;
 use uca_comparison::compare;
 use uca_comparison::stored::level_count;
 use uca_elements::{Collator, Lookup};
-use uca_text::{Normal, TextFault};
+use uca_text::Normal;
 use uca_text_comparer::PlainComparison;
 use uca_weights::{Depth, Settings, Weighting};
 
@@ -74,15 +75,15 @@ impl<A: Allocator> NumberComparison<A> {
     ///
     /// # Errors
     ///
-    /// Those of [`normal`](uca_text::normal) for the left text by value, or else for the right one. `Memory` also if another
-    /// allocation failed.
+    /// `Left` if the left text by value is rejected, or else `Right` if the right one is, as [`normal`](uca_text::normal) says.
+    /// `Left` with `Memory` also if another allocation failed.
     pub fn compare<L: Lookup, T: Allocator>(
         &mut self,
         collator: &Collator<L, T>,
         settings: Settings,
         left: &str,
         right: &str,
-    ) -> Result<(Ordering, u8), TextFault>
+    ) -> Result<(Ordering, u8), PairFault>
         requires { AreTrueEntries (collation_of L.content collator.now) self.old.plain.points.entries.items }
         ensures known { AreTrueEntries (collation_of L.content collator.now) self.new.plain.points.entries.items }
         ensures compared { let c = collation_of L.content collator.now in IfOk result (λ found.
@@ -90,9 +91,8 @@ impl<A: Allocator> NumberComparison<A> {
             (found.0 ≡ answer.order) × (found.1 ≡ answer.level)) }
         ensures accepted { let c = collation_of L.content collator.now in
             OnOk result (IsAccepted (numeric_text c.properties (chars left.now)) × IsAccepted (numeric_text c.properties (chars right.now))) }
-        ensures fault { let c = collation_of L.content collator.now in IfErr result (λ fault.
-            IsCause (numeric_text c.properties (chars left.now)) fault
-            ⊎ (IsAccepted (numeric_text c.properties (chars left.now)) × IsCause (numeric_text c.properties (chars right.now)) fault)) }
+        ensures fault { let c = collation_of L.content collator.now in IfErr result
+            (IsPairCause (numeric_text c.properties (chars left.now)) (numeric_text c.properties (chars right.now))) }
     {
         let found = compare_by_value(
             collator,
@@ -126,7 +126,7 @@ fn compare_by_value<L: Lookup, T: Allocator, A: Allocator>(
     right_side: &mut Side,
     left: &str,
     right: &str,
-) -> Result<(Ordering, u8), TextFault>
+) -> Result<(Ordering, u8), PairFault>
     requires { AreTrueEntries (collation_of L.content collator.now) plain.old.points.entries.items }
     ensures known { AreTrueEntries (collation_of L.content collator.now) plain.new.points.entries.items }
     ensures compared { let c = collation_of L.content collator.now in IfOk result (λ found.
@@ -134,9 +134,8 @@ fn compare_by_value<L: Lookup, T: Allocator, A: Allocator>(
         (found.0 ≡ answer.order) × (found.1 ≡ answer.level)) }
     ensures accepted { let c = collation_of L.content collator.now in
         OnOk result (IsAccepted (numeric_text c.properties (chars left.now)) × IsAccepted (numeric_text c.properties (chars right.now))) }
-    ensures fault { let c = collation_of L.content collator.now in IfErr result (λ fault.
-        IsCause (numeric_text c.properties (chars left.now)) fault
-        ⊎ (IsAccepted (numeric_text c.properties (chars left.now)) × IsCause (numeric_text c.properties (chars right.now)) fault)) }
+    ensures fault { let c = collation_of L.content collator.now in IfErr result
+        (IsPairCause (numeric_text c.properties (chars left.now)) (numeric_text c.properties (chars right.now))) }
 {
     if has_no_digit(left) && has_no_digit(right) {
         return compare_weights(
@@ -171,7 +170,7 @@ fn compare_weights<L: Lookup, T: Allocator, A: Allocator>(
     right_normal: &mut Normal,
     left: &str,
     right: &str,
-) -> Result<(Ordering, u8), TextFault>
+) -> Result<(Ordering, u8), PairFault>
     requires { AreTrueEntries (collation_of L.content collator.now) plain.old.points.entries.items }
     ensures known { AreTrueEntries (collation_of L.content collator.now) plain.new.points.entries.items }
     ensures compared { let c = collation_of L.content collator.now in IfOk result (λ found.
@@ -179,9 +178,8 @@ fn compare_weights<L: Lookup, T: Allocator, A: Allocator>(
         (found.0 ≡ answer.order) × (found.1 ≡ answer.level)) }
     ensures accepted { let c = collation_of L.content collator.now in
         OnOk result (IsAccepted (nfd_text c.properties (chars left.now)) × IsAccepted (nfd_text c.properties (chars right.now))) }
-    ensures fault { let c = collation_of L.content collator.now in IfErr result (λ fault.
-        IsCause (nfd_text c.properties (chars left.now)) fault
-        ⊎ (IsAccepted (nfd_text c.properties (chars left.now)) × IsCause (nfd_text c.properties (chars right.now)) fault)) }
+    ensures fault { let c = collation_of L.content collator.now in IfErr result
+        (IsPairCause (nfd_text c.properties (chars left.now)) (nfd_text c.properties (chars right.now))) }
 {
     let alone = Settings {
         weighting,
@@ -191,8 +189,12 @@ fn compare_weights<L: Lookup, T: Allocator, A: Allocator>(
     if let Some(compared) = found {
         return Ok((compared.order, compared.level));
     }
-    left_normal.renew(left, collator.data)?;
-    right_normal.renew(right, collator.data)?;
+    if let Err(fault) = left_normal.renew(left, collator.data) {
+        return Err(PairFault::Left(fault));
+    }
+    if let Err(fault) = right_normal.renew(right, collator.data) {
+        return Err(PairFault::Right(fault));
+    }
     let compared = compare(
         collator,
         weighting,

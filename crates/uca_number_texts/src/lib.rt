@@ -8,12 +8,14 @@
 //!
 //! - `written.rt`: memory for a text by value, and for its Normalization Form D.
 //! - `keys.rt`: `NumberKeys` writes keys.
-//! - `comparing.rt`: `NumberComparison` compares two texts without keys.
+//! - `comparing.rt`: `NumberComparison` compares two texts without keys. `faults.rt` has its errors.
 #![tactic(auto)]
 
 mod comparing;
+mod faults;
 mod keys;
 mod written;
 
 pub use comparing::NumberComparison;
+pub use faults::PairFault;
 pub use keys::NumberKeys;

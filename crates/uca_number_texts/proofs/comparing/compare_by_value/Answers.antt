@@ -5,7 +5,9 @@ use Rattle.std.specs.Str.{chars}
 use Rattle.uca_elements.specs.Collations.{collation_of}
 use Rattle.uca_numbers.specs.Texts.{by_value}
 use Rattle.uca_key_writer.proofs.WriterSteps.{by_flag}
-use Rattle.uca_text_comparer.proofs.ComparerSteps.{Causes, AreAccepted}
+use Rattle.uca_text_comparer.proofs.ComparerSteps.{AreAccepted}
+use Rattle.uca_text.specs.Texts.{nfd_text}
+use Rattle.uca_number_texts.specs.Causes.{IsPairCause}
 use Rattle.uca_number_texts.proofs.Deciding.{Is, texts_weighed, of_both}
 use Rattle.uca_number_texts.proofs.comparing.compare_by_value.Goals as goal
 
@@ -24,7 +26,7 @@ returns-then-has_no_digit-2 g c =
       known = c.compare_weights.ensures.known;
       compared = of_both (λ xs ys. IfOk r (λ found. Is (texts_weighed by c.args.weighting xs ys) found.0 found.1)) left right c.compare_weights.ensures.compared;
       accepted = of_both (λ xs ys. OnOk r (AreAccepted by.properties xs ys)) left right c.compare_weights.ensures.accepted;
-      fault = of_both (λ xs ys. IfErr r (Causes by.properties xs ys)) left right c.compare_weights.ensures.fault;
+      fault = of_both (λ xs ys. IfErr r (IsPairCause (nfd_text by.properties xs) (nfd_text by.properties ys))) left right c.compare_weights.ensures.fault;
     }
 
 pub returns : goal.returns
@@ -37,5 +39,5 @@ returns g c =
       known = c.compare_weights-2.ensures.known;
       compared = of_both (λ xs ys. IfOk r (λ found. Is (texts_weighed by c.args.weighting xs ys) found.0 found.1)) left right c.compare_weights-2.ensures.compared;
       accepted = of_both (λ xs ys. OnOk r (AreAccepted by.properties xs ys)) left right c.compare_weights-2.ensures.accepted;
-      fault = of_both (λ xs ys. IfErr r (Causes by.properties xs ys)) left right c.compare_weights-2.ensures.fault;
+      fault = of_both (λ xs ys. IfErr r (IsPairCause (nfd_text by.properties xs) (nfd_text by.properties ys))) left right c.compare_weights-2.ensures.fault;
     }
