@@ -1,1 +1,2 @@
 pub mod NfdDigits
+pub mod NfdNumbers

@@ -1,26 +1,21 @@
--- What has no digit has none in Normalization Form D.
-use Rattle.std.proofs.Common.{◌≡◌, ℕ, ◌+◌, ◌-◌, ◌/◌, ◌%◌, ◌<◌, Bool, true, false, not, List, [], ◌∷◌, flat_map, refl, sym, subst, inl, inr, arith}
-use Rattle.std.proofs.lemmas.Bool.{cases_Bool, cases_eq, cond-false, and_parts, and_from, or_parts, or_from, not_from_false, not-true}
+-- What a code point that is no digit decomposes to has no digit.
+use Rattle.std.proofs.Common.{◌≡◌, ℕ, ◌+◌, ◌-◌, ◌/◌, ◌%◌, ◌<◌, Bool, true, false, not, List, [], ◌∷◌, refl, sym, subst, inl, inr, arith}
+use Rattle.std.proofs.lemmas.Bool.{cases_Bool, cases_eq, cond-false, and_from}
 use Rattle.std.proofs.lemmas.Bool.Decides.{nat_tests}
 use Rattle.std.specs.List.{list_all}
 use Rattle.ucd_table.proofs.Computing.{tables}
 use Rattle.ucd_table.proofs.RangedFacts.{values_ok, Stepped-at_values}
 use Rattle.ucd_normal.specs.Decomposition.{or_itself, canonical_decomposition}
 use Rattle.ucd_normal.proofs.DecompositionLemmas.{canonical_decomposition_stepped}
-use Rattle.unicode_normalization.specs.Forms.{nfd, Nfd, normalize, decomposed}
+use Rattle.unicode_normalization.specs.Forms.{Nfd}
 use Rattle.unicode_normalization.specs.Decompose.{decompose}
 use Rattle.unicode_normalization.specs.Hangul.{is_syllable, decompose_hangul}
-use Rattle.unicode_normalization.proofs.ComposeLemmas.{list_all-append}
 use Rattle.unicode_normalization.proofs.DecomposeLemmas.{decompose-syllable}
 use Rattle.unicode_normalization.proofs.HangulLemmas.{is_syllable-true, decompose_hangul-two, decompose_hangul-three}
-use Rattle.unicode_normalization.proofs.OrderLemmas.{list_all-canonical_order}
 use Rattle.uca_numbers.specs.Numbers.{is_digit}
-use Rattle.uca_numbers.specs.Texts.{has_digit}
-use Rattle.uca_numbers.proofs.Rewriting.{codes_stand}
-use Rattle.uca_digits.specs.Digits.{TextsWithoutDigitsStay}
 
 -- the test that a code point is no digit
-abbrev other : ℕ → Bool
+abbrev pub other : ℕ → Bool
 other c = not (is_digit c)
 
 -- no mapping has a digit
@@ -53,35 +48,10 @@ by_table : (c : ℕ) → is_syllable c ≡ false → decompose Nfd c ≡ or_itse
 unfolding decompose
 by_table c none = cond-false _ _ _ none
 
-decomposed_others : (c : ℕ) → other c ≡ true → list_all other (decompose Nfd c) ≡ true
+pub decomposed_others : (c : ℕ) → other c ≡ true → list_all other (decompose Nfd c) ≡ true
 decomposed_others c own =
     elim (cases_Bool (is_syllable c)) [
       | inl syllable ↦ subst (λ parts. list_all other parts ≡ true) (sym (decompose-syllable Nfd c syllable)) (syllable_others c syllable)
       | inr none ↦
           subst (λ parts. list_all other parts ≡ true) (sym (by_table c none)) (or_itself_others c (canonical_decomposition c) own (mapped_others c))
     ]
-
-flat_others : (points : List ℕ) → list_all other points ≡ true → list_all other (flat_map (decompose Nfd) points) ≡ true
-flat_others [] all = refl
-flat_others (c ∷ points) all =
-    let parts = and_parts (other c) (list_all other points) all in
-    list_all-append other (decompose Nfd c) (flat_map (decompose Nfd) points) (decomposed_others c parts.0) (flat_others points parts.1)
-
-nfd_others : (points : List ℕ) → list_all other points ≡ true → list_all other (nfd points) ≡ true
-unfolding normalize decomposed
-nfd_others points all = list_all-canonical_order other (flat_map (decompose Nfd) points) (flat_others points all)
-
--- ---- The two tests of a text
-
-others_from : (points : List ℕ) → has_digit points ≡ false → list_all other points ≡ true
-others_from [] none = refl
-others_from (c ∷ points) none =
-    let parts = or_parts (is_digit c) (has_digit points) none in and_from (other c) (list_all other points) (not_from_false (is_digit c) parts.0) (others_from points parts.1)
-
-none_from : (points : List ℕ) → list_all other points ≡ true → has_digit points ≡ false
-none_from [] all = refl
-none_from (c ∷ points) all =
-    let parts = and_parts (other c) (list_all other points) all in or_from (is_digit c) (has_digit points) (not-true (is_digit c) parts.0) (none_from points parts.1)
-
-pub texts_stay : TextsWithoutDigitsStay
-texts_stay points none = codes_stand.other (nfd points) (none_from (nfd points) (nfd_others points (others_from points none)))

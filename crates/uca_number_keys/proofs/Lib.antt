@@ -3,3 +3,4 @@ pub mod DigitReading
 pub mod FirstLevels
 pub mod NumberOrder
 pub mod TableChecks
+pub mod NumericTexts

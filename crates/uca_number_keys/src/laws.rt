@@ -1,6 +1,6 @@
 //! What is true of texts with numbers. The functions do nothing: their contracts are the laws.
 
-ghost use Rattle.uca_number_keys.specs.Laws.{NumbersOrderTexts, LeadingZerosMeanNothing};
+ghost use Rattle.uca_number_keys.specs.Laws.{NumbersOrderTexts, LeadingZerosMeanNothing, NumericTextsReadByValue, EquivalentTextsHaveOneNumericKey, NumericKeysCompareAsTexts, NumericKeysAreOfTextsByValue};
 
 /// Two texts that do not differ at level 1 before a number are ordered by the values of these numbers: `file 9` comes
 /// before `File 10`. This holds at either depth, under either weighting, and of the bytes of keys. If the values are
@@ -13,4 +13,27 @@ pub fn numbers_order_texts()
 /// tells them apart.
 pub fn leading_zeros_mean_nothing()
     ensures { LeadingZerosMeanNothing }
+{}
+
+/// A text by value may be normalized before it is written by value, or after. So what is true of texts in Normalization Form
+/// D is true of all texts.
+pub fn numeric_texts_read_by_value()
+    ensures { NumericTextsReadByValue }
+{}
+
+/// Canonically equivalent texts (UAX #15) have the same limits and equal keys. With an identical level other texts have
+/// other keys.
+pub fn equivalent_texts_have_one_numeric_key()
+    ensures { EquivalentTextsHaveOneNumericKey }
+{}
+
+/// Two keys give the order of their texts and the level at which they differ, by their bytes alone.
+pub fn numeric_keys_compare_as_texts()
+    ensures { NumericKeysCompareAsTexts }
+{}
+
+/// Without an identical level, the key of `a10` is that of the text `a210`. A text without digits has the key that it has if
+/// numbers are not ordered by value, at either depth.
+pub fn numeric_keys_are_of_texts_by_value()
+    ensures { NumericKeysAreOfTextsByValue }
 {}
