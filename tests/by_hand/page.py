@@ -110,23 +110,23 @@ AT_THE_END = """(async () => {
 })()"""
 
 
-def prepared(folder, cases):
-    """Puts what the cases need into the folder that is served."""
+def prepared(program, folder):
+    """Puts what the cases need into the folder that is served, and returns the cases."""
     for name, at in (("page", f"{TOP}/page"), ("made", MADE), ("examples", EXAMPLES)):
         os.symlink(at, f"{folder}/{name}")
-    blank = b"<!doctype html><title>blank</title>"
-    for name, data in {**page_cases.hostile(), "names": page_cases.names_of_cldr().encode(), "blank.html": blank}.items():
+    texts = {"names": page_cases.names_of_cldr(), "book": page_cases.BOOK, "blank.html": "<!doctype html><title>blank</title>"}
+    for name, data in {**page_cases.hostile(), **{name: text.encode() for name, text in texts.items()}}.items():
         with open(f"{folder}/{name}", "wb") as it:
             it.write(data)
+    files = ["examples/table.txt", "examples/data.txt"]
+    for name, words in page_cases.MADE_BY_PROGRAM.items():
+        with open(f"{EXAMPLES}/lines.txt", "rb") as lines, open(f"{folder}/{name}", "wb") as keys:
+            subprocess.run([program, *words, *files], cwd=folder, stdin=lines, stdout=keys, check=True)
+    fingerprint = subprocess.run([program, "fingerprint", *files], cwd=folder, stdout=subprocess.PIPE, text=True, check=True).stdout.strip()
+    cases = [*page_cases.all_cases(fingerprint)]
     with open(f"{folder}/cases.json", "w", encoding="utf-8") as it:
         json.dump([case._asdict() for case in cases], it)
-
-
-def make_keys(program, folder):
-    """Keys of the example lines, for commands that read keys."""
-    words = [program, "keys", f"{EXAMPLES}/table.txt", f"{EXAMPLES}/data.txt"]
-    with open(f"{EXAMPLES}/lines.txt", "rb") as lines, open(f"{folder}/keys", "wb") as keys:
-        subprocess.run(words, stdin=lines, stdout=keys, check=True)
+    return cases
 
 
 class Server(http.server.ThreadingHTTPServer):
@@ -523,11 +523,10 @@ def try_browser(name, folder, server, cases, wanted, options, counts):
 
 
 def main(options):
-    counts, cases = Counts(), [*page_cases.all_cases()]
+    counts = Counts()
     messages_have_sentences(counts)
     with tempfile.TemporaryDirectory(ignore_cleanup_errors=True) as folder, served(folder) as server:
-        prepared(folder, cases)
-        make_keys(options.uca, folder)
+        cases = prepared(options.uca, folder)
         wanted = [by_program(options.uca, case, folder) for case in cases]
         for name in options.browser or ["chromium", "firefox"]:
             try_browser(name, folder, server, cases, wanted, options, counts)

@@ -6,6 +6,9 @@ from typing import NamedTuple
 
 CLDR = "/usr/share/unicode/cldr/common/main"
 
+# A book for the small table of examples/.
+BOOK = "@book 1\n1 1C47\n1 1C48\n4 0209\n4 020A\n"
+
 
 class Case(NamedTuple):
     """A command over files, which are named by the paths that have their bytes."""
@@ -83,20 +86,33 @@ def small_cases():
     yield Case(["changes", *old, "c.txt"], old)
     yield Case(["audit-changes", *old, *changes], {**old, **changes})
     yield Case(["affected", "--changes", "data.txt", "changes.txt"], {"data.txt": at("data.txt"), **changes}, at("lines.txt"))
-    keyed = {"certificate.txt": at("certificate.txt")}
-    yield Case(["rekey", *keyed], keyed, "keys")
-    yield Case(["rekey", "--weighting", "non-ignorable", *keyed], keyed, "noise")
-    for name in ("compact", "expand"):
-        book = {"book.txt": at("books/general.book")}
-        yield Case([name, *book], book, "keys")
-    book = {"certificate.txt": at("certificate.txt"), "book.txt": at("books/general.book")}
-    yield Case(["book", *book], book)
-    with_book = {**files, "book.txt": at("books/general.book")}
-    yield Case(["keys", "--compact", "book.txt", *files], with_book, at("lines.txt"))
     for words in (["keys", "--weighting", "odd", *files], ["check", "table.txt"], ["check", "no.txt", "data.txt"]):
         yield Case(words, files)
     for words in ([], ["--help"], ["--version"], ["help", "tailor"], ["nonsense"]):
         yield Case(words, {})
+
+
+def stored_cases(fingerprint):
+    """Keys of the small table that were stored, as MADE_BY_PROGRAM has them: `headed` has a header of this fingerprint, and `compacted` compact keys."""
+    files = {"table.txt": "examples/table.txt", "data.txt": "examples/data.txt", "book.txt": "book"}
+    certificate, book = {"certificate.txt": "examples/editions/certificate.txt"}, {"book.txt": "book"}
+    other = "0" * 64
+    for at_from in (["--from", fingerprint], ["--from", other]):
+        yield Case(["rekey", *at_from, "--to", other, *certificate], certificate, "headed")
+        yield Case(["compact", *at_from, "--to", other, *book], book, "headed")
+    for name in ("keys", "headed", "compacted", "noise", "empty"):
+        yield Case(["rekey", *certificate], certificate, name)
+        yield Case(["rekey", "--weighting", "non-ignorable", "--identical", *certificate], certificate, name)
+        yield Case(["compact", *book], book, name)
+        yield Case(["expand", *book], book, name)
+    yield Case(["book", *certificate, *book], {**certificate, **book})
+    yield Case(["keys", "--compact", "book.txt", *[*files][:2]], files, "examples/lines.txt")
+    yield Case(["keys", "--compact", "book.txt", "--lines", "--header", "--identical", *[*files][:2]], files, "examples/lines.txt")
+    yield Case(["fingerprint", "--compact", "book.txt", *[*files][:2]], files)
+
+
+# What the program makes before: the names of files, and the arguments before the table and the data file.
+MADE_BY_PROGRAM = {"keys": ["keys"], "headed": ["keys", "--lines", "--header"], "compacted": ["keys", "--lines", "--compact", "book"]}
 
 
 def hostile_cases():
@@ -113,7 +129,8 @@ def hostile_cases():
         yield Case(["audit", *audit], audit)
 
 
-def all_cases():
+def all_cases(fingerprint):
     yield from real_cases("made/table.txt", "made/data.txt")
     yield from small_cases()
+    yield from stored_cases(fingerprint)
     yield from hostile_cases()
