@@ -74,7 +74,8 @@ class Browser:
         self.socket, self.number = WebSocket(address), 0
         if starts_session:
             self.call("session.new", {"capabilities": {}})
-        self.context = self.call("browsingContext.getTree", {})["contexts"][0]["context"]
+        # the first window of Firefox has no focus
+        self.context = self.call("browsingContext.create", {"type": "window"})["context"]
 
     def call(self, method, params):
         self.number += 1
@@ -177,8 +178,9 @@ def open_browser(name, folder, is_dark=False):
         return
     profile = f"{folder}/profile"
     os.makedirs(profile, exist_ok=True)
+    settings = {"ui.systemUsesDarkTheme": int(is_dark), "layout.css.prefers-color-scheme.content-override": 1 - is_dark}
     with open(f"{profile}/user.js", "w", encoding="utf-8") as it:
-        it.write(f'user_pref("ui.systemUsesDarkTheme", {int(is_dark)});\nuser_pref("layout.css.prefers-color-scheme.content-override", {0 if is_dark else 1});\n')
+        it.writelines(f'user_pref("{name}", {value});\n' for name, value in settings.items())
     words = ["firefox-esr", "--headless", "--no-remote", "--profile", profile, f"--remote-debugging-port={port}", "about:blank"]
     with started(words, folder):
         wait_for_port(port)

@@ -90,18 +90,18 @@ IN_BROWSER = """(async () => {
   return found;
 })()"""
 
-# Takes all memory of a module, gives the small blocks back, and sorts. Then it has a call stop, and runs another command.
+# Takes all memory of a module, gives some small blocks back, and sorts. Then it has a call stop, and runs another command.
 AT_THE_END = """(async () => {
   const { Uca } = await import("/page/uca.js");
   const fetched = async (path) => new Uint8Array(await (await fetch(path)).arrayBuffer());
   const [module, table, data] = await Promise.all(["/made/MODULE", "/made/table.txt", "/made/data.txt"].map(fetched));
   const uca = await Uca.load(module);
   const files = { "table.txt": uca.put(table), "data.txt": uca.put(data) };
-  const taken = [];
+  const small = [4, 30, 30, 60, 120, 240].map((size) => uca.take(size)), taken = [];
   for (let size = 2 ** 28; size >= 16; size /= 2) {
     try { while (taken.length < 5000) taken.push(uca.take(size)); } catch (error) { if (!(error instanceof RangeError)) throw error; }
   }
-  taken.filter((it) => it.length < 4096).forEach((it) => uca.give_back(it));
+  small.forEach((it) => uca.give_back(it));
   const sort = ["sort", "table.txt", "data.txt"], done = uca.run(sort, files, "b\\na\\n");
   const other = await Uca.load(module), again = other.run(sort, { "table.txt": table, "data.txt": data }, "b\\na\\n");
   other.calls = { ...other.calls, uca_run() { throw new Error("stopped"); } };
@@ -183,7 +183,8 @@ def see_the_end(browser, address, counts, module):
 
 
 def ready(browser, address):
-    browser.visit("about:blank")
+    # another page comes before, so that what follows `#` is read again
+    browser.visit(f"{address.partition('/page/')[0]}/blank.html")
     browser.visit(address)
     browser.wait("document.body.dataset.state === 'ready' || document.body.dataset.state === 'failed'")
 
@@ -390,7 +391,15 @@ BY_TAB = ["skip", "rules", "rules-file", "language", "table", "weighting", "iden
 
 
 def use_keyboard(browser, address, counts):
-    """Goes through the page by Tab alone: what can be used is reached in its order, and the place is seen. Enter follows the first link, to the orders."""
+    """Follows the first link by Enter, to the orders. Then Tab alone goes through the page: what can be used is reached in its order, and the place is seen."""
+    ready(browser, f"{address}/page/")
+    browser.press(TAB)
+    found = browser.evaluate("[document.hasFocus(), document.activeElement.className, document.activeElement.getBoundingClientRect().left]")
+    counts.same(found, [True, "skip", 8], "focus, and the first link in the window")
+    browser.press(ENTER)
+    counts.same(browser.wait("document.activeElement.id"), "orders", "where the first link goes")
+    browser.press(TAB)
+    counts.same(browser.evaluate(FOCUSED)[0], "before", "what comes after the first link")
     ready(browser, f"{address}/page/")
     reached, unseen = [], []
     for _ in range(100):
@@ -402,13 +411,6 @@ def use_keyboard(browser, address, counts):
         unseen += [name] * (not is_seen)
     counts.same([it for it in reached if it in BY_TAB], BY_TAB, f"what Tab reaches ({reached})")
     counts.same(unseen, [], "places that are not seen")
-    ready(browser, f"{address}/page/")
-    browser.press(TAB)
-    counts.see(browser.evaluate("document.activeElement.getBoundingClientRect().left >= 0"), "the first link is not in the window")
-    browser.press(ENTER)
-    counts.same(browser.wait("document.activeElement.id"), "orders", "where the first link goes")
-    browser.press(TAB)
-    counts.same(browser.evaluate(FOCUSED)[0], "before", "what comes after the first link")
 
 
 def see_layout(browser, counts):
