@@ -14,8 +14,9 @@ const EXAMPLE = {
 };
 const UNICODE = { path: "made/table.txt", name: "Unicode's table" };
 
-// The most bytes of a file that a field takes. A larger one makes the browser slow, and is one for the command.
+// The most bytes and lines of a file that a field takes. More make a browser slow: they are for the command.
 const MOST_BYTES = 20000000;
+const MOST_FILE_LINES = 100000;
 
 // `?module=uca32.wasm` asks for that module.
 const asked_module = new URLSearchParams(location.search).get("module") ?? undefined;
@@ -187,10 +188,11 @@ function use_table() {
 
 // The text of a file, or why there is none. It has to be UTF-8, since a field has characters and no bytes.
 async function text_of(file) {
-  const most = MOST_BYTES.toLocaleString("en");
-  if (file.size > MOST_BYTES) {
-    return { error: `has more than ${most} bytes`, advice: "The command takes larger files." };
-  }
+  const too_large = (most, name) => ({
+    error: `has more than ${most.toLocaleString("en")} ${name}`,
+    advice: "The command takes larger files.",
+  });
+  if (file.size > MOST_BYTES) return too_large(MOST_BYTES, "bytes");
   let bytes;
   try {
     bytes = await file.arrayBuffer();
@@ -198,7 +200,8 @@ async function text_of(file) {
     return { error: "cannot be read", advice: `The browser says: ${error.message}` };
   }
   try {
-    return { text: new TextDecoder("utf-8", { fatal: true, ignoreBOM: true }).decode(bytes) };
+    const text = new TextDecoder("utf-8", { fatal: true, ignoreBOM: true }).decode(bytes);
+    return lines_text(text).split("\n").length - 1 > MOST_FILE_LINES ? too_large(MOST_FILE_LINES, "lines") : { text };
   } catch {
     return { error: "is not UTF-8", advice: "Save it as UTF-8." };
   }

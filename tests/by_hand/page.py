@@ -209,12 +209,7 @@ def click(browser, name):
 
 
 def write(browser, name, content, event="input"):
-    write_by(browser, name, json.dumps(content), event)
-
-
-def write_by(browser, name, content, event="input"):
-    """Puts into a field what an expression of JavaScript gives."""
-    script = f"const it = document.getElementById('{name}'); it.value = {content}; it.dispatchEvent(new Event('{event}', {{ bubbles: true }}))"
+    script = f"const it = document.getElementById('{name}'); it.value = {json.dumps(content)}; it.dispatchEvent(new Event('{event}', {{ bubbles: true }}))"
     browser.evaluate(f"(() => {{ {script}; }})()")
     settled(browser)
 
@@ -272,13 +267,18 @@ def see_keys(browser, counts):
 
 DROP = """(() => {
   const part = document.getElementById("PART"), moved = new DataTransfer();
-  moved.items.add(new File([Uint8Array.from(BYTES)], NAME));
+  moved.items.add(new File([CONTENT], NAME));
   part.dispatchEvent(new DragEvent("drop", { dataTransfer: moved, bubbles: true, cancelable: true }));
 })()"""
 
 
 def drop(browser, part, name, data):
-    browser.evaluate(DROP.replace("PART", part).replace("NAME", json.dumps(name)).replace("BYTES", str([*data])))
+    drop_by(browser, part, name, f"Uint8Array.from({[*data]})")
+
+
+def drop_by(browser, part, name, content):
+    """Drops a file that has what an expression of JavaScript gives."""
+    browser.evaluate(DROP.replace("PART", part).replace("NAME", json.dumps(name)).replace("CONTENT", content))
     settled(browser)
 
 
@@ -295,8 +295,9 @@ def drop_files(browser, counts):
     counts.same((order(browser, "before"), order(browser, "after")), ([], []), "the orders of rejected words")
     write(browser, "rules", "&a < ")
     counts.see("EmptyText" in text(browser, "verdict"), f"rules beside words that are rejected: {text(browser, 'verdict')}")
-    write_by(browser, "words", "'a\\n'.repeat(1000001)")
-    counts.see("Limit" in text(browser, "words-error") and "line 1000001" in text(browser, "words-error"), text(browser, "words-error"))
+    for content, said in (("'a\\n'.repeat(100001)", "has more than 100,000 lines"), ("'a'.repeat(20000001)", "has more than 20,000,000 bytes")):
+        drop_by(browser, "words-part", "large.txt", content)
+        counts.see(f"large.txt {said}" in text(browser, "words-error"), f"a large file: {text(browser, 'words-error')}")
 
 
 def see_odd_words(browser, counts):
