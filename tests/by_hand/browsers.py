@@ -74,8 +74,7 @@ class Browser:
         self.socket, self.number = WebSocket(address), 0
         if starts_session:
             self.call("session.new", {"capabilities": {}})
-        # the first window of Firefox has no focus
-        self.context = self.call("browsingContext.create", {"type": "window"})["context"]
+        self.open_window()
 
     def call(self, method, params):
         self.number += 1
@@ -86,6 +85,10 @@ class Browser:
                 if reply["type"] == "error":
                     raise RuntimeError(f"{method}: {reply['message']}")
                 return reply["result"]
+
+    def open_window(self):
+        """Goes on in a new window, which has the focus. The first window of Firefox has none, and one where much was done may have lost it."""
+        self.context = self.call("browsingContext.create", {"type": "window"})["context"]
 
     def visit(self, address):
         self.call("browsingContext.navigate", {"context": self.context, "url": address, "wait": "complete"})

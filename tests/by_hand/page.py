@@ -393,6 +393,7 @@ BY_TAB = ["skip", "rules", "rules-file", "language", "table", "weighting", "iden
 
 def use_keyboard(browser, address, counts):
     """Follows the first link by Enter, to the orders. Then Tab alone goes through the page: what can be used is reached in its order, and the place is seen."""
+    browser.open_window()
     ready(browser, f"{address}/page/")
     browser.press(TAB)
     found = browser.evaluate("[document.hasFocus(), document.activeElement.className, document.activeElement.getBoundingClientRect().left]")
