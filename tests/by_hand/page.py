@@ -5,10 +5,10 @@
     tests/by_hand/page.py --browser firefox    in this one alone
     tests/by_hand/page.py --pictures FOLDER    keeps pictures of the page there
 
-`page/make.py modules`, `page/make.py files` and `page/make.py languages sv` make what the page needs before. The commands of page_cases.py run over real lists and over broken
-files: status, output, errors and the file that is made are compared with those of crates/uca/out/uca. Then a browser types rules, makes an error, drops a file, follows a
-link, goes through the page by the keyboard, and looks at a narrow window and at dark colours. It needs Debian's chromium, chromium-driver and firefox-esr. The last line is
-`N passed, M failed`.
+`page/make.py modules`, `page/make.py files` and `page/make.py languages sv` make what the page needs before. The commands of page_cases.py run over real lists and over
+broken files: status, output, errors and the file that is made are compared with those of crates/uca/out/uca. Then a browser types rules, makes an error, drops a file and
+follows a link. It goes through the page by the keyboard, and looks at narrow windows and at dark colours. It needs Debian's chromium, chromium-driver and firefox-esr. The
+last line is `N passed, M failed`.
 """
 import argparse
 import contextlib
@@ -110,11 +110,14 @@ AT_THE_END = """(async () => {
 })()"""
 
 
+BLANK = '<!doctype html><link rel="icon" href="data:,"><title>blank</title>'
+
+
 def prepared(program, folder):
     """Puts what the cases need into the folder that is served, and returns the cases."""
     for name, at in (("page", f"{TOP}/page"), ("made", MADE), ("examples", EXAMPLES)):
         os.symlink(at, f"{folder}/{name}")
-    texts = {"names": page_cases.names_of_cldr(), "book": page_cases.BOOK, "blank.html": "<!doctype html><title>blank</title>"}
+    texts = {"names": page_cases.names_of_cldr(), "book": page_cases.BOOK, "blank.html": BLANK}
     for name, data in {**page_cases.hostile(), **{name: text.encode() for name, text in texts.items()}}.items():
         with open(f"{folder}/{name}", "wb") as it:
             it.write(data)
@@ -135,6 +138,9 @@ class Server(http.server.ThreadingHTTPServer):
     def __init__(self, folder):
         super().__init__(("127.0.0.1", 0), functools.partial(Handler, directory=folder))
         self.asked, self.address = [], f"http://127.0.0.1:{self.server_address[1]}"
+
+    def handle_error(self, *_):
+        """A browser may end a connection before it has read all."""
 
 
 class Handler(http.server.SimpleHTTPRequestHandler):
@@ -453,7 +459,7 @@ def see_colours(browser, address, is_dark, counts):
 
 def see_requests(server, since, counts):
     """What the page asked for: nothing but its own files, and nothing of what was written."""
-    asked = {it for it in server.asked[since:] if it not in ("/blank.html", "/favicon.ico")}
+    asked = {it for it in server.asked[since:] if it != "/blank.html"}
     strange = sorted(it for it in asked if not re.fullmatch(r"/page/([\w./-]*)(\?module=[\w.]+)?", it))
     counts.same(strange, [], "requests")
 
