@@ -14,7 +14,7 @@ struct tried {
 };
 
 extern u8 __heap_base;
-static address cut_to, memory_end;
+static address cut_to;
 static u8 *given_back[CLASSES];
 static u8 no_block;
 
@@ -28,18 +28,17 @@ static u64 class_for(u64 bytes) {
 
 static u64 *class_of(u8 *place) { return (u64 *)(place - HEAD); }
 
-/* Makes the memory larger until it has so many bytes after what is cut. */
+static address end_of_memory(void) { return (address)__builtin_wasm_memory_size(0) * PAGE; }
+
+/* Makes the memory larger until it has so many bytes after what is cut. The size is asked for each time: what
+   memory.grow returns where it fails is another number in a module whose addresses wasm-opt has narrowed. */
 static int has_room(u64 bytes) {
-    if (!memory_end) {
-        cut_to = ((address)&__heap_base + HEAD - 1) & ~(address)(HEAD - 1);
-        memory_end = (address)__builtin_wasm_memory_size(0) * PAGE;
-    }
-    if (memory_end - cut_to >= bytes) return 1;
-    address pages = (bytes - (memory_end - cut_to) + PAGE - 1) / PAGE;
-    if (pages < FEWEST_PAGES) pages = FEWEST_PAGES;
-    if (__builtin_wasm_memory_grow(0, pages) == (address)-1) return 0;
-    memory_end += pages * PAGE;
-    return 1;
+    if (!cut_to) cut_to = ((address)&__heap_base + HEAD - 1) & ~(address)(HEAD - 1);
+    address room = end_of_memory() - cut_to;
+    if (room >= bytes) return 1;
+    address pages = (bytes - room + PAGE - 1) / PAGE;
+    __builtin_wasm_memory_grow(0, pages < FEWEST_PAGES ? FEWEST_PAGES : pages);
+    return end_of_memory() - cut_to >= bytes;
 }
 
 static u8 *take(u64 bytes) {

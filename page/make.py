@@ -40,7 +40,8 @@ X86_TARGET, WASM_TARGET = "x86_64-unknown-linux-gnu", "wasm64-unknown-unknown"
 X86_ATTRIBUTE = re.compile(r'"(?:probe-stack|stack-probe-size|target-cpu|target-features|tune-cpu)"="[^"]*" ?')
 
 COMPILE = [f"--target={WASM_TARGET}", "-mcpu=lime1", "-ffunction-sections", "-fdata-sections", "-O3"]
-LINK = "-mwasm64 --no-entry --stack-first -z stack-size=1048576 --gc-sections --strip-all --export=__heap_base".split()
+# At most 4 GB of memory, in both modules. A greatest size lets an engine keep the addresses free, so that it moves nothing as memory gets larger.
+LINK = "-mwasm64 --no-entry --stack-first -z stack-size=1048576 --max-memory=4294967296 --gc-sections --strip-all --export=__heap_base".split()
 LOWER = "--enable-memory64 --enable-bulk-memory --enable-sign-ext --enable-nontrapping-float-to-int --enable-mutable-globals --enable-multivalue"
 LOWER = [*LOWER.split(), "--memory64-lowering"]
 

@@ -2,13 +2,34 @@
 
 // Errors in rules, by their kind. `what` says what is wrong there, and `do` what to do.
 export const RULES = {
-  Syntax: { what: "A character stands here that may not be here; or a quote has no end; or a reset (&) has no relation.", do: "Quote punctuation and blanks, as in '!' or 'ice cream'. Write & or a sign such as < before each text." },
-  EmptyText: { what: "A text is missing here, after &, a sign or /.", do: "Write the text. Or take the blank out of a sign: <<<, not << <." },
-  Escape: { what: "This backslash has no code point after it.", do: "Write all digits: \\u and four of them, as in \\u00E9, or \\U and eight." },
-  BeforeStrength: { what: "After [before 1] the first sign is <, after [before 2] it is <<, and after [before 3] it is <<<.", do: "Change the sign or the number." },
-  DuplicateTarget: { what: "This target is the target of an earlier relation already. (é and e\\u0301 are one text.)", do: "Delete one of the two relations." },
-  LateTarget: { what: "The code points of this target occur in an anchor or an expansion of its own relation, or of an earlier one.", do: "Put this relation first, or use another anchor." },
-  Limit: { what: "There is too much here: a text of more than 16 code points, more than 5,000 relations, or more than 1,048,576 bytes.", do: "Shorten it. Is this another file, such as a table?" },
+  Syntax: {
+    what: "A character stands here that may not be here; or a quote has no end; or a reset (&) has no relation.",
+    do: "Quote punctuation and blanks, as in '!' or 'ice cream'. Write & or a sign such as < before each text.",
+  },
+  EmptyText: {
+    what: "A text is missing here, after &, a sign or /.",
+    do: "Write the text. Or take the blank out of a sign: <<<, not << <.",
+  },
+  Escape: {
+    what: "This backslash has no code point after it.",
+    do: "Write all digits: \\u and four of them, as in \\u00E9, or \\U and eight.",
+  },
+  BeforeStrength: {
+    what: "After [before 1] the first sign is <, after [before 2] it is <<, and after [before 3] it is <<<.",
+    do: "Change the sign or the number.",
+  },
+  DuplicateTarget: {
+    what: "This target is the target of an earlier relation already. (é and e\\u0301 are one text.)",
+    do: "Delete one of the two relations.",
+  },
+  LateTarget: {
+    what: "The code points of this target occur in an anchor or an expansion of this relation, or of an earlier one.",
+    do: "Put this relation first, or use another anchor.",
+  },
+  Limit: {
+    what: "There is too much here: a text of over 16 code points, over 5,000 relations, or over 1,048,576 bytes.",
+    do: "Shorten it. Is this another file, such as a table?",
+  },
   Utf8: { what: "The file is not UTF-8 from here on.", do: "Save it as UTF-8." },
   Memory: { what: "The page is out of memory.", do: "Close other pages, or use shorter rules." },
 };
@@ -16,10 +37,22 @@ export const RULES = {
 // Why rules have no plan.
 export const PLANS = {
   BaseIllFormed: { what: "The table is not well-formed.", do: "Choose another table." },
-  Anchor: { what: "No new weight can be put on the anchor of this relation.", do: "Use an anchor that has a row in the table." },
-  NeedsPrefix: { what: "This target has three or more code points and ends in a combining mark. Without the mark it has no row.", do: "Write a relation for the beginning first." },
-  Limit: { what: "The target of this relation would have more than 32 elements, or the table more than 200,000 rows.", do: "Shorten the expansions." },
-  ImplicitVariable: { what: "The target of this relation would get a weight among those of spaces and punctuation.", do: "Give the anchor or the expansion a row." },
+  Anchor: {
+    what: "No new weight can be put on the anchor of this relation.",
+    do: "Use an anchor that has a row in the table.",
+  },
+  NeedsPrefix: {
+    what: "This target has three or more code points and ends in a combining mark. Without the mark it has no row.",
+    do: "Write a relation for the beginning first.",
+  },
+  Limit: {
+    what: "The target of this relation would have more than 32 elements, or the table more than 200,000 rows.",
+    do: "Shorten the expansions.",
+  },
+  ImplicitVariable: {
+    what: "The target of this relation would get a weight among those of spaces and punctuation.",
+    do: "Give the anchor or the expansion a row.",
+  },
   NoRoom: { what: "This level has more weights than places.", do: "Use fewer relations at this level." },
   Memory: { what: "The page is out of memory.", do: "Close other pages, or use shorter rules." },
 };
@@ -48,6 +81,7 @@ export const VERDICTS = {
   NotNearest: "Another weight lies between the new weight and that of the anchor.",
 };
 
+const MEMORY = { what: "The page is out of memory.", do: "Close other pages, or use fewer words and rules." };
 const UNKNOWN = { what: "", do: "docs/MESSAGES.md explains this message." };
 
 // What a message says: its place (`byte`, `relation` or `line`, each a number, if it has one), and sentences.
@@ -61,5 +95,5 @@ export function explain(message) {
   if (line) return { said, line: Number(line[1]), ...(LINES[line[2]] ?? UNKNOWN) };
   const verdict = /^refused \d+ (\w+)(?: relation (\d+))?/.exec(said);
   if (verdict) return { said, relation: verdict[2] && Number(verdict[2]), what: VERDICTS[verdict[1]] ?? "", do: "" };
-  return { said, ...UNKNOWN };
+  return { said, ...(said === "memory" ? MEMORY : UNKNOWN) };
 }

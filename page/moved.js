@@ -9,7 +9,9 @@ class Chains {
 
   best_below(index) {
     let [weight, end] = [0, -1];
-    for (let i = index; i > 0; i -= i & -i) if (this.weights[i] > weight) [weight, end] = [this.weights[i], this.ends[i]];
+    for (let i = index; i > 0; i -= i & -i) {
+      if (this.weights[i] > weight) [weight, end] = [this.weights[i], this.ends[i]];
+    }
     return [weight, end];
   }
 

@@ -2,7 +2,8 @@
 
 import { Client } from "./client.js";
 import { MOST_CHARACTERS, link_of, state_of } from "./link.js";
-import { element, made, show_key, show_orders, show_verdict, show_words_error, summary } from "./show.js";
+import { changes_of, element, made, summary } from "./show.js";
+import { show_key, show_no_key, show_orders, show_verdict, show_words_error } from "./show.js";
 
 // How long the page waits after a key before it works, in milliseconds.
 const PAUSE = 150;
@@ -12,6 +13,10 @@ const EXAMPLE = {
   words: "zebra\nål\nArboga\nÄngelholm\närta\nörn\nanka\nOslo\nzink\nÅmål\nost\nÖrebro\nasp\n",
 };
 const UNICODE = { path: "made/table.txt", name: "Unicode's table" };
+
+// The most bytes and lines of a file that a field takes. More make a browser slow: they are for the command.
+const MOST_BYTES = 20000000;
+const MOST_FILE_LINES = 100000;
 
 // `?module=uca32.wasm` asks for that module.
 const asked_module = new URLSearchParams(location.search).get("module") ?? undefined;
@@ -36,7 +41,12 @@ function table() {
   return element("upper").checked && chosen.upper ? chosen.upper : chosen.path;
 }
 
-const asked = () => ({ table: table(), rules: element("rules").value, words: lines_text(element("words").value), settings: settings() });
+const asked = () => ({
+  table: table(),
+  rules: element("rules").value,
+  words: lines_text(element("words").value),
+  settings: settings(),
+});
 
 // ---- Work
 
@@ -56,7 +66,7 @@ async function work() {
     show(given, await page.client.call("order", given));
     await show_chosen();
   } catch (error) {
-    element("summary").textContent = `The page cannot do this: ${error.message}.`;
+    show_nothing(`The page cannot do this: ${error.message}.`);
   }
   is_working = false;
   if (is_waiting) {
@@ -68,32 +78,48 @@ async function work() {
 function show(given, found) {
   page.found = { ...found, given };
   show_words_error(found.input_error);
-  if (found.input_error) {
-    show_orders({}, undefined, choose);
-    element("summary").textContent = "A line of the words is rejected.";
-  } else {
-    page.place = show_verdict(given.rules, found);
-    const all = found.after ?? found.before;
-    if (!all.includes(page.chosen)) page.chosen = all[0];
-    element("summary").textContent = summary(found, show_orders(found, page.chosen, choose));
-  }
+  page.place = show_verdict(given.rules, found);
+  const [all, changes] = [found.after ?? found.before ?? [], changes_of(found)];
+  if (!all.includes(page.chosen)) page.chosen = changes?.find((it) => it.moved)?.line ?? all[0];
+  show_orders(found, changes, page.chosen, choose);
+  element("summary").textContent = summary(found, changes);
   show_commands(given);
-  for (const button of document.querySelectorAll("[data-save]")) button.disabled = content_of(button.dataset.save) === undefined;
+  offer_files();
 }
 
+// Shows that nothing was found. What was found before is not kept, since the worker has other files now.
+function show_nothing(cause) {
+  [page.found, page.chosen] = [undefined, undefined];
+  show_orders({}, undefined, undefined, choose);
+  show_no_key();
+  element("summary").textContent = cause;
+  offer_files();
+}
+
+const save_buttons = () => document.querySelectorAll("[data-save]");
+
+function offer_files() {
+  for (const button of save_buttons()) button.disabled = content_of(button.dataset.save) === undefined;
+}
+
+// Shows the key of the word that is chosen, unless other words or rules come meanwhile.
 async function show_chosen() {
-  if (page.chosen === undefined || page.found.input_error) {
-    element("key").replaceChildren();
+  const { found, chosen: word } = page;
+  if (word === undefined || !found || found.input_error) {
+    show_no_key();
     return;
   }
-  const word = page.chosen;
-  show_key(word, await page.client.call("key", { table: page.found.given.table, word, settings: page.found.given.settings }));
+  const { table: path, settings: by } = found.given;
+  const key = await page.client.call("key", { table: path, word, settings: by });
+  if (page.found === found && page.chosen === word) show_key(word, key);
 }
 
 function choose(word) {
   page.chosen = word;
-  for (const button of document.querySelectorAll("ol button")) button.ariaPressed = String(button.firstChild.data === word);
-  show_chosen().catch((error) => { element("summary").textContent = error.message; });
+  for (const button of document.querySelectorAll("ol button")) {
+    button.ariaPressed = String(button.firstChild.data === word);
+  }
+  show_chosen().catch((error) => show_nothing(`The page cannot do this: ${error.message}.`));
 }
 
 // ---- Languages and tables
@@ -110,8 +136,9 @@ function list_languages(languages) {
   page.languages = languages;
   const with_table = languages.filter((it) => it.table ?? it.upper);
   page.tables = [UNICODE, ...with_table.map(table_of)];
-  element("language").append(...languages.map(({ tag, name }) => made("option", { value: tag }, `${name} [${tag}]`)));
-  element("table").replaceChildren(...page.tables.map(({ path, name }) => made("option", { value: path }, name)));
+  const option = (value, text) => made("option", { value }, text);
+  element("language").append(...languages.map(({ tag, name }) => option(tag, `${name} [${tag}]`)));
+  element("table").replaceChildren(...page.tables.map(({ path, name }) => option(path, name)));
 }
 
 function offer_language() {
@@ -136,9 +163,18 @@ function take_language() {
   soon();
 }
 
+// The rules of a language are for Unicode's table.
 async function load_rules() {
-  const reply = await fetch(`made/${chosen_language().rules}`);
-  element("rules").value = await reply.text();
+  const { rules } = chosen_language();
+  try {
+    const reply = await fetch(`made/${rules}`);
+    if (!reply.ok) throw new Error(`${reply.status} ${reply.statusText}`);
+    element("rules").value = await reply.text();
+  } catch (error) {
+    element("language-help").textContent = `These rules cannot be loaded: ${error.message}.`;
+    return;
+  }
+  element("table").value = UNICODE.path;
   take_language();
 }
 
@@ -150,33 +186,63 @@ function use_table() {
 
 // ---- Files
 
-// Takes a file into a field. It has to be UTF-8, since a field has characters and no bytes.
-async function take_file(field, file) {
-  const said = field.id === "rules" ? element("verdict") : element("words-error");
+// The text of a file, or why there is none. It has to be UTF-8, since a field has characters and no bytes.
+async function text_of(file) {
+  const too_large = (most, name) => ({
+    error: `has more than ${most.toLocaleString("en")} ${name}`,
+    advice: "The command takes larger files.",
+  });
+  if (file.size > MOST_BYTES) return too_large(MOST_BYTES, "bytes");
+  let bytes;
   try {
-    field.value = new TextDecoder("utf-8", { fatal: true, ignoreBOM: true }).decode(await file.arrayBuffer());
-    soon();
+    bytes = await file.arrayBuffer();
+  } catch (error) {
+    return { error: "cannot be read", advice: `The browser says: ${error.message}` };
+  }
+  try {
+    const text = new TextDecoder("utf-8", { fatal: true, ignoreBOM: true }).decode(bytes);
+    return lines_text(text).split("\n").length - 1 > MOST_FILE_LINES ? too_large(MOST_FILE_LINES, "lines") : { text };
   } catch {
-    said.replaceChildren(made("p", { className: "bad" }, made("strong", {}, `${file.name} is not UTF-8`), "Save it as UTF-8. The field is as it was."));
+    return { error: "is not UTF-8", advice: "Save it as UTF-8." };
   }
 }
 
+// Takes a file into a field.
+async function take_file(field, file) {
+  const { text, error, advice } = await text_of(file);
+  if (error === undefined) {
+    field.value = text;
+    soon();
+    return;
+  }
+  const said = element(field.id === "rules" ? "verdict" : "words-error");
+  const cause = made("strong", {}, `${file.name} ${error}`);
+  said.replaceChildren(made("p", { className: "bad" }, cause, `${advice} The field is as it was.`));
+}
+
+// A file that is dropped goes into the field of that part of the page, and a text where the browser puts it.
 function accept_files(part, field, input) {
   input.onchange = () => { if (input.files[0]) take_file(field, input.files[0]); input.value = ""; };
-  part.ondragover = (event) => { event.preventDefault(); part.classList.add("drop"); };
-  part.ondragleave = () => part.classList.remove("drop");
-  part.ondrop = (event) => {
-    event.preventDefault();
+  part.addEventListener("dragover", (event) => { if (has_files(event)) part.classList.add("drop"); });
+  part.addEventListener("dragleave", () => part.classList.remove("drop"));
+  part.addEventListener("drop", (event) => {
     part.classList.remove("drop");
-    if (event.dataTransfer.files[0]) take_file(field, event.dataTransfer.files[0]);
-    else if (event.dataTransfer.getData("text")) { field.value = event.dataTransfer.getData("text"); soon(); }
-  };
+    if (has_files(event) && event.dataTransfer.files[0]) take_file(field, event.dataTransfer.files[0]);
+  });
+}
+
+const has_files = (event) => event.dataTransfer.types.includes("Files");
+
+// A file that misses the fields would take the place of the page.
+function keep_page(event) {
+  if (has_files(event)) event.preventDefault();
 }
 
 // What a file has that can be saved now, or undefined. All are of one run.
 function content_of(name) {
   const { given, tailored, certificate, sorted } = page.found ?? {};
-  return { "rules.txt": given?.rules, "words.txt": given?.words, "tailored.txt": tailored, "certificate.txt": certificate, "sorted.txt": sorted }[name];
+  const given_files = { "rules.txt": given?.rules, "words.txt": given?.words };
+  return { ...given_files, "tailored.txt": tailored, "certificate.txt": certificate, "sorted.txt": sorted }[name];
 }
 
 function save(name) {
@@ -187,7 +253,7 @@ function save(name) {
 }
 
 function show_commands({ table: path, settings: { weighting, identical } }) {
-  const options = [weighting && `--weighting ${weighting} `, identical && "--identical "].filter(Boolean).join("");
+  const options = (weighting ? `--weighting ${weighting} ` : "") + (identical ? "--identical " : "");
   element("table-link").href = path;
   element("commands").textContent = [
     "uca tailor table.txt data.txt rules.txt certificate.txt > tailored.txt",
@@ -202,13 +268,15 @@ function current_state() {
   const { rules, words } = asked();
   const path = element("table").value;
   const { weighting, identical } = settings();
-  return { rules, words, table: path === UNICODE.path ? "" : path, weighting, upper: element("upper").checked, identical };
+  const named = path === UNICODE.path ? "" : path;
+  return { rules, words, table: named, weighting, upper: element("upper").checked, identical };
 }
 
 async function copy_link() {
   const link = link_of(current_state());
   if (link.length > MOST_CHARACTERS) {
-    element("saved").textContent = `A link would have ${link.length.toLocaleString("en")} characters, which is too long. Save rules.txt and words.txt.`;
+    const length = link.length.toLocaleString("en");
+    element("saved").textContent = `A link would have ${length} characters. Save rules.txt and words.txt in its place.`;
     return;
   }
   history.replaceState(null, "", link);
@@ -228,7 +296,9 @@ function take_state(state) {
   element("table").value = page.tables.some((it) => it.path === state.table) ? state.table : UNICODE.path;
   offer_upper();
   element("upper").checked = Boolean(state.upper) && !element("upper").disabled;
-  if (state.table && element("table").value !== state.table) element("saved").textContent = `The link names a table that is not here: ${state.table}`;
+  if (state.table && element("table").value !== state.table) {
+    element("saved").textContent = `The link names a table that is not here: ${state.table}`;
+  }
 }
 
 // ---- The start
@@ -240,11 +310,24 @@ function listen() {
   element("load-rules").onclick = load_rules;
   element("use-table").onclick = use_table;
   element("copy").onclick = copy_link;
-  element("go").onclick = () => { element("rules").focus(); element("rules").setSelectionRange(page.place.start, page.place.end); };
-  for (const button of document.querySelectorAll("[data-save]")) button.onclick = () => save(button.dataset.save);
+  element("go").onclick = go_to_place;
+  for (const button of save_buttons()) button.onclick = () => save(button.dataset.save);
   accept_files(element("rules-part"), element("rules"), element("rules-file"));
   accept_files(element("words-part"), element("words"), element("words-file"));
-  addEventListener("hashchange", () => { const state = state_of(location.hash); if (state) { take_state(state); soon(); } });
+  for (const name of ["dragover", "drop"]) addEventListener(name, keep_page);
+  addEventListener("hashchange", take_link);
+}
+
+function go_to_place() {
+  element("rules").focus();
+  element("rules").setSelectionRange(page.place.start, page.place.end);
+}
+
+function take_link() {
+  const state = state_of(location.hash);
+  if (!state) return;
+  take_state(state);
+  soon();
 }
 
 async function start() {
@@ -253,12 +336,15 @@ async function start() {
   list_languages(reply.ok ? await reply.json() : []);
   take_state(state_of(location.hash) ?? EXAMPLE);
   const { module, version, verdict } = await page.client.loaded;
-  const about = [`${version}, ${module}.`, `uca check says of Unicode's table: ${verdict.trim()}.`];
-  element("about").textContent = [...about, "The program is proved. The page and its compilation for the browser are tested."].join(" ");
+  element("about").textContent = [
+    `${version}, ${module}. uca check says of Unicode's table: ${verdict.trim()}.`,
+    "The program is proved. The page and its compilation for the browser are tested.",
+  ].join(" ");
   await work();
 }
 
 start().catch((error) => {
-  element("summary").textContent = `The page does not start: ${error.message}. Does page/made have the modules and the tables? page/make.py makes them.`;
+  const advice = "Does page/made have the modules and the tables? page/make.py makes them.";
+  element("summary").textContent = `The page does not start: ${error.message}. ${advice}`;
   document.body.dataset.state = "failed";
 });

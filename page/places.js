@@ -12,12 +12,20 @@ export function place_of_byte(text, byte) {
 
 function place(text, start, end) {
   const before = text.slice(0, start);
-  return { start, end: Math.min(end, text.length), line: before.split("\n").length, column: [...before.slice(before.lastIndexOf("\n") + 1)].length + 1 };
+  const column = [...before.slice(before.lastIndexOf("\n") + 1)].length + 1;
+  return { start, end: Math.min(end, text.length), line: before.split("\n").length, column };
 }
 
 // The next part of rules from an index on: white space or a comment, a reset with its bracket, a sign, a slash, or a
 // piece of a text.
-const PART = /([\t-\r \u0085\u200e\u200f\u2028\u2029]+|#[^\n\f\r\u0085\u2028\u2029]*)|(&(?:\[[^\]]*\])?)|((?:<{1,3}|=)\*?)|(\/)|('(?:''|[^'])+'|''|\\u[0-9A-Fa-f]{4}|\\U[0-9A-Fa-f]{8}|\\[^]|-|[^])/gu;
+const KINDS = [
+  /[\t-\r \u0085\u200e\u200f\u2028\u2029]+|#[^\n\f\r\u0085\u2028\u2029]*/,
+  /&(?:\[[^\]]*\])?/,
+  /(?:<{1,3}|=)\*?/,
+  /\//,
+  /'(?:''|[^'])+'|''|\\u[0-9A-Fa-f]{4}|\\U[0-9A-Fa-f]{8}|\\[^]|-|[^]/,
+];
+const PART = new RegExp(KINDS.map((kind) => `(${kind.source})`).join("|"), "gu");
 
 // The characters of a piece of a starred text.
 function characters(piece) {

@@ -20,8 +20,17 @@ const count_of = (count, name) => `${count.toLocaleString("en")} ${name}${count 
 
 // ---- Lists
 
+// What became of each line of the second order, or undefined where there is none: whether it moved, its places in both
+// orders, and whether it may move.
+export function changes_of(found) {
+  if (!found.after) return undefined;
+  const may_move = new Set(found.may_move);
+  const order = moves(found.before, found.after, may_move);
+  return order.map((it, index) => ({ ...it, index, may_move: may_move.has(it.line) }));
+}
+
 // The mark of a word that moved, or that of a word that may move.
-function mark_of({ moved, index, before }, may_move) {
+function mark_of({ moved, index, before, may_move }) {
   if (!moved) return may_move ? [mark(" ·", ", may move")] : [];
   const [arrow, way, places] = before > index ? ["↑", "up", before - index] : ["↓", "down", index - before];
   return [mark(` ${arrow}${places || ""}`, `, moved ${way}`)];
@@ -29,7 +38,8 @@ function mark_of({ moved, index, before }, may_move) {
 
 // A sign for those who see the page, and words for those who hear it.
 function mark(sign, words) {
-  return made("span", { className: "mark" }, made("span", { ariaHidden: "true" }, sign), made("span", { className: "hidden" }, words));
+  const seen = made("span", { ariaHidden: "true" }, sign);
+  return made("span", { className: "mark" }, seen, made("span", { className: "hidden" }, words));
 }
 
 // Fills a list with words. `marks` returns the mark of the word at an index.
@@ -42,35 +52,37 @@ function fill(list, lines, chosen, choose, marks, is_moved) {
     return made("li", { className: is_moved(i) ? "moved" : "" }, button);
   });
   list.replaceChildren(...items);
-  if (lines.length > MOST_LINES) list.append(made("li", { className: "help" }, `and ${count_of(lines.length - MOST_LINES, "line")} more: save sorted.txt`));
+  if (lines.length <= MOST_LINES) return;
+  const more = count_of(lines.length - MOST_LINES, "line");
+  list.append(made("li", { className: "help" }, `and ${more} more: save sorted.txt`));
 }
 
 const no_marks = () => [];
-const is_false = () => false;
 
-// Shows both orders, and returns how many words moved.
-export function show_orders(found, chosen, choose) {
+// Shows both orders, or the first alone where the rules give none. `changes` is what changes_of() found.
+export function show_orders(found, changes, chosen, choose) {
   const [before, after] = [element("before"), element("after")];
-  if (!found.after) {
-    fill(before, found.before ?? [], chosen, choose, no_marks, is_false);
-    after.replaceChildren();
-    return 0;
-  }
-  const may_move = new Set(found.may_move);
-  const order = moves(found.before, found.after, may_move).map((it, index) => ({ ...it, index }));
-  const moved_before = new Set(order.filter((it) => it.moved).map((it) => it.before));
-  fill(before, found.before, chosen, choose, no_marks, (i) => moved_before.has(i));
-  fill(after, found.after, chosen, choose, (i) => mark_of(order[i], may_move.has(order[i].line)), (i) => order[i].moved);
-  return moved_before.size;
+  const moved = new Set(changes?.filter((it) => it.moved).map((it) => it.before));
+  fill(before, found.before ?? [], chosen, choose, no_marks, (i) => moved.has(i));
+  const mark_at = (i) => mark_of(changes[i]);
+  fill(after, found.after ?? [], chosen, choose, mark_at, (i) => changes[i].moved);
 }
 
-export function summary(found, moved) {
-  if (!found.after) return `${count_of(found.before.length, "word")}, in the order of the table. The rules give no order yet.`;
+export function summary(found, changes) {
+  if (found.input_error) return "A line of the words is rejected.";
+  const words = count_of(found.before.length, "word");
+  if (!changes) return `${words}, in the order of the table. The rules give no order yet.`;
   const number = (count) => (count ? count.toLocaleString("en") : "none");
-  return `${count_of(found.after.length, "word")}: ${number(moved)} moved, and ${number(found.may_move.length)} may move.`;
+  const moved = changes.filter((it) => it.moved).length;
+  return `${words}: ${number(moved)} moved, and ${number(found.may_move.length)} may move.`;
 }
 
 // ---- Keys
+
+export function show_no_key() {
+  element("key-head").textContent = "Its key";
+  element("key").replaceChildren();
+}
 
 export function show_key(word, { before, after }) {
   element("key-head").textContent = word ? `The key of ${word}` : "Its key";
@@ -79,9 +91,11 @@ export function show_key(word, { before, after }) {
     element("key").replaceChildren(made("tbody", {}, made("tr", {}, made("td", {}, error.trim()))));
     return;
   }
-  const head = ["Level", "By the table", ...(after ? ["By your rules"] : [])].map((text) => made("th", { scope: "col" }, text));
+  const columns = ["Level", "By the table", ...(after ? ["By your rules"] : [])];
+  const head = columns.map((text) => made("th", { scope: "col" }, text));
   const rows = before.levels.map((level, i) => {
-    const row = made("tr", {}, made("th", { scope: "row" }, `${level.number}: ${level.name}`), made("td", {}, level.digits || "none"));
+    const name = made("th", { scope: "row" }, `${level.number}: ${level.name}`);
+    const row = made("tr", {}, name, made("td", {}, level.digits || "none"));
     if (!after) return row;
     const digits = after.levels[i].digits;
     row.append(made("td", { className: digits === level.digits ? "" : "new" }, digits || "none"));
@@ -104,8 +118,9 @@ function show_place(text, place) {
   const begin = text.lastIndexOf("\n", place.start - 1) + 1;
   const found = text.indexOf("\n", place.start);
   const end = found < 0 ? text.length : found;
-  const marked = text.slice(place.start, Math.min(place.end, end)) || " ";
-  element("place-line").replaceChildren(text.slice(begin, place.start), made("mark", {}, marked), text.slice(Math.min(place.end, end), end));
+  const mark_end = Math.min(place.end, end);
+  const marked = made("mark", {}, text.slice(place.start, mark_end) || " ");
+  element("place-line").replaceChildren(text.slice(begin, place.start), marked, text.slice(mark_end, end));
 }
 
 // The place of an error in rules, or of a relation, if the message has one.
@@ -120,7 +135,8 @@ const where = (place) => (place ? [`Line ${place.line}, column ${place.column}: 
 export function show_verdict(rules, found) {
   const verdict = element("verdict");
   if (found.accepted) {
-    verdict.replaceChildren(made("span", { className: "good" }, "accepted"), ": the audit says that the new table keeps your rules.");
+    const good = made("span", { className: "good" }, "accepted");
+    verdict.replaceChildren(good, ": the audit says that the new table keeps your rules.");
     show_place(rules, undefined);
     return undefined;
   }
@@ -140,5 +156,6 @@ export function show_words_error(message) {
     return;
   }
   const error = explain(message);
-  shown.replaceChildren(made("p", { className: "bad" }, ...sentences(error), ...(error.line ? [` It is line ${error.line}.`] : [])));
+  const line = error.line ? [` It is line ${error.line}.`] : [];
+  shown.replaceChildren(made("p", { className: "bad" }, ...sentences(error), ...line));
 }

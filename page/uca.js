@@ -85,12 +85,14 @@ export class Uca {
     return room;
   }
 
-  // Runs a command. `files` has the files by their names, at most six: bytes, a text, or a room of put().
+  // Runs a command. `files` has the files by their names, at most six: bytes, a text, or a room of put(). Its status is
+  // 4 where memory runs out. Blocks that are given back stay as large as they were, so then take a new module.
   run(arguments_, files = {}, input = "") {
     // After a trap the memory may be half written.
     if (this.stopped) throw new Error("the module stopped in an earlier command");
     const names = Object.keys(files);
     if (names.length > MOST_FILES) throw new TypeError("a command reads at most six files");
+    const lists = [list(["uca", ...arguments_]), list(names.length ? names : [NO_FILE])];
     this.stopped = true;
     const lent = [];
     const lend = (content) => {
@@ -98,8 +100,7 @@ export class Uca {
       lent.push(this.put(content));
       return lent.at(-1);
     };
-    const contents = names.map((name) => files[name]);
-    const given = [list(["uca", ...arguments_]), list(names.length ? names : [NO_FILE]), ...contents].map(lend);
+    const given = [...lists, ...names.map((name) => files[name])].map(lend);
     while (given.length < MOST_FILES + 2) given.push(this.none);
     const done = this.call([...given, lend(input)]);
     lent.forEach((room) => this.give_back(room));

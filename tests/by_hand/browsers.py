@@ -74,7 +74,7 @@ class Browser:
         self.socket, self.number = WebSocket(address), 0
         if starts_session:
             self.call("session.new", {"capabilities": {}})
-        self.context = self.call("browsingContext.getTree", {})["contexts"][0]["context"]
+        self.open_window()
 
     def call(self, method, params):
         self.number += 1
@@ -85,6 +85,10 @@ class Browser:
                 if reply["type"] == "error":
                     raise RuntimeError(f"{method}: {reply['message']}")
                 return reply["result"]
+
+    def open_window(self):
+        """Goes on in a new window, which has the focus. The first window of Firefox has none, and one where much was done may have lost it."""
+        self.context = self.call("browsingContext.create", {"type": "window"})["context"]
 
     def visit(self, address):
         self.call("browsingContext.navigate", {"context": self.context, "url": address, "wait": "complete"})
@@ -177,8 +181,9 @@ def open_browser(name, folder, is_dark=False):
         return
     profile = f"{folder}/profile"
     os.makedirs(profile, exist_ok=True)
+    settings = {"ui.systemUsesDarkTheme": int(is_dark), "layout.css.prefers-color-scheme.content-override": 1 - is_dark}
     with open(f"{profile}/user.js", "w", encoding="utf-8") as it:
-        it.write(f'user_pref("ui.systemUsesDarkTheme", {int(is_dark)});\nuser_pref("layout.css.prefers-color-scheme.content-override", {0 if is_dark else 1});\n')
+        it.writelines(f'user_pref("{name}", {value});\n' for name, value in settings.items())
     words = ["firefox-esr", "--headless", "--no-remote", "--profile", profile, f"--remote-debugging-port={port}", "about:blank"]
     with started(words, folder):
         wait_for_port(port)

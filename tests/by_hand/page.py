@@ -5,9 +5,10 @@
     tests/by_hand/page.py --browser firefox    in this one alone
     tests/by_hand/page.py --pictures FOLDER    keeps pictures of the page there
 
-`page/make.py` makes what the page needs before. The commands run over real lists and over broken files: status, output, errors and the file that is made
-are compared with those of crates/uca/out/uca. Then a browser types rules, makes an error, drops a file, follows a link, and looks at a narrow window. It needs Debian's
-chromium, chromium-driver and firefox-esr. The last line is `N passed, M failed`.
+`page/make.py modules`, `page/make.py files` and `page/make.py languages sv` make what the page needs before. The commands of page_cases.py run over real lists and over
+broken files: status, output, errors and the file that is made are compared with those of crates/uca/out/uca. Then a browser types rules, makes an error, drops a file and
+follows a link. It goes through the page by the keyboard, and looks at narrow windows and at dark colours. It needs Debian's chromium, chromium-driver and firefox-esr. The
+last line is `N passed, M failed`.
 """
 import argparse
 import contextlib
@@ -16,35 +17,22 @@ import hashlib
 import http.server
 import json
 import os
-import random
 import re
 import subprocess
 import sys
 import tempfile
 import threading
-from typing import NamedTuple
 
 sys.dont_write_bytecode = True
 HERE = os.path.dirname(os.path.realpath(__file__))
 TOP = os.path.dirname(os.path.dirname(HERE))
 sys.path.insert(0, HERE)
 import browsers
-import packages
+import page_cases
 
 NEEDS, WANTS = ["chromium", "chromium-driver", "firefox-esr"], ["unicode-cldr-core"]
 MADE, EXAMPLES = f"{TOP}/page/made", f"{TOP}/examples"
-CLDR = "/usr/share/unicode/cldr/common/main"
-# The browsers that are told that the system is dark.
-DARK = ["firefox"]
-CONTROL, END, ENTER = "\ue009", "\ue010", "\ue007"
-
-
-class Case(NamedTuple):
-    """A command over files, which are named by the paths that have their bytes."""
-
-    words: list
-    files: dict
-    input: str = ""
+TAB, CONTROL, END, ENTER = "\ue004", "\ue009", "\ue010", "\ue007"
 
 
 class Counts:
@@ -59,100 +47,11 @@ class Counts:
         if not holds:
             print(f"failed: {said}", flush=True)
 
-
-# ---- The commands that are compared
-
-
-def names_of_cldr():
-    """Names of countries, languages and scripts in all languages of CLDR, in an order without a meaning."""
-    found = []
-    for name in sorted(os.listdir(CLDR)) if os.path.isdir(CLDR) else []:
-        with open(f"{CLDR}/{name}", encoding="utf-8") as it:
-            found += re.findall(r"<(?:territory|language|script)[^>]*>([^<]+)<", it.read())[:150]
-    random.Random(1).shuffle(found)
-    return "".join(f"{it}\n" for it in found[:20000] if it.strip())
+    def same(self, found, wanted, said):
+        self.see(found == wanted, f"{said}: {found}, in place of {wanted}")
 
 
-def hostile():
-    """Files that are odd or broken, by their names."""
-    mixed = random.Random(2)
-    noise = bytes(mixed.randrange(256) for _ in range(5000))
-    many = "".join(f"{i * 7919 % 300007:x}\n" for i in range(100000))
-    letters = "abcdefghijklmnopqrstuvwxyz"
-    rules = "&z" + "".join(f" < q{letters[i % 26]}{letters[i // 26 % 26]}{letters[i // 676]}" for i in range(5000))
-    return {
-        "empty": b"", "noise": noise, "nul": b"a\0b\n\0\n", "no_end": b"b\na", "bad_utf8": b"a\n\xff\n", "marks": b"a" + "\u0301".encode() * 65 + b"\n",
-        "long": "é".encode() * 500000 + b"\n", "many": many.encode(), "relations": rules.encode(), "too_many": (rules + " < qqqqq").encode(),
-        "nothing": b"# no rules\n", "syntax": "&z < å <<<< Å".encode(), "escape": rb"&z < \ud800", "late": b"&ab < c &a < b", "quote": b"&z < 'a",
-        "crlf": b"b\r\na\r\n", "bom": b"\xef\xbb\xbf&z < a", "planes": "\U0001f600\n\U0010ffff\nǆ\n한글\n中\n".encode(),
-    }
-
-
-def real_cases(table, data):
-    """Commands over Unicode's table and real lists."""
-    files = {"table.txt": table, "data.txt": data}
-    for weighting in ("shifted", "non-ignorable"):
-        for command in (["keys"], ["keys", "--identical"], ["keys", "--lines", "--header"], ["sort"], ["sort", "--identical"], ["fingerprint"]):
-            words = [*command, "--weighting", weighting, *files]
-            yield Case(words, files, "" if command == ["fingerprint"] else "names")
-    yield Case(["check", *files], files)
-    for left, right in (("cote", "côté"), ("a b", "ab"), ("é", "e\u0301"), ("", "a"), ("x\ny", "x")):
-        yield Case(["compare", *files, left, right], files)
-    for language in ("danish", "spanish", "swedish"):
-        rules = {**files, "rules.txt": f"examples/rules_{language}.txt"}
-        yield Case(["tailor", *rules, "certificate.txt"], rules)
-        yield Case(["affected", "data.txt", "rules.txt"], rules, "names")
-
-
-def small_cases():
-    """All other commands, over the files of examples/."""
-    at = lambda name: f"examples/{name}"
-    files = {"table.txt": at("table.txt"), "data.txt": at("data.txt")}
-    rules = {**files, "rules.txt": at("rules.txt")}
-    audit = {**rules, "tailored.txt": at("tailored.txt"), "certificate.txt": at("certificate.txt")}
-    old = {"old.txt": at("table.txt"), "old-data.txt": at("data.txt"), "new.txt": at("editions/table.txt"), "new-data.txt": at("editions/data.txt")}
-    changes = {"changes.txt": at("editions/changes.txt"), "certificate.txt": at("editions/certificate.txt")}
-    yield Case(["audit", *audit], audit)
-    yield Case(["audit", *[*audit][::-1]], audit)
-    yield Case(["tailor", *rules, "rules.txt"], rules)
-    yield Case(["changes", *old, "c.txt"], old)
-    yield Case(["audit-changes", *old, *changes], {**old, **changes})
-    yield Case(["affected", "--changes", "data.txt", "changes.txt"], {"data.txt": at("data.txt"), **changes}, at("lines.txt"))
-    keyed = {"certificate.txt": at("certificate.txt")}
-    yield Case(["rekey", *keyed], keyed, "keys")
-    yield Case(["rekey", "--weighting", "non-ignorable", *keyed], keyed, "noise")
-    for name in ("compact", "expand"):
-        book = {"book.txt": at("books/general.book")}
-        yield Case([name, *book], book, "keys")
-    book = {"certificate.txt": at("certificate.txt"), "book.txt": at("books/general.book")}
-    yield Case(["book", *book], book)
-    with_book = {**files, "book.txt": at("books/general.book")}
-    yield Case(["keys", "--compact", "book.txt", *files], with_book, at("lines.txt"))
-    for words in ([], ["--help"], ["--version"], ["help", "tailor"], ["nonsense"], ["keys", "--weighting", "odd", *files], ["check", "table.txt"], ["check", "no.txt", "data.txt"]):
-        yield Case(words, files if words[:1] in (["keys"], ["check"]) else {})
-
-
-def hostile_cases():
-    files = {"table.txt": "examples/table.txt", "data.txt": "examples/data.txt"}
-    for name in hostile():
-        for command in ("keys", "sort"):
-            yield Case([command, *files], files, name)
-        yield Case(["check", *files], {**files, "table.txt": name})
-        yield Case(["check", *files], {**files, "data.txt": name})
-        rules = {**files, "rules.txt": name}
-        yield Case(["tailor", *rules, "certificate.txt"], rules)
-        yield Case(["affected", "data.txt", "rules.txt"], rules, "examples/lines.txt")
-        audit = {**rules, "tailored.txt": "examples/tailored.txt", "certificate.txt": name}
-        yield Case(["audit", *audit], audit)
-
-
-def all_cases():
-    yield from real_cases("made/table.txt", "made/data.txt")
-    yield from small_cases()
-    yield from hostile_cases()
-
-
-# ---- Both sides
+# ---- Both sides of a command
 
 
 def digest(data):
@@ -174,69 +73,124 @@ def by_program(program, case, folder):
     return [done.returncode, digest(done.stdout), digest(done.stderr), kept]
 
 
+# What a page does for the cases from FROM to TO. The module and the files stay for the next ones.
 IN_BROWSER = """(async () => {
   const { Uca } = await import("/page/uca.js");
   const fetched = async (path) => new Uint8Array(await (await fetch(path)).arrayBuffer());
-  const uca = await Uca.load(await fetched("/made/MODULE"));
+  const kept = globalThis.kept ??= { uca: await Uca.load(await fetched("/made/MODULE")), files: new Map() };
   const sum = async (bytes) => [...new Uint8Array(await crypto.subtle.digest("SHA-256", bytes))].map((it) => it.toString(16).padStart(2, "0")).join("");
-  const read = new Map(), file = async (path) => { if (!read.has(path)) read.set(path, await fetched("/" + path)); return read.get(path); };
+  const file = async (path) => { if (!kept.files.has(path)) kept.files.set(path, await fetched("/" + path)); return kept.files.get(path); };
   const found = [];
-  for (const { words, files, input } of await (await fetch("/cases.json")).json()) {
+  for (const { words, files, input } of (await (await fetch("/cases.json")).json()).slice(FROM, TO)) {
     const given = {};
     for (const [name, path] of Object.entries(files)) given[name] = await file(path);
-    const done = uca.run(words, given, input ? await file(input) : "");
+    const done = kept.uca.run(words, given, input ? await file(input) : "");
     found.push([done.status, await sum(done.out), await sum(done.err), done.kept ? await sum(done.kept) : null]);
   }
   return found;
 })()"""
 
+# Takes all memory of a module, gives some small blocks back, and sorts. Then it has a call stop, and runs another command.
+AT_THE_END = """(async () => {
+  const { Uca } = await import("/page/uca.js");
+  const fetched = async (path) => new Uint8Array(await (await fetch(path)).arrayBuffer());
+  const [module, table, data] = await Promise.all(["/made/MODULE", "/made/table.txt", "/made/data.txt"].map(fetched));
+  const uca = await Uca.load(module);
+  const files = { "table.txt": uca.put(table), "data.txt": uca.put(data) };
+  const small = [4, 30, 30, 60, 120, 240].map((size) => uca.take(size)), taken = [];
+  for (let size = 2 ** 28; size >= 16; size /= 2) {
+    try { while (taken.length < 5000) taken.push(uca.take(size)); } catch (error) { if (!(error instanceof RangeError)) throw error; }
+  }
+  small.forEach((it) => uca.give_back(it));
+  const sort = ["sort", "table.txt", "data.txt"], done = uca.run(sort, files, "b\\na\\n");
+  const other = await Uca.load(module), again = other.run(sort, { "table.txt": table, "data.txt": data }, "b\\na\\n");
+  other.calls = { ...other.calls, uca_run() { throw new Error("stopped"); } };
+  const said = [0, 1].map(() => { try { return other.run(["--version"]).text(); } catch (error) { return error.message; } });
+  return { count: taken.length, status: done.status, out: done.text(), err: done.message(), again: again.text(), said };
+})()"""
 
-def prepared(folder, cases):
-    """Puts what the cases need into the folder that is served."""
+
+BLANK = '<!doctype html><link rel="icon" href="data:,"><title>blank</title>'
+
+
+def prepared(program, folder):
+    """Puts what the cases need into the folder that is served, and returns the cases."""
     for name, at in (("page", f"{TOP}/page"), ("made", MADE), ("examples", EXAMPLES)):
         os.symlink(at, f"{folder}/{name}")
-    for name, data in {**hostile(), "names": names_of_cldr().encode(), "blank.html": b"<!doctype html><title>blank</title>"}.items():
+    texts = {"names": page_cases.names_of_cldr(), "book": page_cases.BOOK, "blank.html": BLANK}
+    for name, data in {**page_cases.hostile(), **{name: text.encode() for name, text in texts.items()}}.items():
         with open(f"{folder}/{name}", "wb") as it:
             it.write(data)
+    files = ["examples/table.txt", "examples/data.txt"]
+    for name, words in page_cases.MADE_BY_PROGRAM.items():
+        with open(f"{EXAMPLES}/lines.txt", "rb") as lines, open(f"{folder}/{name}", "wb") as keys:
+            subprocess.run([program, *words, *files], cwd=folder, stdin=lines, stdout=keys, check=True)
+    fingerprint = subprocess.run([program, "fingerprint", *files], cwd=folder, stdout=subprocess.PIPE, text=True, check=True).stdout.strip()
+    cases = [*page_cases.all_cases(fingerprint)]
     with open(f"{folder}/cases.json", "w", encoding="utf-8") as it:
         json.dump([case._asdict() for case in cases], it)
+    return cases
 
 
-def make_keys(program, folder):
-    """Keys of the example lines, for commands that read keys."""
-    words = [program, "keys", f"{EXAMPLES}/table.txt", f"{EXAMPLES}/data.txt"]
-    with open(f"{EXAMPLES}/lines.txt", "rb") as lines, open(f"{folder}/keys", "wb") as keys:
-        subprocess.run(words, stdin=lines, stdout=keys, check=True)
+class Server(http.server.ThreadingHTTPServer):
+    """The files of a folder, as `python3 -m http.server` serves them. `asked` has the path of each request."""
+
+    def __init__(self, folder):
+        super().__init__(("127.0.0.1", 0), functools.partial(Handler, directory=folder))
+        self.asked, self.address = [], f"http://127.0.0.1:{self.server_address[1]}"
+
+    def handle_error(self, *_):
+        """A browser may end a connection before it has read all."""
 
 
-class Quiet(http.server.SimpleHTTPRequestHandler):
+class Handler(http.server.SimpleHTTPRequestHandler):
     def log_message(self, *_):
         pass
+
+    def do_GET(self):
+        self.server.asked.append(self.path)
+        super().do_GET()
 
 
 @contextlib.contextmanager
 def served(folder):
-    """The folder by HTTP, as `python3 -m http.server` serves it."""
-    server = http.server.ThreadingHTTPServer(("127.0.0.1", 0), functools.partial(Quiet, directory=folder))
+    server = Server(folder)
     threading.Thread(target=server.serve_forever, daemon=True).start()
     try:
-        yield f"http://127.0.0.1:{server.server_address[1]}"
+        yield server
     finally:
         server.shutdown()
 
 
+AT_ONCE = 20
+
+
 def compare(browser, address, cases, wanted, counts, module):
+    """Runs the commands by a module, some of them at once, and compares."""
     browser.visit(f"{address}/blank.html")
-    found = browser.evaluate(IN_BROWSER.replace("MODULE", module))
-    for case, native, here in zip(cases, wanted, found, strict=True):
-        counts.see(native == here, f"{module}: {case}: the program {native}, the page {here}")
+    for begin in range(0, len(cases), AT_ONCE):
+        end = min(begin + AT_ONCE, len(cases))
+        script = IN_BROWSER.replace("MODULE", module).replace("FROM", str(begin)).replace("TO", str(end))
+        for case, native, here in zip(cases[begin:end], wanted[begin:end], browser.evaluate(script), strict=True):
+            counts.see(native == here, f"{module}: {case}: the program {native}, the page {here}")
+
+
+def see_the_end(browser, address, counts, module):
+    """Where memory runs out, the status is 4 and there is no output; and a module that stopped is not called again."""
+    browser.visit(f"{address}/blank.html")
+    found = browser.evaluate(AT_THE_END.replace("MODULE", module))
+    counts.see(found["count"] < 5000, f"{module}: memory has no end")
+    counts.same((found["status"], found["out"]), (4, ""), f"{module}: status and output out of memory ({found['err']})")
+    counts.same(found["again"], "a\nb\n", f"{module}: the order by a new module")
+    counts.same(found["said"], ["stopped", "the module stopped in an earlier command"], f"{module}: after a call that stopped")
 
 
 # ---- The page as a person uses it
 
 
 def ready(browser, address):
-    browser.visit("about:blank")
+    # another page comes before, so that what follows `#` is read again
+    browser.visit(f"{address.partition('/page/')[0]}/blank.html")
     browser.visit(address)
     browser.wait("document.body.dataset.state === 'ready' || document.body.dataset.state === 'failed'")
 
@@ -256,8 +210,13 @@ def order(browser, name):
     return browser.evaluate(script)
 
 
-def write(browser, name, content):
-    browser.evaluate(f"(() => {{ const it = document.getElementById('{name}'); it.value = {json.dumps(content)}; it.dispatchEvent(new Event('input', {{ bubbles: true }})); }})()")
+def click(browser, name):
+    browser.evaluate(f"document.getElementById('{name}').click()")
+
+
+def write(browser, name, content, event="input"):
+    script = f"const it = document.getElementById('{name}'); it.value = {json.dumps(content)}; it.dispatchEvent(new Event('{event}', {{ bubbles: true }}))"
+    browser.evaluate(f"(() => {{ {script}; }})()")
     settled(browser)
 
 
@@ -271,65 +230,131 @@ def type_rules(browser, counts):
     browser.press("ö")
     settled(browser)
     counts.see(text(browser, "verdict").startswith("accepted"), f"the verdict: {text(browser, 'verdict')}")
-    counts.see(order(browser, "before") == ["ol", "öl", "z", "zebra"], f"the order of the table: {order(browser, 'before')}")
-    counts.see(order(browser, "after") == ["ol", "z", "zebra", "öl"], f"the order of the rules: {order(browser, 'after')}")
+    counts.same(order(browser, "before"), ["ol", "öl", "z", "zebra"], "the order of the table")
+    counts.same(order(browser, "after"), ["ol", "z", "zebra", "öl"], "the order of the rules")
     moved = browser.evaluate("[...document.querySelectorAll('#after .moved button')].map((it) => it.firstChild.data)")
-    counts.see(moved == ["öl"], f"what moved: {moved}")
+    counts.same(moved, ["öl"], "what moved")
+    counts.same(text(browser, "summary"), "4 words: 1 moved, and 1 may move.", "the summary")
     browser.press(" ", "<", "<", "<", "<")
     settled(browser)
     counts.see("Syntax" in text(browser, "verdict") and text(browser, "place-line").startswith("&z < ö"), f"an error: {text(browser, 'verdict')}")
-    browser.evaluate("document.getElementById('go').click()")
+    click(browser, "go")
     place = browser.evaluate("[document.activeElement.id, document.getElementById('rules').selectionStart]")
-    counts.see(place == ["rules", 7], f"the place of the error: {place}")
+    counts.same(place, ["rules", 7], "the place of the error")
+    write(browser, "rules", "&z < 'ö\n")
+    counts.see("Line 1, column 6" in text(browser, "verdict"), f"a quote without an end: {text(browser, 'verdict')}")
+    write(browser, "rules", "&a < b\n&z < ab < ö <<< ö\n")
+    counts.see("DuplicateTarget" in text(browser, "verdict") and "Line 2, column 17" in text(browser, "verdict"), f"a target twice: {text(browser, 'verdict')}")
 
 
 def see_keys(browser, counts):
-    """Goes to a word by the keyboard, and reads its key."""
+    """Goes to a word by the keyboard, and reads its key. The weights are those of Unicode 15.0.0."""
     write(browser, "rules", "&z < ö")
     browser.evaluate("document.querySelectorAll('#before button')[1].focus()")
     browser.press(ENTER)
     browser.wait("document.getElementById('key-head').textContent === 'The key of öl'")
-    rows = browser.evaluate("[...document.querySelectorAll('#key tr')].map((it) => [...it.children].map((cell) => cell.textContent))")
-    heads = ["Level", "1: letters", "2: accents", "3: case", "4: spaces and punctuation"]
-    counts.see([it[0] for it in rows] == heads, f"levels: {rows}")
-    counts.see(rows[1][1] != rows[1][2] and rows[3][1] == rows[3][2] or len(rows[1]) == 3, f"digits: {rows}")
+    head, letters, *others = browser.evaluate("[...document.querySelectorAll('#key tr')].map((it) => [...it.children].map((cell) => cell.textContent))")
+    counts.same(head, ["Level", "By the table", "By your rules"], "the head of the key")
+    counts.same(letters[:2], ["1: letters", "225E 21EF"], "the first level")
+    first, *rest = letters[2].split()
+    counts.see(first > "23B3" and rest == ["21EF"], f"the first level by the rules: {letters}")
+    wanted = [["2: accents", "0020 002B 0020", "0020 0020"], ["3: case", "0002 0002 0002", "0002 0002"], ["4: spaces and punctuation", "FFFF FFFF FFFF", "FFFF FFFF"]]
+    counts.same(others, wanted, "the other levels")
+    write(browser, "weighting", "non-ignorable")
+    click(browser, "identical")
+    settled(browser)
+    names = browser.evaluate("[...document.querySelectorAll('#key th[scope=row]')].map((it) => it.textContent)")
+    counts.same(names, ["1: letters", "2: accents", "3: case", "4: code points"], "the levels with code points")
+    points = browser.evaluate("[...document.querySelectorAll('#key tr')].at(-1).children[1].textContent")
+    counts.same(points, "00006F 000308 00006C", "the code points")
+    click(browser, "identical")
+    write(browser, "weighting", "")
 
 
 DROP = """(() => {
   const part = document.getElementById("PART"), moved = new DataTransfer();
-  moved.items.add(new File([Uint8Array.from(BYTES)], "NAME"));
+  moved.items.add(new File([CONTENT], NAME));
   part.dispatchEvent(new DragEvent("drop", { dataTransfer: moved, bubbles: true, cancelable: true }));
 })()"""
 
 
 def drop(browser, part, name, data):
-    browser.evaluate(DROP.replace("PART", part).replace("NAME", name).replace("BYTES", str([*data])))
+    drop_by(browser, part, name, f"Uint8Array.from({[*data]})")
+
+
+def drop_by(browser, part, name, content):
+    """Drops a file that has what an expression of JavaScript gives."""
+    browser.evaluate(DROP.replace("PART", part).replace("NAME", json.dumps(name)).replace("CONTENT", content))
     settled(browser)
 
 
 def drop_files(browser, counts):
-    """Drops a file of rules and two of words, one of them no UTF-8."""
+    """Drops a file of rules and some of words, one of them no UTF-8."""
     drop(browser, "rules-part", "my.rules", "&a < z".encode())
     drop(browser, "words-part", "my.txt", "b\nz\na\n".encode())
-    counts.see(order(browser, "after") == ["a", "z", "b"], f"after a drop: {order(browser, 'after')}")
-    drop(browser, "words-part", "odd.txt", b"a\xff\n")
-    counts.see("odd.txt is not UTF-8" in text(browser, "words-error") and order(browser, "after") == ["a", "z", "b"], f"no UTF-8: {text(browser, 'words-error')}")
+    counts.same(order(browser, "after"), ["a", "z", "b"], "after a drop")
+    drop(browser, "words-part", "<b>odd</b>.txt", b"a\xff\n")
+    counts.see("<b>odd</b>.txt is not UTF-8" in text(browser, "words-error"), f"no UTF-8: {text(browser, 'words-error')}")
+    counts.same(order(browser, "after"), ["a", "z", "b"], "after a file that is no UTF-8")
     drop(browser, "words-part", "marks.txt", ("b\na" + "\u0301" * 65 + "\n").encode())
     counts.see("LongRun" in text(browser, "words-error") and "line 2" in text(browser, "words-error"), text(browser, "words-error"))
+    counts.same((order(browser, "before"), order(browser, "after")), ([], []), "the orders of rejected words")
+    write(browser, "rules", "&a < ")
+    counts.see("EmptyText" in text(browser, "verdict"), f"rules beside words that are rejected: {text(browser, 'verdict')}")
+    for content, said in (("'a\\n'.repeat(100001)", "has more than 100,000 lines"), ("'a'.repeat(20000001)", "has more than 20,000,000 bytes")):
+        drop_by(browser, "words-part", "large.txt", content)
+        counts.see(f"large.txt {said}" in text(browser, "words-error"), f"a large file: {text(browser, 'words-error')}")
+
+
+def see_odd_words(browser, counts):
+    """Words that look like HTML, that run from right to left, that are empty, or that are many."""
+    odd = "<img src=x onerror=alert(1)>"
+    write(browser, "words", f"{odd}\n\nשלום\n")
+    write(browser, "rules", f"&z < {odd}")
+    # an empty key comes first, and Latin letters come before Hebrew ones
+    counts.same(order(browser, "before"), ["", odd, "שלום"], "odd words")
+    counts.same(browser.evaluate("document.querySelectorAll('main img').length"), 0, "elements of words")
+    counts.see(odd in text(browser, "place-line"), f"rules like HTML: {text(browser, 'place-line')}")
+    write(browser, "rules", "&z < ö")
+    write(browser, "words", "".join(f"w{i:04}\n" for i in range(600)))
+    shown = browser.evaluate("[...document.querySelectorAll('#after li')].map((it) => it.textContent)")
+    counts.same((len(shown), shown[499], shown[500]), (501, "w0499", "and 100 lines more: save sorted.txt"), "a long list")
+
+
+def choose_language(browser, counts):
+    """Loads the rules of a language, and then its table."""
+    write(browser, "words", "ö\nz\n")
+    write(browser, "language", "sv", "change")
+    click(browser, "load-rules")
+    browser.wait("document.getElementById('rules').value.includes('ö')")
+    settled(browser)
+    counts.see(text(browser, "verdict").startswith("accepted"), f"the rules of Swedish: {text(browser, 'verdict')}")
+    counts.same((order(browser, "before"), order(browser, "after")), (["ö", "z"], ["z", "ö"]), "the orders by the rules of Swedish")
+    counts.same(browser.evaluate("document.getElementById('weighting').value"), "non-ignorable", "the weighting of a language")
+    click(browser, "use-table")
+    settled(browser)
+    counts.same(order(browser, "before"), ["z", "ö"], "the order by the table of Swedish")
+    write(browser, "table", "made/table.txt", "change")
+    write(browser, "weighting", "")
 
 
 def follow_link(browser, address, counts):
-    """Makes a link, opens it, and finds the same rules and words."""
-    write(browser, "rules", "# ü & ü\n&u << 'ü+'\n")
-    write(browser, "words", "ü+\nuv\n100 % & #\n")
-    browser.evaluate("document.getElementById('identical').click()")
-    browser.evaluate("document.getElementById('copy').click()")
+    """Makes a link, opens it, and finds the same rules and words. A link that is odd opens too."""
+    rules, words = "# ü & ü\n&u << 'ü+'\n", "ü+\nuv\n100 % & #\n"
+    write(browser, "rules", rules)
+    write(browser, "words", words)
+    click(browser, "identical")
+    click(browser, "copy")
     link = browser.wait("location.hash.length > 1 && location.href")
+    settled(browser)
     before = order(browser, "after")
     ready(browser, link)
     state = browser.evaluate("['rules', 'words'].map((id) => document.getElementById(id).value).concat(document.getElementById('identical').checked)")
-    counts.see(state == ["# ü & ü\n&u << 'ü+'\n", "ü+\nuv\n100 % & #\n", True], f"the link: {state}")
-    counts.see(order(browser, "after") == before, f"the order by the link: {order(browser, 'after')}")
+    counts.same(state, [rules, words, True], "the link")
+    counts.same(order(browser, "after"), before, "the order by the link")
+    ready(browser, f"{address}/page/#rules=%26z+%3C+o&words=z%0Ao&table=https%3A%2F%2Fexample.org%2Ftable&weighting=odd&upper=1")
+    counts.same(order(browser, "after"), ["z", "o"], "the order by an odd link")
+    counts.see("a table that is not here" in text(browser, "saved"), f"a table of a link: {text(browser, 'saved')}")
 
 
 def saved(browser, name):
@@ -356,59 +381,126 @@ def save_files(browser, program, counts):
             os.symlink(f"{MADE}/{name}", f"{folder}/{name}")
         words = [program, "audit", "table.txt", "data.txt", "rules.txt", "tailored.txt", "certificate.txt"]
         said = subprocess.run(words, cwd=folder, capture_output=True, text=True, check=False).stdout
-        counts.see(said == "accepted\n", f"the audit of what was saved: {said}")
+        counts.same(said, "accepted\n", "the audit of what was saved")
         sort = text(browser, "commands").splitlines()[-1].split(" > ")[0].replace("uca", program, 1)
         said = subprocess.run(sort, shell=True, cwd=folder, capture_output=True, check=False).stdout
         with open(f"{folder}/sorted.txt", "rb") as it:
-            counts.see(it.read() == said, f"the order that was saved: {said}")
+            counts.same(it.read(), said, "the order that was saved")
+        counts.same(said, "ar\nzoo\når\nÅr\n".encode(), "the order by the program")
+
+
+FOCUSED = """(() => {
+  const it = document.activeElement, shown = it.classList.contains("file") ? it.parentElement.querySelector(".button") : it;
+  const name = it.id || it.closest("ol")?.id || it.dataset.save || it.className || it.tagName;
+  return [name, it === document.body || getComputedStyle(shown).outlineStyle !== "none"];
+})()"""
+BY_TAB = ["skip", "rules", "rules-file", "language", "table", "weighting", "identical", "words", "words-file", "before", "after", "copy", "rules.txt", "table-link"]
+
+
+def use_keyboard(browser, address, counts):
+    """Follows the first link by Enter, to the orders. Then Tab alone goes through the page: what can be used is reached in its order, and the place is seen."""
+    browser.open_window()
+    ready(browser, f"{address}/page/")
+    browser.press(TAB)
+    found = browser.evaluate("[document.hasFocus(), document.activeElement.className, document.activeElement.getBoundingClientRect().left]")
+    counts.same(found, [True, "skip", 8], "focus, and the first link in the window")
+    browser.press(ENTER)
+    counts.same(browser.wait("document.activeElement.id"), "orders", "where the first link goes")
+    browser.press(TAB)
+    counts.same(browser.evaluate(FOCUSED)[0], "before", "what comes after the first link")
+    ready(browser, f"{address}/page/")
+    reached, unseen = [], []
+    for _ in range(100):
+        browser.press(TAB)
+        name, is_seen = browser.evaluate(FOCUSED)
+        if name == "BODY" or name == "HTML" or (name == "skip" and reached):
+            break
+        reached += [name] * (name not in reached[-1:])
+        unseen += [name] * (not is_seen)
+    counts.same([it for it in reached if it in BY_TAB], BY_TAB, f"what Tab reaches ({reached})")
+    counts.same(unseen, [], "places that are not seen")
 
 
 def see_layout(browser, counts):
     """Looks at a narrow window, and whether each field has a name."""
-    browser.resize(360, 740)
-    wide = browser.evaluate("document.documentElement.scrollWidth - innerWidth")
-    counts.see(wide <= 0, f"a narrow window scrolls sideways by {wide}")
+    for width in (320, 360, 800):
+        browser.resize(width, 740)
+        wide = browser.evaluate("document.documentElement.scrollWidth - innerWidth")
+        counts.see(wide <= 0, f"a window of {width} columns scrolls sideways by {wide}")
     unnamed = browser.evaluate("[...document.querySelectorAll('textarea, select, input')].filter((it) => !it.labels.length).map((it) => it.id)")
-    counts.see(unnamed == [], f"fields without a label: {unnamed}")
+    counts.same(unnamed, [], "fields without a label")
     browser.resize(1180, 1000)
 
 
-def see_colours(browser, is_dark, counts):
-    """Whether the page is dark just where the system is."""
+# The least contrast of text and its background that WCAG 2 (1.4.3) asks for, and how it counts it.
+LEAST_CONTRAST = 4.5
+CONTRASTS = """(() => {
+  const numbers = (colour) => colour.match(/[\\d.]+/g).map(Number);
+  const part = (it) => (it / 255 <= 0.04045 ? it / 255 / 12.92 : ((it / 255 + 0.055) / 1.055) ** 2.4);
+  const light = ([r, g, b]) => 0.2126 * part(r) + 0.7152 * part(g) + 0.0722 * part(b);
+  const paper = (it) => { const found = numbers(getComputedStyle(it).backgroundColor); return found[3] === 0 && it.parentElement ? paper(it.parentElement) : found; };
+  const contrast = (it) => { const [a, b] = [light(numbers(getComputedStyle(it).color)), light(paper(it))]; return (Math.max(a, b) + 0.05) / (Math.min(a, b) + 0.05); };
+  const shown = [...document.querySelectorAll("body *")].filter((it) => it.checkVisibility() && !it.disabled && it.tagName !== "OPTION" && [...it.childNodes].some((part) => part.nodeType === 3 && part.data.trim()));
+  return shown.map((it) => [it.tagName + "." + it.className, contrast(it)]);
+})()"""
+
+
+def see_colours(browser, address, is_dark, counts):
+    """Whether the page is dark just where the system is, and whether all of its text can be read, errors too."""
+    ready(browser, f"{address}/page/#rules=%26z+%3C+%C3%B6+%3C%3C%3C%3C&words=%C3%B6")
     found = browser.evaluate("getComputedStyle(document.body).backgroundColor.match(/\\d+/g).map(Number)")
     counts.see((sum(found) < 3 * 64) == is_dark, f"the background, where dark is {is_dark}: {found}")
+    pale = {name: ratio for name, ratio in browser.evaluate(CONTRASTS) if ratio < LEAST_CONTRAST}
+    write(browser, "rules", "&z < ö")
+    write(browser, "words", "ö\nz\n")
+    pale |= {name: ratio for name, ratio in browser.evaluate(CONTRASTS) if ratio < LEAST_CONTRAST}
+    counts.same(pale, {}, f"text that is hard to read, where dark is {is_dark}")
 
 
-def see_requests(browser, address, counts):
-    """What the page asked for: nothing but its own files."""
-    asked = browser.evaluate("performance.getEntriesByType('resource').map((it) => it.name)")
-    counts.see(all(it.startswith(address) or it.startswith("data:") for it in asked), f"requests: {asked}")
+def see_requests(server, since, counts):
+    """What the page asked for: nothing but its own files, and nothing of what was written."""
+    asked = {it for it in server.asked[since:] if it != "/blank.html"}
+    strange = sorted(it for it in asked if not re.fullmatch(r"/page/([\w./-]*)(\?module=[\w.]+)?", it))
+    counts.same(strange, [], "requests")
 
 
-def as_a_person(browser, address, program, is_dark, counts):
+def see_other_module(browser, address, counts):
+    """The page by the other module, and by none."""
+    ready(browser, f"{address}/page/?module=uca32.wasm")
+    counts.see("uca32.wasm" in text(browser, "about") and text(browser, "verdict").startswith("accepted"), f"by uca32.wasm: {text(browser, 'about')}")
+    ready(browser, f"{address}/page/?module=none.wasm")
+    counts.see("The page does not start" in text(browser, "summary") and "none.wasm: 404" in text(browser, "summary"), f"by no module: {text(browser, 'summary')}")
+
+
+def as_a_person(browser, server, program, counts):
+    since, address = len(server.asked), server.address
     ready(browser, f"{address}/page/")
     counts.see(text(browser, "verdict").startswith("accepted"), f"at the start: {text(browser, 'summary')} {text(browser, 'verdict')}")
-    counts.see("well-formed" in text(browser, "about"), text(browser, "about"))
+    counts.see("uca.wasm. uca check says of Unicode's table: well-formed" in text(browser, "about"), text(browser, "about"))
     type_rules(browser, counts)
     see_keys(browser, counts)
     drop_files(browser, counts)
+    see_odd_words(browser, counts)
+    choose_language(browser, counts)
     save_files(browser, program, counts)
     follow_link(browser, address, counts)
+    use_keyboard(browser, address, counts)
     see_layout(browser, counts)
-    see_colours(browser, is_dark, counts)
-    see_requests(browser, address, counts)
+    see_other_module(browser, address, counts)
+    see_requests(server, since, counts)
 
 
 def pictures(browser, name, address, folder):
-    """Keeps a picture of the page as it begins, and one with an error."""
+    """Keeps a picture of the page as it begins, one with an error, and one in a narrow window."""
     os.makedirs(folder, exist_ok=True)
-    browser.resize(1180, 1000)
+    browser.resize(1180, 900)
     ready(browser, f"{address}/page/")
     browser.picture(f"{folder}/{name}.png")
     write(browser, "rules", "# Swedish\n&z < å <<< Å < ä <<<< Ä\n")
     browser.picture(f"{folder}/{name}_error.png")
     browser.resize(400, 900)
     browser.picture(f"{folder}/{name}_narrow.png")
+    browser.resize(1180, 900)
 
 
 # ---- All
@@ -426,23 +518,29 @@ def messages_have_sentences(counts):
         counts.see(re.search(rf"(?m)^  {kind}: ", sentences), f"page/messages.js has no sentence for {kind}")
 
 
+def try_browser(name, folder, server, cases, wanted, options, counts):
+    """Does all in one browser, once where the system is light; and looks at the colours where it is dark too."""
+    for is_dark in (False, True):
+        with browsers.open_browser(name, f"{folder}/.{name}{is_dark}", is_dark) as browser:
+            if not is_dark:
+                for module in ("uca.wasm", "uca32.wasm"):
+                    compare(browser, server.address, cases, wanted, counts, module)
+                    see_the_end(browser, server.address, counts, module)
+                as_a_person(browser, server, options.uca, counts)
+            see_colours(browser, server.address, is_dark, counts)
+            if options.pictures:
+                pictures(browser, f"{name}{'_dark' * is_dark}", server.address, options.pictures)
+
+
 def main(options):
-    counts, cases = Counts(), [*all_cases()]
+    counts = Counts()
     messages_have_sentences(counts)
-    with tempfile.TemporaryDirectory(ignore_cleanup_errors=True) as folder, served(folder) as address:
-        prepared(folder, cases)
-        make_keys(options.uca, folder)
+    with tempfile.TemporaryDirectory(ignore_cleanup_errors=True) as folder, served(folder) as server:
+        cases = prepared(options.uca, folder)
         wanted = [by_program(options.uca, case, folder) for case in cases]
-        modules = [it for it in ("uca.wasm", "uca32.wasm") if os.path.exists(f"{MADE}/{it}")]
         for name in options.browser or ["chromium", "firefox"]:
-            is_dark = name in DARK
-            with browsers.open_browser(name, f"{folder}/.{name}", is_dark) as browser:
-                for module in modules:
-                    compare(browser, address, cases, wanted, counts, module)
-                as_a_person(browser, address, options.uca, is_dark, counts)
-                if options.pictures:
-                    pictures(browser, name, address, options.pictures)
-            print(f"{name}: {len(cases)} commands by {' and '.join(modules)}, and the page", flush=True)
+            try_browser(name, folder, server, cases, wanted, options, counts)
+            print(f"{name}: {len(cases)} commands by each module, and the page", flush=True)
     print(f"{counts.passed} passed, {counts.failed} failed")
     return 1 if counts.failed else 0
 
@@ -453,8 +551,9 @@ if __name__ == "__main__":
     parser.add_argument("--browser", action="append", choices=["chromium", "firefox"], help="this browser alone")
     parser.add_argument("--pictures", metavar="FOLDER", help="keeps pictures there")
     given = parser.parse_args()
-    if not os.path.exists(f"{MADE}/uca.wasm") or not os.access(given.uca, os.X_OK):
-        print("there are no modules or no program: make them by tools/build.py and page/make.py\n0 passed, 1 failed")
+    lacking = [it for it in ("uca.wasm", "uca32.wasm", "table.txt", "data.txt", "languages/sv.rules", "languages/sv.txt") if not os.path.exists(f"{MADE}/{it}")]
+    if lacking or not os.access(given.uca, os.X_OK):
+        print(f"page/made lacks {', '.join(lacking) or 'nothing'}, or there is no program: tools/build.py and page/make.py make them\n0 passed, 1 failed")
         sys.exit(1)
     given.uca = os.path.abspath(given.uca)
     sys.exit(main(given))

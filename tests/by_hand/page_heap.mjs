@@ -55,7 +55,20 @@ for (let i = 0; i < 20000; i++) {
     live.set(moved, [size, mark]);
   }
 }
-see(calls.allocate(1n << 60n) === 0n, "a block that is too large");
 see(calls.memory.buffer.byteLength < 8 << 20, `memory: ${calls.memory.buffer.byteLength} bytes`);
+
+// Where memory ends there are no more blocks, and those before keep their bytes.
+const LARGE = 1 << 27, large = [];
+const ends = (place) => [place, place + LARGE - 8];
+see(calls.allocate(1n << 60n) === 0n && calls.allocate(1n << 38n) === 0n, "blocks that are too large");
+while (large.length < 1000) {
+  const place = Number(calls.allocate(BigInt(LARGE)));
+  if (place === 0) break;
+  ends(place).forEach((end) => bytes(end, 8).fill(large.length % 250 + 1));
+  large.push(place);
+}
+see(large.length > 0 && large.length < 1000, `large blocks: ${large.length}`);
+large.forEach((place, i) => see(ends(place).every((end) => is_kept(end, 8, i % 250 + 1)), `the large block at ${place}`));
+live.forEach(([length, kept], place) => see(is_kept(place, length, kept), `the block at ${place}, at the end of memory`));
 console.log(`${passed} passed, ${failed} failed`);
 process.exit(failed ? 1 : 0);
