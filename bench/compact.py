@@ -3,6 +3,7 @@
 
     tools/build.py && bench/compact.py [--runs N]
     bench/compact.py TABLE DATA LINES ..       a table, a data file, and files of lines
+    bench/compact.py --instructions            the instructions of runs, counted by valgrind, in place of times
 
 With no arguments the table, the data file and the lines are those of key_bytes.py. The book is examples/books/general.book. Keys are as `keys --lines`
 prints them. MB of key bytes are half of the digits of the whole keys: the tab and the line are not counted, though they are read and written. Times are processor
@@ -10,8 +11,12 @@ time, user and system, the least of the runs, without the start: the same comman
 
 Where the program has no option `--compact` of `uca keys`, this is left out, and a line says so. It needs what key_bytes.py needs, but no ICU4C. Run it where
 nothing else runs, and compare figures of one output alone.
+
+With --instructions it counts over the first 20,000 lines of the latin file, or of each file that is given: `keys`, `keys --compact`, and `compact` and `expand` of
+what `keys --lines` prints, all with the start. Other work on the machine does not matter then. It needs Debian's valgrind.
 """
 import argparse
+import itertools
 import os
 import subprocess
 import sys
@@ -21,9 +26,11 @@ TOP = os.path.dirname(os.path.dirname(os.path.realpath(__file__)))
 sys.path.insert(0, f"{TOP}/bench")
 sys.dont_write_bytecode = True
 
+import bound  # noqa: E402
 import key_bytes  # noqa: E402
 
 BOOK = f"{key_bytes.BOOKS}/general.book"
+COUNTED = 20_000
 
 
 class Runs:
@@ -90,6 +97,34 @@ def beside_keys(runs, words, lines, compact, out, making):
     return f"{runs.seconds(words, lines) / making:.2f}"
 
 
+def count(program, weighting, table, data, lines, work):
+    """A row of the table of instructions: the first lines of a file under a weighting."""
+    few, keys, compact, again = (f"{work}/{it}" for it in ("few", "keys", "compact", "again"))
+    with open(lines, "rb") as source, open(few, "wb") as out:
+        out.writelines(itertools.islice(source, COUNTED))
+
+    def taken(given, out, *words):
+        return bound.instructions(program, [*words, "--weighting", weighting], given, out, work)
+
+    plain, direct = taken(few, again, "keys", table, data), taken(few, again, "keys", "--compact", BOOK, table, data)
+    Runs(program, 1).printed(["keys", "--lines", "--weighting", weighting, table, data], few, keys)
+    there, back = taken(keys, compact, "compact", BOOK), taken(compact, again, "expand", BOOK)
+    if not same(keys, again):
+        sys.exit(f"{lines}: the keys of the compact keys are others")
+    size = digits(keys) / 2
+    print(f"| {os.path.basename(lines)} | {weighting} | {plain / 1e6:.1f} | {direct / 1e6:.1f} | {direct / plain:.2f} "
+          f"| {there / 1e6:.1f} | {there / size:.1f} | {back / 1e6:.1f} | {back / size:.1f} |", flush=True)
+
+
+def count_all(program, table, data, files, work):
+    print("Millions of instructions, and those for each byte of the whole keys")
+    print("| Lines | Weighting | `keys` | `keys --compact` | Ratio | `compact` | a byte | `expand` | a byte |")
+    print("|---|---|--:|--:|--:|--:|--:|--:|--:|")
+    for weighting in key_bytes.WEIGHTINGS:
+        for path in files:
+            count(program, weighting, table, data, path, work)
+
+
 def has_option(program):
     said = subprocess.run([program, "keys", "--help"], check=True, stdout=subprocess.PIPE).stdout
     return b"--compact" in said
@@ -100,6 +135,7 @@ def main():
     parser.add_argument("files", nargs="*", metavar="FILE", help="a table, a data file, and files of lines")
     parser.add_argument("--uca", default=key_bytes.PROGRAM, help="the program")
     parser.add_argument("--runs", type=int, default=9, help="how often each is run")
+    parser.add_argument("--instructions", action="store_true", help="count instructions in place of times")
     given = parser.parse_args()
     if len(given.files) in (1, 2):
         parser.error("name a table, a data file, and at least one file of lines")
@@ -108,6 +144,9 @@ def main():
         print("keys --compact is left out: this program has no such option")
     with tempfile.TemporaryDirectory(prefix="uca-compact-") as work:
         table, data, files = (given.files[0], given.files[1], given.files[2:]) if given.files else key_bytes.given_files(work)
+        if given.instructions:
+            count_all(given.uca, table, data, files if given.files else files[:1], work)
+            return
         print("| Lines | Weighting | Keys, MB | `keys`, s | `compact`, MB a second | `expand`, MB a second | `keys --compact` / `keys` |")
         print("|---|---|--:|--:|--:|--:|--:|")
         for weighting in key_bytes.WEIGHTINGS:

@@ -1,8 +1,9 @@
 -- Steps of writing the bytes of stored keys.
-use Rattle.std.proofs.Common.{◌≡◌, ℕ, suc, ◌+◌, ◌/◌, ◌%◌, ◌<◌, ◌≤◌, List, [], ◌∷◌, ◌++◌, Bool, true, false, cond, Option, Some, None, option_map, nat_eq, length, get_or, drop, drop-cons, refl, ap, sym, ◌∙◌, arith, append_assoc, append-nil, IsUtf8}
+use Rattle.std.proofs.Common.{◌≡◌, ℕ, ◌-◌, ◌≤◌, List, [], ◌∷◌, ◌++◌, Bool, true, false, cond, Option, Some, None, option_map, nat_eq, length, take, replicate, refl, ap, sym, ◌∙◌, arith, append_assoc, append-nil, IsUtf8}
 use Rattle.std.specs.Str.{chars, is_utf8}
 use Rattle.std.proofs.lemmas.Bool.Decides.{nat_tests}
-use Rattle.std.proofs.lemmas.List.{drop_all, flat_map_more}
+use Rattle.std.proofs.Math.Seq.{take-append_seam}
+use Rattle.std.proofs.lemmas.List.{flat_map_more, take_all}
 use Rattle.std.proofs.lemmas.Str.{IsUtf8-from_is_utf8, is_utf8-from_IsUtf8}
 use Rattle.uca_weights.specs.declared.Depth.{Depth}
 use Rattle.uca_weights.specs.declared.Depth.TheVariants.{Weights, Identical}
@@ -12,23 +13,14 @@ use Rattle.uca_compact.specs.inside.LevelSteps.{key_end}
 
 -- ---- Weights
 
--- one more weight is written
-pub weight_written : (key one two ws all : List ℕ) (i : ℕ) → i < length ws → one ≡ key ++ get_or ws i 0 / 256 ∷ [] → two ≡ one ++ get_or ws i 0 % 256 ∷ []
-    → key ++ level_bytes (drop i ws) ≡ all → two ++ level_bytes (drop (i + 1) ws) ≡ all
-weight_written key one two ws all i within high low h =
-    let next : suc i ≡ i + 1 = omega arith in
-    let more = level_bytes (drop (i + 1) ws) in
-    let cons : drop i ws ≡ get_or ws i 0 ∷ drop (i + 1) ws = drop-cons ws i 0 within ∙ ap (λ (n : ℕ). get_or ws i 0 ∷ drop n ws) next in
-    ap (λ (xs : List ℕ). xs ++ more) (low ∙ ap (λ (xs : List ℕ). xs ++ get_or ws i 0 % 256 ∷ []) high)
-    ∙ append_assoc (key ++ get_or ws i 0 / 256 ∷ []) (get_or ws i 0 % 256 ∷ []) more
-    ∙ append_assoc key (get_or ws i 0 / 256 ∷ []) (get_or ws i 0 % 256 ∷ more)
-    ∙ ap (λ (xs : List ℕ). key ++ level_bytes xs) (sym cons)
-    ∙ h
-
--- all are written
-pub weights_written : (key ws all : List ℕ) (i : ℕ) → length ws ≤ i → key ++ level_bytes (drop i ws) ≡ all → key ≡ all
-weights_written key ws all i end h =
-    sym (append-nil key) ∙ ap (λ (xs : List ℕ). key ++ level_bytes xs) (sym (drop_all i ws end)) ∙ h
+-- the weights are written after a key with room for them
+pub weights_added : (key room given new ws : List ℕ) (start before len : ℕ) → before ≡ length key → start ≡ before → start ≤ len
+    → room ≡ take len key ++ replicate (len - before) 0 → given ≡ room → new ≡ take start given ++ level_bytes ws → new ≡ key ++ level_bytes ws
+weights_added key room given new ws start before len is same fits made lent put =
+    let front : start ≡ length key = same ∙ is in
+    put ∙ ap (λ (xs : List ℕ). xs ++ level_bytes ws)
+    (ap (take start) (lent ∙ made ∙ ap (λ (xs : List ℕ). xs ++ replicate (len - before) 0) (take_all len key (omega arith)))
+    ∙ ap (λ (n : ℕ). take n (key ++ replicate (len - before) 0)) front ∙ take-append_seam key (replicate (len - before) 0))
 
 -- ---- Code points
 

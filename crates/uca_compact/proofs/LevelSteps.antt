@@ -1,5 +1,5 @@
 -- Steps of reading a level.
-use Rattle.std.proofs.Common.{◌≡◌, ◌≢◌, ℕ, zero, suc, ◌-◌, ◌/◌, ◌%◌, ◌<◌, ◌≤◌, List, [], ◌∷◌, ◌++◌, Bool, true, false, cond, Option, Some, None, Result, Ok, Err, IfOk, nat_eq, nat_lt, length, get_or, take, drop, refl, ap, sym, ◌∙◌, arith, append_assoc, append-nil}
+use Rattle.std.proofs.Common.{◌≡◌, ◌≢◌, ℕ, zero, suc, ◌+◌, ◌-◌, ◌/◌, ◌%◌, ◌<◌, ◌≤◌, List, [], ◌∷◌, ◌++◌, Bool, true, false, cond, Option, Some, None, Result, Ok, Err, IfOk, nat_eq, nat_lt, length, get_or, replicate, take, drop, refl, ap, sym, ◌∙◌, arith, append_assoc}
 use Rattle.std.proofs.lemmas.Bool.Decides.{nat_tests}
 use Rattle.std.proofs.lemmas.List.{take_all}
 use Rattle.uca_compact.specs.Forms.{Form, step, full, first_cell}
@@ -10,20 +10,18 @@ use Rattle.uca_compact.specs.declared.level_reader.Step.{Step}
 
 -- ---- Runs
 
--- one more of the same weight
-pub copy_added : (out items : List ℕ) (w left : ℕ) (all : List ℕ) → 0 < left → items ≡ out ++ w ∷ [] → out ++ copies w left ≡ all
-    → items ++ copies w (left - 1) ≡ all
-copy_added out items w zero all some added h = absurd (omega arith)
-copy_added out items w (suc left) all some added h =
-    let back : suc left - 1 ≡ left = omega arith in
-    ap (λ (n : ℕ). items ++ copies w n) back
-    ∙ ap (λ (xs : List ℕ). xs ++ copies w left) added
-    ∙ append_assoc out (w ∷ []) (copies w left)
-    ∙ h
+-- the same weight so many times
+copies_are : (w n : ℕ) → replicate n w ≡ copies w n
+copies_are w zero = refl
+copies_are w (suc n) = ap (λ (ws : List ℕ). w ∷ ws) (copies_are w n)
 
--- all of them
-pub copies_added : (out all : List ℕ) (w left : ℕ) → left ≡ 0 → out ++ copies w left ≡ all → out ≡ all
-copies_added out all w left none h = sym (append-nil out) ∙ ap (λ (n : ℕ). out ++ copies w n) (sym none) ∙ h
+-- it is added to others
+pub copies_added : (old new : List ℕ) (w count before len : ℕ) → before ≡ length old → len ≡ before + count → new ≡ take len old ++ replicate (len - before) w
+    → new ≡ old ++ copies w count
+copies_added old new w count before len is more made =
+    let left : len - before ≡ count = omega arith in
+    made ∙ ap (λ (ws : List ℕ). ws ++ replicate (len - before) w) (take_all len old (omega arith))
+    ∙ ap (λ (n : ℕ). old ++ replicate n w) left ∙ ap (λ (ws : List ℕ). old ++ ws) (copies_are w count)
 
 -- ---- A run and a weight
 

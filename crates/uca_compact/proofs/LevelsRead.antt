@@ -1,7 +1,9 @@
 -- Steps of reading the levels of a stored key while its compact key is written.
-use Rattle.std.proofs.Common.{◌≡◌, ◌≢◌, ℕ, zero, suc, ◌+◌, ◌*◌, ◌-◌, ◌/◌, ◌<◌, ◌≤◌, List, [], ◌∷◌, ◌++◌, Bool, true, false, cond, nat_eq, ◌&&◌, not, if◌then◌else◌, Option, Some, None, IfSome, length, length-append, length-drop, get_or, drop, refl, ap, sym, subst, ⊎_elim, ◌∙◌, arith, append_assoc, append-nil}
+use Rattle.std.proofs.Common.{◌≡◌, ◌≢◌, ℕ, zero, suc, ◌+◌, ◌*◌, ◌-◌, ◌/◌, ◌%◌, ◌<◌, ◌≤◌, List, [], ◌∷◌, ◌++◌, Bool, true, false, cond, nat_eq, ◌&&◌, not, if◌then◌else◌, Option, Some, None, IfSome, length, length-append, length-drop, get_or, drop, refl, ap, sym, subst, subst₂, ⊎_elim, ◌∙◌, arith, append_assoc, append-nil}
+use Rattle.std.specs.Bool.{OnTrue}
 use Rattle.std.specs.Ordering.{is_eq}
 use Rattle.std.specs.declared.cmp.Ordering.TheVariants.{Equal, Greater}
+use Rattle.std.proofs.lemmas.Bool.Decides.{nat_tests}
 use Rattle.uca_order.proofs.KeyOrder.{cmp_greater, lexicographic_itself}
 use Rattle.uca_compact.specs.Forms.{AreRising, Form, IsForm, first_cell}
 use Rattle.uca_compact.specs.PlainLevels.{copies, is_lead, letters_after, letter_count}
@@ -12,7 +14,7 @@ use Rattle.uca_compact.specs.declared.later_level.LaterLevel.{LaterLevel}
 use Rattle.uca_compact.specs.declared.stored.StoredEnd.{StoredEnd}
 use Rattle.uca_compact.specs.declared.stored.StoredEnd.TheVariants.{Next, Key, Single}
 use Rattle.uca_compact.specs.inside.StoredEnds.{level_of, next_of, weights_before}
-use Rattle.uca_compact.specs.inside.LevelsRead.{IsWrittenTo, IsFirstLevel, IsLaterLevel}
+use Rattle.uca_compact.specs.inside.LevelsRead.{IsWrittenTo, IsFirstLevel, GoesOn, IsLaterLevel}
 use Rattle.uca_compact.proofs.OnlyLevels.{weight_code}
 use Rattle.uca_compact.proofs.StoredSteps.{two_at, level_step, weights_step}
 
@@ -138,11 +140,6 @@ copies_length : (w n : ℕ) → length (copies w n) ≡ n
 copies_length w zero = refl
 copies_length w (suc n) = ap suc (copies_length w n)
 
--- These bytes begin a level that is so many times one weight, if the rest of them begins one that is it so many times
--- less.
-abbrev pub GoesOn : (bytes rest : List ℕ) → (w count left : ℕ) → Type 0
-GoesOn bytes rest w count left = (e : StoredEnd) → stored_level rest ≡ level_of e (copies w left) → stored_level bytes ≡ level_of e (copies w count)
-
 -- nothing was compared yet
 pub goes_on_from_start : (bytes : List ℕ) (w count : ℕ) → GoesOn bytes (drop (2 * 0) bytes) w count (count - 0)
 goes_on_from_start bytes w count e h =
@@ -150,7 +147,7 @@ goes_on_from_start bytes w count e h =
     h ∙ ap (λ (n : ℕ). level_of e (copies w n)) none
 
 -- one weight more is the same
-pub same_again : (bytes : List ℕ) (w count index found : ℕ) → 0 < w → count ≤ length bytes / 2 → index < count
+same_again : (bytes : List ℕ) (w count index found : ℕ) → 0 < w → count ≤ length bytes / 2 → index < count
     → found ≡ 256 * get_or bytes (2 * index) 0 + get_or bytes (2 * index + 1) 0 → found ≡ w
     → GoesOn bytes (drop (2 * index) bytes) w count (count - index) → GoesOn bytes (drop (2 * (index + 1)) bytes) w count (count - (index + 1))
 same_again bytes w count index found some fits more is same so_far e h =
@@ -167,18 +164,57 @@ same_again bytes w count index found some fits more is same so_far e h =
     ∙ ap (weight_then w) rest ∙ then_level w (copies w (count - index - 1)) e
     ∙ ap (level_of e) (one_copy w (count - index) (omega (arith, more))))
 
--- all weights are the same
-same_to_end : (bytes : List ℕ) (w count index : ℕ) (e : StoredEnd) → count ≤ index → index ≤ count → GoesOn bytes (drop (2 * index) bytes) w count (count - index)
-    → stored_level (drop (2 * count) bytes) ≡ level_of e [] → stored_level bytes ≡ level_of e (copies w count)
-same_to_end bytes w count index e low high so_far h =
-    let here : 2 * index ≡ 2 * count = omega arith in
-    let none : 0 ≡ count - index = omega arith in
-    so_far e (ap (λ (n : ℕ). stored_level (drop n bytes)) here ∙ h ∙ ap (λ (n : ℕ). level_of e (copies w n)) none)
+-- two weights more are the same
+pub same_twice : (bytes : List ℕ) (w count pair first second : ℕ) → 0 < w → w < 65536 → count ≤ length bytes / 2 → pair < count / 2 → second < 65536
+    → first ≡ 256 * get_or bytes (4 * pair) 0 + get_or bytes (4 * pair + 1) 0 → second ≡ 256 * get_or bytes (4 * pair + 2) 0 + get_or bytes (4 * pair + 2 + 1) 0
+    → 65536 * first + second ≡ 65536 * w + w → GoesOn bytes (drop (4 * pair) bytes) w count (count - 2 * pair)
+    → GoesOn bytes (drop (4 * (pair + 1)) bytes) w count (count - 2 * (pair + 1))
+same_twice bytes w count pair first second some small fits more short is_first is_second same so_far =
+    let one : first ≡ w = omega arith in
+    let two : second ≡ w = omega arith in
+    let at : 4 * pair ≡ 2 * (2 * pair) = omega arith in
+    let after : 4 * pair + 2 ≡ 2 * (2 * pair + 1) = omega arith in
+    let last : 2 * (2 * pair + 1 + 1) ≡ 4 * (pair + 1) = omega arith in
+    let left : count - (2 * pair + 1 + 1) ≡ count - 2 * (pair + 1) = omega arith in
+    subst₂ (λ (n m : ℕ). GoesOn bytes (drop n bytes) w count m) last left
+    (same_again bytes w count (2 * pair + 1) second some fits (omega (arith, more))
+    (subst (λ (n : ℕ). second ≡ 256 * get_or bytes n 0 + get_or bytes (n + 1) 0) after is_second) two
+    (same_again bytes w count (2 * pair) first some fits (omega (arith, more))
+    (subst (λ (n : ℕ). first ≡ 256 * get_or bytes n 0 + get_or bytes (n + 1) 0) at is_first) one
+    (subst (λ (n : ℕ). GoesOn bytes (drop n bytes) w count (count - 2 * pair)) at so_far)))
 
-pub same_ended : (bytes : List ℕ) (w count index : ℕ) (o : Option StoredEnd) → count ≤ index → index ≤ count → GoesOn bytes (drop (2 * index) bytes) w count (count - index)
+-- what follows from a test
+pub by_test : {P : Type 0} (t : Bool) → (t ≡ true → P) → OnTrue t P
+by_test true h = h refl
+by_test false h = tt
+
+-- all weights are the same, in pairs
+pub same_in_pairs : (bytes : List ℕ) (w count pair : ℕ) → pair ≡ count / 2 → count % 2 ≡ 0 → GoesOn bytes (drop (4 * pair) bytes) w count (count - 2 * pair)
+    → GoesOn bytes (drop (2 * count) bytes) w count 0
+same_in_pairs bytes w count pair end even so_far =
+    let at : 4 * pair ≡ 2 * count = omega arith in
+    let left : count - 2 * pair ≡ 0 = omega arith in
+    subst₂ (λ (n m : ℕ). GoesOn bytes (drop n bytes) w count m) at left so_far
+
+-- all are, and the last one has no pair
+pub same_with_last : (bytes : List ℕ) (w count pair last : ℕ) → 0 < w → count ≤ length bytes / 2 → pair ≡ count / 2 → count % 2 ≢ 0
+    → last ≡ 256 * get_or bytes (2 * count - 2) 0 + get_or bytes (2 * count - 2 + 1) 0 → nat_eq last w ≡ true → GoesOn bytes (drop (4 * pair) bytes) w count (count - 2 * pair)
+    → GoesOn bytes (drop (2 * count) bytes) w count 0
+same_with_last bytes w count pair last some fits end odd is same so_far =
+    let at : 4 * pair ≡ 2 * (2 * pair) = omega arith in
+    let before : 2 * count - 2 ≡ 2 * (2 * pair) = omega arith in
+    let all : 2 * (2 * pair + 1) ≡ 2 * count = omega arith in
+    let left : count - (2 * pair + 1) ≡ 0 = omega arith in
+    subst₂ (λ (n m : ℕ). GoesOn bytes (drop n bytes) w count m) all left
+    (same_again bytes w count (2 * pair) last some fits (omega (arith, end, odd))
+    (subst (λ (n : ℕ). last ≡ 256 * get_or bytes n 0 + get_or bytes (n + 1) 0) before is) (grind (arith, nat_tests))
+    (subst (λ (n : ℕ). GoesOn bytes (drop n bytes) w count (count - 2 * pair)) at so_far))
+
+-- the level ends there
+pub same_ended : (bytes : List ℕ) (w count : ℕ) (o : Option StoredEnd) → GoesOn bytes (drop (2 * count) bytes) w count 0
     → IfSome o (λ e. stored_level (drop (2 * count) bytes) ≡ level_of e []) → IfSome o (λ e. stored_level bytes ≡ level_of e (copies w count))
-same_ended bytes w count index None low high so_far h = tt
-same_ended bytes w count index (Some e) low high so_far h = same_to_end bytes w count index e low high so_far h
+same_ended bytes w count None so_far h = tt
+same_ended bytes w count (Some e) so_far h = so_far e h
 
 -- the level is the plain one
 pub plain_read : (bytes kept : List ℕ) (w n : ℕ) (found : LaterLevel) → stored_level bytes ≡ level_of found.end (copies w n) → found.order ≡ Equal → found.len ≡ n

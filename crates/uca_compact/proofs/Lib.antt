@@ -21,6 +21,7 @@ pub mod CellSteps
 pub mod LevelSteps
 pub mod KeySteps
 pub mod ExpandedKeys
+pub mod TwoBytes
 pub mod KeyBytes
 pub mod Lengths
 pub mod LevelsRead

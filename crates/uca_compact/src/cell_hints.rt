@@ -38,7 +38,6 @@ impl<A: Allocator> CellHints<A> {
     }
 
     /// Keeps the index of the cell of a weight.
-    #[inline(never)]
     pub(crate) fn keep(&mut self, weight: u16, index: usize) {
         let place = usize::from(weight) % HINTS;
         if place < self.indices.len() && index < 256 {

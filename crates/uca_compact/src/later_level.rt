@@ -1,11 +1,12 @@
 //! Reads a level of a stored key after others. Mostly it is plain, and then its weights are not kept.
 
-ghost use Rattle.std.specs.Prelude.{◌≡◌, ◌^◌, ◌<◌, ◌≤◌, [], drop, length, IfOk, IfSome};
+ghost use Rattle.std.specs.Prelude.{◌≡◌, ◌+◌, ◌*◌, ◌/◌, ◌^◌, ◌<◌, ◌≤◌, [], drop, length, slice_index, IfOk, IfSome};
+ghost use Rattle.std.specs.Bool.{OnTrue};
 ghost use Rattle.uca_compact.specs.Forms.{AreWeights};
 ghost use Rattle.uca_compact.specs.PlainLevels.{copies};
 ghost use Rattle.uca_compact.specs.StoredParts.{stored_level};
 ghost use Rattle.uca_compact.specs.inside.StoredEnds.{level_of};
-ghost use Rattle.uca_compact.specs.inside.LevelsRead.{IsLaterLevel};
+ghost use Rattle.uca_compact.specs.inside.LevelsRead.{GoesOn, IsLaterLevel};
 
 use crate::plain::compare_run;
 use crate::stored::{StoredEnd, read_weights};
@@ -38,20 +39,41 @@ fn end_at(bytes: &[u8], at: usize) -> Option<StoredEnd<'_>>
     None
 }
 
+// The weight at this position.
+#[inline(always)]
+fn weight_at(bytes: &[u8], at: usize) -> u32
+    requires { at + 1 < length bytes.now }
+    ensures is { result ≡ 256 * slice_index bytes.now at + slice_index bytes.now (at + 1) }
+    ensures small { result < 65536 }
+{
+    256 * u32::from(bytes[at]) + u32::from(bytes[at + 1])
+}
+
+// Whether these bytes begin with so many times one weight. Two weights are compared at a time.
+fn begins_plain(bytes: &[u8], weight: u32, count: usize) -> bool
+    requires some { 0 < weight }
+    requires small { weight < 65536 }
+    requires within { count ≤ length bytes.now / 2 }
+    ensures { OnTrue result (GoesOn bytes.now (drop (2 * count) bytes.now) weight count 0) }
+{
+    let both = 65536 * weight + weight;
+    for pair in 0..count / 2 {
+        let at = 4 * pair;
+        if 65536 * weight_at(bytes, at) + weight_at(bytes, at + 2) != both {
+            return false;
+        }
+    }
+    count % 2 == 0 || weight_at(bytes, 2 * count - 2) == weight
+}
+
 // How a level ends that is so many times one weight; `None` if these bytes begin another one.
 fn plain_end(bytes: &[u8], weight: u16, count: usize) -> Option<StoredEnd<'_>>
     requires { 0 < weight }
     ensures level { IfSome result (λ end. stored_level bytes.now ≡ level_of end (copies weight count)) }
     ensures few { IfSome result (λ end. count ≤ length bytes.now) }
 {
-    if count > bytes.len() / 2 {
+    if count > bytes.len() / 2 || !begins_plain(bytes, u32::from(weight), count) {
         return None;
-    }
-    for index in 0..count {
-        let found = 256 * u16::from(bytes[2 * index]) + u16::from(bytes[2 * index + 1]);
-        if found != weight {
-            return None;
-        }
     }
     end_at(bytes, 2 * count)
 }

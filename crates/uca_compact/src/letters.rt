@@ -10,7 +10,7 @@ ghost use Rattle.uca_compact.specs.inside.StoredEnds.{next_of};
 ghost use Rattle.uca_compact.specs.inside.LevelsRead.{IsFirstLevel};
 
 use crate::cell_hints::CellHints;
-use crate::levels::{LevelForm, cell_index, push_in_cell};
+use crate::levels::{LevelForm, cell_index, is_inner_place, push_in_cell};
 use crate::plain::{leads, with_letter};
 use std::alloc::{AllocError, Allocator};
 
@@ -37,8 +37,8 @@ fn first_cell(form: &LevelForm) -> u8
     (longest * (u32::from(form.ends) + 1) + longest) as u8
 }
 
-// Writes a weight in its cell.
-#[inline]
+// Writes a weight in its cell. The cell in which it was found before is tried first.
+#[inline(always)]
 fn push_letter<A: Allocator, B: Allocator>(
     out: &mut Vec<u8, B>,
     number: u8,
@@ -51,12 +51,32 @@ fn push_letter<A: Allocator, B: Allocator>(
     requires weight { 0 < weight }
     ensures { OnOk result (out.new.items ≡ out.old.items ++ cell number 1 starts.now 65536 weight) }
 {
-    let hint = hints.get(weight);
     let letter = u32::from(weight);
-    let index = cell_index(1, starts, 0x1_0000, letter, hint);
-    if index != hint {
-        hints.keep(weight, index);
+    let hint = hints.get(weight);
+    if is_inner_place(1, starts, 0x1_0000, letter, hint) {
+        push_in_cell(out, number, 1, starts, 0x1_0000, letter, hint)
+    } else {
+        push_found(out, number, starts, hints, weight)
     }
+}
+
+// Finds the cell of a weight, keeps its index, and writes the weight.
+#[inline(never)]
+fn push_found<A: Allocator, B: Allocator>(
+    out: &mut Vec<u8, B>,
+    number: u8,
+    starts: &[u16],
+    hints: &mut CellHints<A>,
+    weight: u16,
+) -> Result<(), AllocError>
+    requires rising { AreRising 1 starts.now 65536 }
+    requires bytes { number + length starts.now < 256 }
+    requires weight { 0 < weight }
+    ensures { OnOk result (out.new.items ≡ out.old.items ++ cell number 1 starts.now 65536 weight) }
+{
+    let letter = u32::from(weight);
+    let index = cell_index(1, starts, 0x1_0000, letter, hints.get(weight));
+    hints.keep(weight, index);
     push_in_cell(out, number, 1, starts, 0x1_0000, letter, index)
 }
 

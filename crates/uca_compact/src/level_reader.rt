@@ -39,11 +39,10 @@ pub(crate) fn push_copies<A: Allocator>(
 ) -> Result<(), AllocError>
     ensures { OnOk result (weights.new.items ≡ weights.old.items ++ copies weight count) }
 {
-    let mut left = count;
-    while left > 0 {
-        weights.push(weight)?;
-        left -= 1;
-    }
+    let Some(len) = weights.len().checked_add(count) else {
+        return Err(AllocError);
+    };
+    weights.resize(len, weight)?;
     Ok(())
 }
 

@@ -26,6 +26,7 @@ pub struct LevelForm<'a> {
 }
 
 // Writes the number of a cell, and an offset in it.
+#[inline(always)]
 fn push_offset<A: Allocator>(
     out: &mut Vec<u8, A>,
     number: u8,
@@ -50,13 +51,21 @@ fn push_offset<A: Allocator>(
 }
 
 // Whether a weight is in the cell with this index.
-#[inline]
+#[inline(always)]
 fn is_place(start: u32, later: &[u16], end: u32, weight: u32, index: usize) -> bool
     ensures { OnTrue result (IsPlace start later.now end weight index) }
 {
     index <= later.len()
         && cell_start(start, later, index) <= weight
         && weight < cell_end(later, end, index)
+}
+
+/// Whether a weight is in the cell with this index, and this is neither the first cell nor the last. It takes fewer tests.
+#[inline(always)]
+pub(crate) fn is_inner_place(start: u32, later: &[u16], end: u32, weight: u32, index: usize) -> bool
+    ensures { OnTrue result (IsPlace start later.now end weight index) }
+{
+    0 < index && index < later.len() && is_place(start, later, end, weight, index)
 }
 
 // The index of the cell of a weight, by a search in halves.
@@ -117,7 +126,7 @@ pub(crate) fn cell_end(later: &[u16], end: u32, index: usize) -> u32
 }
 
 /// Writes a weight in its cell, which has this index.
-#[inline]
+#[inline(always)]
 pub(crate) fn push_in_cell<A: Allocator>(
     out: &mut Vec<u8, A>,
     number: u8,

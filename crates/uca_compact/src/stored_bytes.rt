@@ -1,6 +1,6 @@
 //! Writes the bytes of stored keys.
 
-ghost use Rattle.std.specs.Prelude.{◌≡◌, ◌∷◌, ◌++◌, chars, None, OnOk, IfOk, Some, option_map, if◌then◌else◌};
+ghost use Rattle.std.specs.Prelude.{◌≡◌, ◌+◌, ◌*◌, ◌∷◌, ◌++◌, chars, length, take, None, OnOk, IfOk, Some, option_map, if◌then◌else◌};
 ghost use Rattle.uca_weights.specs.declared.Depth.TheVariants.{Identical};
 ghost use Rattle.uca_order.specs.Depths;
 ghost use Rattle.uca_order.specs.Depths.{points_bytes};
@@ -18,11 +18,22 @@ pub(crate) fn push_weights<A: Allocator>(
 ) -> Result<(), AllocError>
     ensures { OnOk result (key.new.items ≡ key.old.items ++ level_bytes weights.now) }
 {
-    for weight in weights {
-        key.push((*weight / 256) as u8)?;
-        key.push((*weight % 256) as u8)?;
-    }
+    let start = key.len();
+    key.resize(start + 2 * weights.len(), 0)?;
+    put_weights(key.as_mut_slice(), start, weights);
     Ok(())
+}
+
+// Writes weights over the bytes from a position on, two bytes each.
+fn put_weights(bytes: &mut [u8], start: usize, weights: &[u16])
+    requires { length bytes.old ≡ start + 2 * length weights.now }
+    ensures { bytes.new ≡ take start bytes.old ++ level_bytes weights.now }
+{
+    for (number, weight) in weights.iter().enumerate() {
+        let at = start + 2 * number;
+        bytes[at] = (*weight / 256) as u8;
+        bytes[at + 1] = (*weight % 256) as u8;
+    }
 }
 
 /// Adds a level to a key, after a separator.

@@ -1,14 +1,12 @@
 -- The lines whose keys were changed so far, and the next one.
-use Rattle.std.proofs.Common.{◌≡◌, ℕ, suc, ◌+◌, ◌*◌, ◌<◌, ◌≤◌, ◌/◌, ◌%◌, Bool, true, false, List, [], ◌∷◌, ◌++◌, length, length-set, take, get_or, set, Option, Some, None, IfSome, Result, Ok, Err, inl, inr, refl, ap, sym, subst, subst₂, ◌∙◌, append_assoc, append-nil, arith, length-append}
+use Rattle.std.proofs.Common.{◌≡◌, ℕ, suc, ◌+◌, ◌<◌, ◌≤◌, Bool, true, false, List, [], ◌∷◌, ◌++◌, length, Option, Some, None, IfSome, Result, Ok, Err, inl, inr, refl, ap, sym, subst, subst₂, ◌∙◌, append-nil, arith, length-append}
 use Rattle.std.specs.Prelude.{IfErr, IfOk, IsSomeAnd, MatchBool, OnOk, is_ok, if◌then◌else◌}
 use Rattle.std.specs.Io.KnownBytes.{Appends}
 use Rattle.std.specs.List.{AllByRecursion, flat_map}
 use Rattle.std.proofs.lemmas.Grind.{flat_map-append}
-use Rattle.std.proofs.lemmas.List.{take_all, take_more, take_more_set}
 use Rattle.uca_weights.specs.Streams.{SourceState, SinkState}
 use Rattle.uca_lines.specs.Buffered.{HasWrittenThrough}
 use Rattle.uca_lines.specs.Lines.{ended, lines_of}
-use Rattle.uca_lines.specs.Numbers.{upper_digit}
 use Rattle.uca_lines.specs.OutputBuffer.{BufferState, IsBuffered}
 use Rattle.uca_lines.proofs.BufferedLemmas.{none_buffered}
 use Rattle.uca_run_parts.specs.Print.{byte_digits}
@@ -29,29 +27,6 @@ use Rattle.uca_rekey.specs.inside.RekeySoFar.{EndsIf, HasReadHeader, WritesLine,
 use Rattle.uca_rekey.proofs.LinesRead.{AreCauses, begins_with, line_fault, nothing_read, of_all, of_fault}
 
 -- ---- The digits of a key
-
--- the two digits of one more byte were written
-pub digits_put : (digits key : List ℕ) (i high low : ℕ) → i < length key → length digits ≡ 2 * length key
-    → take (2 * i) digits ≡ flat_map byte_digits (take i key) → high ≡ upper_digit (get_or key i 0 / 16) → low ≡ upper_digit (get_or key i 0 % 16)
-    → take (2 * (i + 1)) (set (set digits (2 * i) high) (2 * i + 1) low) ≡ flat_map byte_digits (take (i + 1) key)
-digits_put digits key i high low within long so_far of_high of_low =
-    let text = flat_map byte_digits (take i key) in
-    let b = get_or key i 0 in
-    let next : 2 * (i + 1) ≡ 2 * i + 1 + 1 = omega arith in
-    let same : length (set digits (2 * i) high) ≡ length digits = length-set digits (2 * i) high in
-    ap (λ (n : ℕ). take n (set (set digits (2 * i) high) (2 * i + 1) low)) next
-    ∙ take_more_set (set digits (2 * i) high) (2 * i + 1) low (omega (arith, same, long, within))
-    ∙ ap (λ (l : List ℕ). l ++ low ∷ []) (take_more_set digits (2 * i) high (omega (arith, long, within)))
-    ∙ append_assoc (take (2 * i) digits) (high ∷ []) (low ∷ [])
-    ∙ ap (λ (l : List ℕ). l ++ high ∷ low ∷ []) so_far
-    ∙ ap (λ (x : ℕ). text ++ x ∷ low ∷ []) of_high ∙ ap (λ (x : ℕ). text ++ upper_digit (b / 16) ∷ x ∷ []) of_low
-    ∙ sym (ap (flat_map byte_digits) (take_more key i 0 within) ∙ flat_map-append byte_digits (take i key) (b ∷ []))
-
--- all digits were written
-pub all_digits_put : (digits key : List ℕ) (i : ℕ) → length key ≤ i → length digits ≡ 2 * length key
-    → take (2 * i) digits ≡ flat_map byte_digits (take i key) → digits ≡ flat_map byte_digits key
-all_digits_put digits key i end long so_far =
-    sym (take_all (2 * i) digits (omega (arith, long, end))) ∙ so_far ∙ ap (flat_map byte_digits) (take_all i key end)
 
 -- other bytes were written after them
 pub rest_put : {A B : Type 0} (key put rest : List ℕ) (result : Result A B) (whole : List ℕ) → put ≡ flat_map byte_digits key

@@ -1,15 +1,17 @@
 -- The key of a line, read and written digit by digit.
-use Rattle.std.proofs.Common.{◌≡◌, ℕ, ◌<◌, ◌≤◌, List, [], ◌∷◌, ◌++◌, length, take, drop, get_or, map, Bool, true, false, cond, nat_eq, ◌&&◌, Option, Some, None, refl, ap, sym, ◌∙◌, append_assoc, append-nil, arith, take-append-drop}
+use Rattle.std.proofs.Common.{◌≡◌, ℕ, ◌+◌, ◌*◌, ◌-◌, ◌<◌, ◌≤◌, List, [], ◌∷◌, ◌++◌, length, length-drop, take, drop, get_or, set, map, Bool, true, false, cond, nat_eq, ◌&&◌, Option, Some, None, refl, ap, sym, subst, ◌∙◌, append_assoc, append-nil, arith, take-append-drop}
 use Rattle.std.specs.List.{flat_map, list_all, range_with_len}
 use Rattle.std.specs.Option.{option_and_then, option_map}
-use Rattle.std.proofs.lemmas.List.{drop_all}
+use Rattle.std.proofs.lemmas.List.{drop_all, take_all, take_more_set}
 use Rattle.std.proofs.lemmas.List.FromFn.{get_or-map-range_with_len}
 use Rattle.std.specs.Str.Parse.{digits_value}
 use Rattle.std.proofs.lemmas.Bool.Decides.{nat_tests}
 use Rattle.uca_lines.specs.Numbers.{hex_of, is_hex_digit, upper_digit}
 use Rattle.uca_run_parts.specs.Print.{byte_digits}
+use Rattle.uca_compact.proofs.StoredSteps.{two_at}
 use Rattle.uca_rekey.specs.declared.line.TheConstants.{DIGITS}
 use Rattle.uca_rekey.specs.ChangedLines.{from_tab}
+use Rattle.uca_rekey.specs.inside.LinesInPlace.{ReadsBytes}
 use Rattle.uca_rekey.specs.RekeyedLines.{digits_of, byte_before, bytes_of, key_in, rekeyed_by, with_digits, with_key}
 
 -- ---- Digits
@@ -24,18 +26,31 @@ digit_in_table value h = ap (λ t. get_or t value 0) digits_are ∙ get_or-map-r
 -- ---- The key of a line
 
 -- no byte was read yet
-pub none_read : (all : Option (List ℕ)) (key : List ℕ) → key ≡ [] → all ≡ option_map (λ more. key ++ more) all
-none_read None key none = refl
-none_read (Some bytes) key none = ap (λ front. Some (front ++ bytes)) (sym none)
-
--- The next byte of the key was read. All that comes of the line is what comes of the rest, after these bytes of the key.
-pub byte_read : (all : Option (List ℕ)) (key text : List ℕ) → all ≡ option_map (λ more. key ++ more) (key_in text) → (byte : ℕ) (after new : List ℕ)
-    → key_in text ≡ byte_before (Some byte) (key_in after) → new ≡ key ++ byte ∷ [] → all ≡ option_map (λ more. new ++ more) (key_in after)
-byte_read all key text so_far byte after new is pushed = so_far ∙ ap (option_map (λ more. key ++ more)) is ∙ go (key_in after)
+pub none_read : (text key : List ℕ) → key ≡ [] → ReadsBytes text key text
+none_read text key none = record { key = go (key_in text); tab = refl }
   where
-    go : (o : Option (List ℕ)) → option_map (λ more. key ++ more) (byte_before (Some byte) o) ≡ option_map (λ more. new ++ more) o
+    go : (o : Option (List ℕ)) → o ≡ option_map (λ more. key ++ more) o
     go None = refl
-    go (Some more) = ap (λ bytes. Some bytes) (sym (append_assoc key (byte ∷ []) more) ∙ ap (λ front. front ++ more) (sym pushed))
+    go (Some bytes) = ap (λ front. Some (front ++ bytes)) (sym none)
+
+-- more bytes were read after these
+pub more_read : (text key rest bytes after new : List ℕ) → ReadsBytes text key rest → ReadsBytes rest bytes after → new ≡ key ++ bytes → ReadsBytes text new after
+more_read text key rest bytes after new one two added = record {
+  key = one.key ∙ ap (option_map (λ more. key ++ more)) two.key ∙ go (key_in after);
+  tab = one.tab ∙ two.tab;
+}
+  where
+    go : (o : Option (List ℕ)) → option_map (λ more. key ++ more) (option_map (λ more. bytes ++ more) o) ≡ option_map (λ more. new ++ more) o
+    go None = refl
+    go (Some more) = ap (λ all. Some all) (sym (append_assoc key bytes more) ∙ ap (λ front. front ++ more) (sym added))
+
+-- as many as had room
+pub room_read : (text key rest bytes new : List ℕ) (count : ℕ) → ReadsBytes text key rest → ReadsBytes rest bytes (drop (2 * count) rest) → new ≡ key ++ bytes
+    → ReadsBytes text new (take (length rest - 2 * count) (drop (2 * count) rest))
+room_read text key rest bytes new count one two added =
+    let after = drop (2 * count) rest in
+    subst (λ (l : List ℕ). ReadsBytes text new l) (sym (take_all (length rest - 2 * count) after (omega (arith, length-drop (2 * count) rest))))
+    (more_read text key rest bytes after new one two added)
 
 module _ (all : Option (List ℕ)) (key text : List ℕ) (so_far : all ≡ option_map (λ more. key ++ more) (key_in text)) where
   -- there is no byte any more
@@ -108,6 +123,19 @@ byte_first high low byte text rest parts is =
       ap from_tab parts ∙ first.1 ∙ second.1,
       omega (arith, ap length parts),
     )
+
+-- one more byte was read into the room
+pub byte_taken : (text room : List ℕ) (count byte : ℕ) → 2 * count + 1 < length text → count < length room
+    → Some byte ≡ hex_of (get_or text (2 * count) 0 ∷ get_or text (2 * count + 1) 0 ∷ []) → ReadsBytes text (take count room) (drop (2 * count) text)
+    → ReadsBytes text (take (count + 1) (set room count byte)) (drop (2 * (count + 1)) text)
+byte_taken text room count byte within has_room is so_far =
+    let next : 2 * (count + 1) ≡ 2 * count + 2 = omega arith in
+    let rest = drop (2 * count) text in
+    let after = drop (2 * (count + 1)) text in
+    let parts = two_at text (2 * count) within ∙ ap (λ n. get_or text (2 * count) 0 ∷ get_or text (2 * count + 1) 0 ∷ drop n text) (sym next) in
+    let first = byte_first (get_or text (2 * count) 0) (get_or text (2 * count + 1) 0) byte rest after parts is in
+    more_read text (take count room) rest (byte ∷ []) after (take (count + 1) (set room count byte)) so_far (record { key = first.0; tab = first.1 })
+    (take_more_set room count byte has_room)
 
 -- ---- Another key in its place
 

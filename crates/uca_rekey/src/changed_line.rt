@@ -7,8 +7,9 @@ ghost use Rattle.uca_rekey.specs.ChangedLines.{Headers, LineBecomes, from_tab, w
 ghost use Rattle.uca_rekey.specs.ChangeRun.{IsChangeCause};
 
 use crate::changes::ChangesKeys;
-use crate::line::{digit, read_key};
+use crate::line::read_key;
 use std::alloc::{AllocError, Allocator};
+use uca_lines::fields::hexadecimal_digit;
 use uca_run_parts::StoredKeyKind;
 
 /// Room for the bytes of a key, and for those of what it becomes.
@@ -76,8 +77,8 @@ fn put_digits(digits: &mut [u8], key: &[u8])
     ensures { digits.new ≡ flat_map byte_digits key.now }
 {
     for (number, byte) in key.iter().enumerate() {
-        digits[2 * number] = digit(*byte / 16);
-        digits[2 * number + 1] = digit(*byte % 16);
+        digits[2 * number] = hexadecimal_digit(*byte / 16);
+        digits[2 * number + 1] = hexadecimal_digit(*byte % 16);
     }
 }
 

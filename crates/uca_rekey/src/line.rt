@@ -1,16 +1,16 @@
 //! A line that begins with the digits of a key, with other digits in their place.
 
-ghost use Rattle.std.specs.Prelude.{◌≡◌, ℕ, List, Option, [], ◌∷◌, ◌++◌, Some, OnOk, IfOk, IfErr, IfSome, MatchOption, ◌≤◌, ◌<◌, length, take, drop};
+ghost use Rattle.std.specs.Prelude.{◌≡◌, ℕ, List, Option, [], ◌∷◌, ◌++◌, ◌*◌, Some, OnOk, IfOk, IfErr, IfSome, MatchOption, ◌≤◌, ◌<◌, length, take, drop};
 ghost use Rattle.std.specs.List.{flat_map};
 ghost use Rattle.uca_lines.specs.Numbers.{upper_digit};
 ghost use Rattle.uca_run_parts.specs.Print.{byte_digits};
 ghost use Rattle.uca_rekey.specs.RekeyedLines.{digits_of, key_in, rekeyed_by, with_digits, with_key};
 ghost use Rattle.uca_rekey.specs.ChangedLines.{from_tab};
 ghost use Rattle.uca_rekey.specs.RekeyRun.{IsLineCause};
-ghost use Rattle.uca_rekey.specs.inside.LinesInPlace.{IsKeyCause, IsNextByte};
+ghost use Rattle.uca_rekey.specs.inside.LinesInPlace.{IsKeyCause, IsNextByte, ReadsBytes};
 ghost use Rattle.uca_rekey.specs.inside.RekeySoFar.{moved_by};
 
-use std::alloc::Allocator;
+use std::alloc::{AllocError, Allocator};
 use uca_images::KeyMover;
 use uca_lines::fields::hexadecimal_byte;
 use uca_run_parts::StoredKeyKind;
@@ -37,6 +37,9 @@ pub(crate) fn rekey_line<M: Allocator, A: Allocator>(
     Ok(())
 }
 
+/// How many bytes of a key are read at a time.
+const ROOM: usize = 128;
+
 /// What comes next in the field of a key.
 enum NextByte<'a> {
     /// A byte, and what follows its two digits.
@@ -62,7 +65,10 @@ pub(crate) fn read_key<'a, A: Allocator>(
     ensures cause { IfErr result (IsKeyCause line.now) }
 {
     key.clear();
-    let mut text = line;
+    let Ok(rest) = read_bytes(line, key) else {
+        return Err(StoredKeyKind::Memory);
+    };
+    let mut text = rest;
     loop {
         match next_byte(text) {
             NextByte::Byte(byte, rest) => {
@@ -75,6 +81,43 @@ pub(crate) fn read_key<'a, A: Allocator>(
             NextByte::NoByte => return Err(StoredKeyKind::NoKey),
         }
     }
+}
+
+// Adds the bytes to a key that a text begins with, each of two digits and with no spaces among these. It returns what
+// follows them.
+fn read_bytes<'a, A: Allocator>(
+    text: &'a [u8],
+    key: &mut Vec<u8, A>,
+) -> Result<&'a [u8], AllocError>
+    requires { key.old.items ≡ [] }
+    ensures { IfOk result (λ rest. ReadsBytes text.now key.new.items rest.now) }
+{
+    let mut room = [0; ROOM];
+    let mut rest = text;
+    loop {
+        let count = read_into(&mut room, rest);
+        key.extend_from_slice(&room[..count])?;
+        rest = &rest[2 * count..];
+        if count < ROOM {
+            return Ok(rest);
+        }
+    }
+}
+
+// Writes the bytes over others that a text begins with, as many as have room, and returns how many these are.
+fn read_into(room: &mut [u8; ROOM], text: &[u8]) -> usize
+    ensures room { result ≤ ROOM }
+    ensures within { 2 * result ≤ length text.now }
+    ensures read { ReadsBytes text.now (take result room.new) (drop (2 * result) text.now) }
+{
+    let most = ROOM.min(text.len() / 2);
+    for count in 0..most {
+        match hexadecimal_byte(text[2 * count], text[2 * count + 1]) {
+            Some(byte) => room[count] = byte,
+            None => return count,
+        }
+    }
+    most
 }
 
 // What comes next in a key's field. Mostly there are two digits, with no space before them.
@@ -159,9 +202,9 @@ fn write_digit(line: &mut [u8], at: usize, value: u8) -> usize
     at + 1
 }
 
-/// The digit of a value.
+// The digit of a value.
 #[inline]
-pub(crate) fn digit(value: u8) -> u8
+fn digit(value: u8) -> u8
     requires { value < 16 }
     ensures { result ≡ upper_digit value }
 {

@@ -4,8 +4,9 @@ use Rattle.std.specs.Ordering.{is_eq}
 use Rattle.uca_order.specs.Levels.{lexicographic}
 use Rattle.uca_compact.specs.declared.letters.Letters.{Letters}
 use Rattle.uca_compact.specs.declared.later_level.LaterLevel.{LaterLevel}
+use Rattle.uca_compact.specs.declared.stored.StoredEnd.{StoredEnd}
 use Rattle.uca_compact.specs.Forms.{Form, AreWeights}
-use Rattle.uca_compact.specs.PlainLevels.{letters_after, letter_count}
+use Rattle.uca_compact.specs.PlainLevels.{copies, letters_after, letter_count}
 use Rattle.uca_compact.specs.CompactKeys.{level_code}
 use Rattle.uca_compact.specs.StoredParts.{stored_level}
 use Rattle.uca_compact.specs.inside.StoredEnds.{level_of, weights_before}
@@ -30,6 +31,11 @@ pub record IsFirstLevel (f : Form) (key before out : List ℕ) (letters : Letter
   pub few : letters.count ≤ letters.len
   pub within : letters.len ≤ length key
   pub code : (end : ℕ) → out ++ level_code f end 0 [] ≡ before ++ level_code f end 0 weights
+
+-- These bytes begin a level that is so many times one weight, if the rest of them begins one that is it so many times
+-- less.
+abbrev pub GoesOn : (bytes rest : List ℕ) → (w count left : ℕ) → Type 0
+GoesOn bytes rest w count left = (e : StoredEnd) → stored_level rest ≡ level_of e (copies w left) → stored_level bytes ≡ level_of e (copies w count)
 
 -- a level after others was compared to the plain one, and its weights were kept unless it is that one
 pub record IsLaterLevel (bytes plain kept : List ℕ) (found : LaterLevel) : Type 0 where

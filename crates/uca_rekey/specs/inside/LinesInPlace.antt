@@ -1,5 +1,5 @@
 -- Lines that lie in the buffer that they were read into.
-use Rattle.std.specs.Prelude.{◌≡◌, ℕ, ◌+◌, ◌^◌, ◌<◌, Bool, true, false, MatchBool, List, [], ◌∷◌, ◌++◌, length, take, drop, Option, None, Some, MatchOption, Result, Ok, Err, IfSome, IsSomeAnd, ⊤}
+use Rattle.std.specs.Prelude.{◌≡◌, ℕ, ◌+◌, ◌^◌, ◌<◌, Bool, true, false, MatchBool, List, [], ◌∷◌, ◌++◌, length, take, drop, Option, None, Some, option_map, MatchOption, Result, Ok, Err, IfSome, IsSomeAnd, ⊤}
 use Rattle.std.specs.Io.KnownBytes.{Consumes, IsAtEnd, prepend_known}
 use Rattle.std.specs.List.{flat_map}
 use Rattle.uca_weights.specs.Streams.{SourceState}
@@ -109,6 +109,11 @@ abbrev pub IsKeyCause : List ℕ → StoredKeyKind → Type 0
 IsKeyCause line kinds.NoKey = key_in line ≡ None
 IsKeyCause line kinds.Memory = ⊤
 IsKeyCause line _ = ⊥
+
+-- the text begins with the digits of these bytes, and the rest follows them
+pub record ReadsBytes (text bytes rest : List ℕ) : Type 0 where
+  pub key : key_in text ≡ option_map (λ more. bytes ++ more) (key_in rest)
+  pub tab : from_tab text ≡ from_tab rest
 
 -- what comes next in the field of a key
 abbrev pub IsNextByte : List ℕ → NextByte → Type 0

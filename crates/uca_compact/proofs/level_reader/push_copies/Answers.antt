@@ -1,14 +1,8 @@
-use Rattle.std.proofs.Common.{◌++◌, arith}
-use Rattle.uca_compact.specs.PlainLevels.{copies}
-use Rattle.uca_compact.proofs.LevelSteps.{copy_added, copies_added}
+use Rattle.std.proofs.Common.{vec_len, arith}
+use Rattle.uca_compact.proofs.LevelSteps.{copies_added}
 use Rattle.uca_compact.proofs.level_reader.push_copies.Goals as goal
-
-pub loop-left-preserved : goal.loop-left-preserved
-loop-left-preserved g c =
-    copy_added c.loop-left.weights.items c.push.new.self.items c.args.weight c.loop-left.left (c.args.weights.now.items ++ copies c.args.weight c.args.count)
-    c.loop-left-test.true c.in_ok-push.ensures.items c.loop-left.invariant
 
 pub returns : goal.returns
 returns g c =
-    copies_added c.loop-left.weights.items (c.args.weights.now.items ++ copies c.args.weight c.args.count) c.args.weight c.loop-left.left
-    (omega (arith, c.loop-left-test.false)) c.loop-left.invariant
+    let weights = c.args.weights.now in
+    copies_added weights.items c.resize.new.self.items c.args.weight c.args.count (vec_len weights) c.in-Some.len weights.ok.0 (omega (arith, c.in-Some.ensures)) c.in_ok-resize.ensures.items

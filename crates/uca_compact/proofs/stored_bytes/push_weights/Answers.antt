@@ -1,14 +1,11 @@
-use Rattle.std.proofs.Common.{◌++◌}
-use Rattle.uca_order.specs.Levels.{level_bytes}
-use Rattle.uca_compact.proofs.KeyBytes.{weight_written, weights_written}
+use Rattle.std.proofs.Common.{vec_len, ◌∙◌, arith}
+use Rattle.std.proofs.lemmas.List.{with_items_is}
+use Rattle.uca_compact.proofs.KeyBytes.{weights_added}
 use Rattle.uca_compact.proofs.stored_bytes.push_weights.Goals as goal
-
-pub loop-weight-preserved : goal.loop-weight-preserved
-loop-weight-preserved g c =
-    weight_written c.loop-weight.key.items c.push.new.self.items c.push-in-loop-weight.new.self.items c.args.weights.now (c.args.key.now.items ++ level_bytes c.args.weights.now) c.loop-weight.weight-index
-    c.loop-weight-test.true c.in_ok-push.ensures.items c.in_ok-push-2.ensures.items c.loop-weight.invariant
 
 pub returns : goal.returns
 returns g c =
-    weights_written c.loop-weight.key.items c.args.weights.now (c.args.key.now.items ++ level_bytes c.args.weights.now) c.loop-weight.weight-index
-    c.loop-weight-test.false c.loop-weight.invariant
+    let key = c.args.key.now in
+    with_items_is c.resize.new.self c.put_weights.new.bytes (c.put_weights.auto.bytes ∙ c.as_mut_slice.ensures.len)
+    ∙ weights_added key.items c.resize.new.self.items c.as_mut_slice.result.now c.put_weights.new.bytes c.args.weights.now c.len-start.result (vec_len key) _
+    key.ok.0 c.len-start.ensures (omega arith) c.in_ok-resize.ensures.items c.as_mut_slice.ensures.value c.put_weights.ensures

@@ -1,6 +1,0 @@
-use Rattle.std.proofs.Common.{◌≡◌, ◌++◌, drop}
-use Rattle.uca_order.specs.Levels.{level_bytes}
-use Rattle.uca_compact.proofs.stored_bytes.push_weights.Given as goal
-
-abbrev pub invariant-loop-weight : goal.invariant-loop-weight
-invariant-loop-weight g l = l.key.items ++ level_bytes (drop l.weight-index l.weights) ≡ l.fn.key.items ++ level_bytes l.weights
