@@ -273,6 +273,11 @@ class Kit:
         result, said = self.rt.must_fail(crate.made, edit, ["--jobs", "1"])
         return result in (self.rt.REFUSED, self.rt.AT_LIMIT), said.replace("NOT REFUSED", "NOT REJECTED")
 
+    def check_functions(self, crate, texts, paths):
+        """What a check of these functions alone prints of a copy of the crate, with these texts in place of its own."""
+        flags = [word for path in paths for word in ("--only", path)]
+        return self.rt.checked(crate.made, texts, ["--jobs", "1", *flags], None).stdout
+
     def files_of(self, folder):
         """The files of a crate that the prover reads."""
         return [*self.rtlib.files_of(folder)]
