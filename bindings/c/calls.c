@@ -764,6 +764,24 @@ static void check_upgrades(void)
     check_upgrade_threads();
 }
 
+static void check_texts(void)
+{
+    CHECK(!strcmp(uca_status_text(UCA_OK), "done"));
+    CHECK(!strcmp(uca_status_text(UCA_UTF8), "the text is not UTF-8"));
+    CHECK(!strcmp(uca_status_text(UCA_NO_KEY), "the bytes are no such key"));
+    CHECK(!strcmp(uca_status_text(UCA_NO_IMAGE), "a weight of the key has no image"));
+    CHECK(!strcmp(uca_status_text(UCA_NO_IMAGE + 1), "unknown"));
+    CHECK(!strcmp(uca_kind_text(UCA_NO_ERROR), "no error"));
+    CHECK(!strcmp(uca_kind_text(UCA_KIND_DUPLICATE_KEY), "DuplicateKey"));
+    CHECK(!strcmp(uca_kind_text(UCA_KIND_MEMORY), "Memory"));
+    CHECK(!strcmp(uca_kind_text(UCA_KIND_MAP_FIXED), "Map Fixed"));
+    CHECK(!strcmp(uca_kind_text(UINT32_MAX), "unknown"));
+    CHECK(!strcmp(uca_condition_text(UCA_OLD_ILL_FORMED), "OldIllFormed"));
+    CHECK(!strcmp(uca_condition_text(UCA_ROW_CHANGED), "RowChanged"));
+    CHECK(!strcmp(uca_condition_text(UCA_SETTING_CHANGED), "SettingChanged"));
+    CHECK(!strcmp(uca_condition_text(UCA_SETTING_CHANGED + 1), "unknown"));
+}
+
 int main(void)
 {
     uca_collator it = UCA_CLOSED_COLLATOR;
@@ -786,6 +804,7 @@ int main(void)
     check_ranges();
     check_compact_fingerprint();
     check_upgrades();
+    check_texts();
     printf("%d passed, %d failed\n", passed, failed);
     return failed != 0;
 }

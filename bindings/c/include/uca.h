@@ -354,6 +354,53 @@ uint32_t uca_upgrade_fingerprints(uca_upgrade *upgrade, uint8_t *old_out, uint8_
 /* Gives back all memory of an upgrade, which is closed then. A closed one stays so. */
 void uca_close_upgrade(uca_upgrade *upgrade);
 
+/* ---- Texts of numbers. They are in this header, so nothing is proved of them. A number of another kind is "unknown". */
+
+/* What a uca_status says, for a line of a log. */
+static inline const char *uca_status_text(uint32_t status)
+{
+    static const char *const texts[] = {
+        "done",
+        "closed",
+        "already open",
+        "no such weighting, depth, range or end",
+        "the table is rejected",
+        "the data file is rejected",
+        "out of memory",
+        "the text is not UTF-8",
+        "the text has more than 1,048,576 code points in Normalization Form D",
+        "the text has more than 64 non-starters in a row in Normalization Form D",
+        "there is too little room",
+        "the book is rejected",
+        "the collator has no book",
+        "the bytes are no such key",
+        "a file of the upgrade is rejected",
+        "the audit rejects the upgrade",
+        "a weight of the key has no image",
+    };
+    return status < sizeof texts / sizeof *texts ? texts[status] : "unknown";
+}
+
+/* The name of a uca_kind, as `uca` prints it after the line: `line 21: DuplicateKey`. */
+static inline const char *uca_kind_text(uint32_t kind)
+{
+    static const char *const texts[] = {
+        "no error", "Line", "Order", "CodePoint", "Weight", "DuplicateKey", "Range", "Limit", "Read", "Memory",
+        "Map Empty", "Map NotRising", "Map OutOfRange", "Map Fixed",
+    };
+    return kind < sizeof texts / sizeof *texts ? texts[kind] : "unknown";
+}
+
+/* The name of a uca_condition, as `uca audit-changes` prints it: `refused 5 RowChanged old row 3`. */
+static inline const char *uca_condition_text(uint32_t condition)
+{
+    static const char *const texts[] = {
+        "accepted", "OldIllFormed", "NewIllFormed", "RangeChanged", "Uncovered",
+        "RowChanged", "RowMissing", "RowExtra", "PointChanged", "SettingChanged",
+    };
+    return condition < sizeof texts / sizeof *texts ? texts[condition] : "unknown";
+}
+
 #ifdef __cplusplus
 }
 #endif
