@@ -11,8 +11,7 @@ names the test that rejects it. This script tries those only if they are named, 
 
 The crates and the libraries below them are proved first, if they have changed. Then edits of other functions of a crate are tried together, by one check of
 these functions alone: each must not be proved, for a reason of its own. So one check tries four edits or more. An edit that this does not settle is tried by
-a check of its function alone, and an edit that changes no function, or is proved so, by a check of the whole crate. With --each no edits are tried
-together. As many checks run at once as there are processors and memory for.
+a check of its function alone. If that is proved, or if the edit changes no function, the whole crate is checked. With --each no edits are tried together. As many checks run at once as there are processors and memory for.
 """
 import os
 import re
