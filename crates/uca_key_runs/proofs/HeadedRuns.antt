@@ -14,7 +14,6 @@ use Rattle.uca_values.specs.Content.{Properties}
 use Rattle.uca_fingerprint.specs.Fingerprints.{compact_fingerprint_text, fingerprint_text}
 use Rattle.uca_fingerprint.specs.KeyHeaders.{compact_header, key_header}
 use Rattle.uca_books.specs.Books.{BookContent}
-use Rattle.uca_books.specs.BookTexts.{book_text}
 use Rattle.uca_lines.specs.Lines.{ended, lines_of}
 use Rattle.uca_run_parts.specs.declared.faults.RunFault.{RunFault}
 use Rattle.uca_run_parts.specs.declared.faults.RunFault.TheVariants.{Input, Memory, Write}
@@ -22,11 +21,11 @@ use Rattle.uca_run_parts.proofs.FilesLemmas.{stays}
 use Rattle.uca_run_parts.specs.EachLine.{WritesEach, ended_before_input}
 use Rattle.uca_run_parts.specs.Input.{clean_lines}
 use Rattle.uca_run_parts.specs.Runs.{FailsToWrite, ended_by_output, is_input_read}
-use Rattle.uca_fingerprint_runs.specs.SummedFiles.{SummedContent}
+use Rattle.uca_fingerprint_runs.specs.SummedFiles.{BookedContent, SummedContent}
 use Rattle.uca_order.specs.Keyings.{settings_by, Keying, keying}
 use Rattle.uca_key_runs.specs.inside.HeadedParts.{ended_after}
 use Rattle.uca_key_runs.specs.HeadedRun.{RunsHeaded, WritesHeaded, header_under}
-use Rattle.uca_key_runs.specs.HeadedCompactRun.{RunsHeadedCompact, SummedCompact, compact_header_under}
+use Rattle.uca_key_runs.specs.HeadedCompactRun.{RunsHeadedCompact, compact_header_under}
 
 -- ---- Counts
 
@@ -125,7 +124,7 @@ header_made asked depth settings files sum header chosen is made =
 
 -- so did one of compact keys
 pub headed_compact_under : {A : Type 0} (bytes_of : BookContent → Keying → List ℕ → List ℕ) (asked : Option Weighting) (depth : Depth) (input input_new : SourceState)
-    (out out_new : SinkState) (result : Result A RunFault) (content : SummedCompact) → ended_before_input result ≡ false
+    (out out_new : SinkState) (result : Result A RunFault) (content : BookedContent) → ended_before_input result ≡ false
     → IfSome input.remaining (λ bytes. WritesHeaded (compact_header_under asked depth content) content.files.properties
     (bytes_of content.book (keying asked depth content.files.table content.files.properties)) bytes input_new.remaining out.contents out_new.contents result)
     → RunsHeadedCompact bytes_of asked depth input input_new out out_new result content
@@ -134,11 +133,11 @@ headed_compact_under bytes_of asked depth input input_new out out_new (Err Memor
 headed_compact_under bytes_of asked depth input input_new out out_new (Err _) content lines runs = runs
 
 -- the header that is made of the sums of the files and of the book
-pub compact_header_made : (asked : Option Weighting) (depth : Depth) (settings : Settings) (content : SummedCompact) (keys_sum book_sum sum header : List ℕ)
+pub compact_header_made : (asked : Option Weighting) (depth : Depth) (settings : Settings) (content : BookedContent) (keys_sum sum header : List ℕ)
     → settings ≡ settings_by asked content.files.table.header.setting depth
-    → keys_sum ≡ sha256 (fingerprint_text settings content.files.table_sum content.files.data_sum) → book_sum ≡ sha256 (book_text content.book)
-    → sum ≡ sha256 (compact_fingerprint_text keys_sum book_sum) → header ≡ compact_header settings sum ++ 10 ∷ []
+    → keys_sum ≡ sha256 (fingerprint_text settings content.files.table_sum content.files.data_sum)
+    → sum ≡ sha256 (compact_fingerprint_text keys_sum content.book_sum) → header ≡ compact_header settings sum ++ 10 ∷ []
     → header ≡ compact_header_under asked depth content
-compact_header_made asked depth settings content keys_sum book_sum sum header chosen keys book is made =
-    made ∙ ap (λ s. ended (compact_header settings s)) (is ∙ ap₂ (λ k b. sha256 (compact_fingerprint_text k b)) keys book)
-    ∙ ap (λ s. ended (compact_header s (sha256 (compact_fingerprint_text (sha256 (fingerprint_text s content.files.table_sum content.files.data_sum)) (sha256 (book_text content.book)))))) chosen
+compact_header_made asked depth settings content keys_sum sum header chosen keys is made =
+    made ∙ ap (λ s. ended (compact_header settings s)) (is ∙ ap (λ k. sha256 (compact_fingerprint_text k content.book_sum)) keys)
+    ∙ ap (λ s. ended (compact_header s (sha256 (compact_fingerprint_text (sha256 (fingerprint_text s content.files.table_sum content.files.data_sum)) content.book_sum)))) chosen

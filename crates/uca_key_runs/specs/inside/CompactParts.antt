@@ -10,8 +10,9 @@ use Rattle.uca_run_parts.specs.Files.{table_with}
 use Rattle.uca_key_runs.specs.Keys.{IsCollation}
 use Rattle.uca_run_parts.specs.declared.faults.RunFault.{RunFault}
 use Rattle.uca_run_parts.specs.EachLine.{PrintsEach}
-use Rattle.uca_key_runs.specs.CompactRun.{CompactContent, compact_roles}
-use Rattle.uca_key_runs.specs.HeadedCompactRun.{RunsHeadedCompact, SummedCompact, compact_header_under, summed_compact_files}
+use Rattle.uca_fingerprint_runs.specs.SummedFiles.{BookedContent, booked_files, booked_roles}
+use Rattle.uca_key_runs.specs.CompactRun.{CompactContent}
+use Rattle.uca_key_runs.specs.HeadedCompactRun.{RunsHeadedCompact, compact_header_under}
 use Rattle.uca_key_runs.specs.declared.keys.KeyForm.{KeyForm}
 use Rattle.uca_key_runs.specs.inside.KeyForms.{line_as}
 
@@ -21,7 +22,7 @@ IsCompactBy asked depth read settings book files = IsCollation asked depth read 
 
 -- and so is the header of such keys, where the files were summed
 pub record IsHeadedCompact (asked : Option Weighting) (depth : Depth) (read : Collation) (settings : Settings) (its_book : BookContent) (its_header : List ℕ)
-    (content : SummedCompact) : Type 0 where
+    (content : BookedContent) : Type 0 where
   pub collation : IsCollation asked depth read settings (table_with content.files.table content.files.properties)
   pub book : its_book ≡ content.book
   pub header : its_header ≡ compact_header_under asked depth content
@@ -30,5 +31,5 @@ pub record IsHeadedCompact (asked : Option Weighting) (depth : Depth) (read : Co
 abbrev pub PrintsHeadedCompactAs : {A : Type 0} → KeyForm → Option Weighting → Depth → List SourceState → List SourceState → SourceState → SourceState
     → SinkState → SinkState → Result A RunFault → Type 0
 PrintsHeadedCompactAs form asked depth olds news input input_new out out_new result =
-    PrintsEach summed_compact_files compact_roles (RunsHeadedCompact (λ book. line_as form (Some book)) asked depth input input_new out out_new result)
+    PrintsEach booked_files booked_roles (RunsHeadedCompact (λ book. line_as form (Some book)) asked depth input input_new out out_new result)
     olds news input input_new out out_new result

@@ -10,8 +10,8 @@ use Rattle.uca_order.specs.Keyings.{Keying, keying}
 use Rattle.uca_run_parts.specs.declared.faults.RunFault.TheVariants.{Memory}
 use Rattle.uca_run_parts.specs.Files.{table_with}
 use Rattle.uca_run_parts.proofs.WholeRuns.{ended_before, ended_by_lines}
-use Rattle.uca_key_runs.specs.CompactRun.{compact_roles}
-use Rattle.uca_key_runs.specs.HeadedCompactRun.{RunsHeadedCompact, compact_header_under, summed_compact_files}
+use Rattle.uca_fingerprint_runs.specs.SummedFiles.{booked_files, booked_roles}
+use Rattle.uca_key_runs.specs.HeadedCompactRun.{RunsHeadedCompact, compact_header_under}
 use Rattle.uca_key_runs.specs.HeadedRun.{WritesHeaded}
 use Rattle.uca_key_runs.specs.inside.CompactParts.{IsHeadedCompact}
 use Rattle.uca_key_runs.specs.inside.KeyForms.{line_as}
@@ -24,7 +24,7 @@ returns-in-Err g c =
     let fault = c.in-Err.fault in
     let bytes_of = λ (book : BookContent). line_as c.args.form (Some book) in
     let runs = RunsHeadedCompact {A = ⊤} bytes_of c.args.weighting c.args.depth c.args.input.now c.args.input.now c.args.out.now c.args.out.now in
-    ended_before summed_compact_files compact_roles (λ content. fault ≡ Memory) (runs (Err fault))
+    ended_before booked_files booked_roles (λ content. fault ≡ Memory) (runs (Err fault))
     (c.args.table.now ∷ c.args.properties.now ∷ c.args.book.now ∷ []) (c.read_headed.new.table ∷ c.read_headed.new.properties ∷ c.read_headed.new.book ∷ [])
     ⊤ ⊤ c.args.input.now c.args.out.now fault
     (λ content is. subst (λ f. runs (Err f) content) (sym is) tt)
@@ -42,7 +42,7 @@ returns-in-Ok g c =
     let ends = c.print_headed-end in
     let first = c.as_bytes-first.result.now in
     let bytes_of = λ (book : BookContent). line_as c.args.form (Some book) in
-    ended_by_lines summed_compact_files compact_roles (λ content. IsHeadedCompact c.args.weighting c.args.depth made read.settings c.in-Ok.book c.in-Ok.header content)
+    ended_by_lines booked_files booked_roles (λ content. IsHeadedCompact c.args.weighting c.args.depth made read.settings c.in-Ok.book c.in-Ok.header content)
     (RunsHeadedCompact bytes_of c.args.weighting c.args.depth input ends.new.input out ends.new.out ends.result)
     (c.args.table.now ∷ c.args.properties.now ∷ c.args.book.now ∷ []) (c.read_headed.new.table ∷ c.read_headed.new.properties ∷ c.read_headed.new.book ∷ []) {B = ⊤}
     input ends.new.input out ends.new.out tt ends.result ends.ensures.of_lines
