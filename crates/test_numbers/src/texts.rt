@@ -1,5 +1,8 @@
 //! Keys and comparisons of texts whose numbers are ordered by value.
 
+ghost use Rattle.uca_elements.specs.Collations.{collation_of};
+ghost use Rattle.uca_plain.specs.PointCache.{AreTrueEntries};
+
 use std::alloc::{AllocError, Global};
 use std::cmp::Ordering;
 use std::cmp::Ordering::{Equal, Greater, Less};
@@ -74,6 +77,9 @@ const KEYS: [Case; 7] = [
     ),
 ];
 
+/// The key of `0`, which is `10` by value.
+const ZERO: &[u8] = b"\x1C\x3E\x1C\x3D\0\0\0\x20\0\x20\0\0\0\x02\0\x02";
+
 /// Two texts, and how they compare: without an identical level, and with one.
 type Pair = (&'static str, &'static str, (Ordering, u8), (Ordering, u8));
 
@@ -117,66 +123,97 @@ fn key_of(
     Ok(key)
 }
 
+fn check_written<L: Lookup>(
+    keys: &mut NumberKeys,
+    collator: &Collator<L>,
+    text: &str,
+    wanted: &[u8],
+) -> Result<(), Fail>
+    requires { AreTrueEntries (collation_of L.content collator.now) keys.old.known }
+    ensures { AreTrueEntries (collation_of L.content collator.now) keys.new.known }
+{
+    keys.write(collator, text)?;
+    same_bytes(keys.bytes(), wanted, text)
+}
+
 fn check_key<L: Lookup>(
     alloc: Global,
+    keys: &mut NumberKeys,
     collator: &Collator<L>,
     depth: Depth,
-    (text, weights, points): Case,
-) -> Result<(), Fail> {
-    let mut keys = NumberKeys::new(alloc, alloc, settings_at(depth));
-    keys.write(collator, text)?;
+    case: Case,
+) -> Result<(), Fail>
+    requires { AreTrueEntries (collation_of L.content collator.now) keys.old.known }
+    ensures { AreTrueEntries (collation_of L.content collator.now) keys.new.known }
+{
+    let (text, weights, points) = case;
     let wanted = key_of(alloc, depth, weights, points)?;
-    same_bytes(keys.bytes(), &wanted, text)?;
-    // and once more, over the key of another text
-    keys.write(collator, "b23")?;
-    keys.write(collator, text)?;
-    same_bytes(keys.bytes(), &wanted, text)
+    check_written(keys, collator, text, &wanted)
+}
+
+/// The keys of all cases, each over the one before.
+fn check_keys<L: Lookup>(alloc: Global, collator: &Collator<L>, depth: Depth) -> Result<(), Fail> {
+    let mut keys = NumberKeys::new(alloc, alloc, settings_at(depth));
+    for case in KEYS {
+        check_key(alloc, &mut keys, collator, depth, case)?;
+    }
+    Ok(())
 }
 
 fn check_pair<L: Lookup>(
-    alloc: Global,
+    comparison: &mut NumberComparison,
     collator: &Collator<L>,
-    (left, right, by_weights, identical): Pair,
-) -> Result<(), Fail> {
-    let mut comparison = NumberComparison::new(alloc, alloc);
+    pair: Pair,
+) -> Result<(), Fail>
+    requires { AreTrueEntries (collation_of L.content collator.now) comparison.old.plain.points.entries.items }
+    ensures { AreTrueEntries (collation_of L.content collator.now) comparison.new.plain.points.entries.items }
+{
+    let (left, right, by_weights, identical) = pair;
     let found = comparison.compare(collator, settings_at(Weights), left, right)?;
     holds(found == by_weights, left)?;
     let found = comparison.compare(collator, settings_at(Identical), left, right)?;
     holds(found == identical, left)
 }
 
-/// In `1` and 65 accents a run is too long. By value the text begins with `11`, so the run begins at 2. As many zeros as no text
-/// may have are one zero by value.
-fn check_limits<L: Lookup>(alloc: Global, collator: &Collator<L>) -> Result<(), Fail> {
+fn check_pairs<L: Lookup>(alloc: Global, collator: &Collator<L>) -> Result<(), Fail> {
+    let mut comparison = NumberComparison::new(alloc, alloc);
+    for pair in PAIRS {
+        check_pair(&mut comparison, collator, pair)?;
+    }
+    Ok(())
+}
+
+/// In `1` and 65 accents a run is too long. By value the text begins with `11`, so the run begins at 2.
+fn check_long_run<L: Lookup>(alloc: Global, collator: &Collator<L>) -> Result<(), Fail> {
     let marks = repeated(alloc, "\u{301}", 65)?;
     let run = format!(in alloc; "1{marks}")?;
     let mut keys = NumberKeys::new(alloc, alloc, settings_at(Weights));
     let found = keys.write(collator, &run);
-    holds(found == Err(TextFault::LongRun(2)), "a run of 65 accents")?;
-    let zeros = repeated(alloc, "0", 1_048_577)?;
-    keys.write(collator, &zeros)?;
-    let wanted = key_of(
-        alloc,
-        Weights,
-        &[0x1C3E, 0x1C3D, 0, 0x20, 0x20, 0, 2, 2],
-        "",
-    )?;
-    same_bytes(keys.bytes(), &wanted, "many zeros")?;
+    holds(found == Err(TextFault::LongRun(2)), "a run of 65 accents")
+}
+
+fn check_right_text<L: Lookup>(alloc: Global, collator: &Collator<L>) -> Result<(), Fail> {
+    let marks = repeated(alloc, "\u{301}", 65)?;
     let mut comparison = NumberComparison::new(alloc, alloc);
-    let found = comparison.compare(collator, settings_at(Weights), "1", &run);
-    let wanted = Err(PairFault::Right(TextFault::LongRun(2)));
+    let found = comparison.compare(collator, settings_at(Weights), "1", &marks);
+    let wanted = Err(PairFault::Right(TextFault::LongRun(0)));
     holds(found == wanted, "a run of 65 accents on the right")
 }
 
+/// More zeros than a text may have code points are one zero by value.
+fn check_zeros<L: Lookup>(alloc: Global, collator: &Collator<L>) -> Result<(), Fail> {
+    let zeros = repeated(alloc, "0", 1_048_577)?;
+    let mut keys = NumberKeys::new(alloc, alloc, settings_at(Weights));
+    check_written(&mut keys, collator, &zeros, ZERO)
+}
+
 fn check_all<L: Lookup>(alloc: Global, collator: &Collator<L>) -> Result<(), Fail> {
-    for case in KEYS {
-        check_key(alloc, collator, Weights, case)?;
-        check_key(alloc, collator, Identical, case)?;
-    }
-    for pair in PAIRS {
-        check_pair(alloc, collator, pair)?;
-    }
-    check_limits(alloc, collator)
+    check_keys(alloc, collator, Weights)?;
+    check_keys(alloc, collator, Identical)?;
+    check_pairs(alloc, collator)?;
+    check_long_run(alloc, collator)?;
+    check_right_text(alloc, collator)?;
+    check_zeros(alloc, collator)
 }
 
 #[test]
