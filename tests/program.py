@@ -13,6 +13,9 @@ UCA = os.environ.get("UCA") or f"{TOP}/crates/uca/out/uca"
 # No run takes longer, in seconds.
 LIMIT = 120
 
+# From so many bytes on an output that is not what was wanted is not printed.
+LONG_OUTPUT = 10_000
+
 # Letters, accents and a variable space, in canonical text.
 TABLE = """@version 1
 @implicitweights 17000..18AFF; FB00
@@ -99,4 +102,9 @@ class ProgramTest(unittest.TestCase):
         wanted = Ended(status, as_bytes(out), as_bytes(err))
         with self.subTest(arguments=words, given=given[:80]):
             found = self.run_uca(*words, given=given)
-            self.assertEqual(found, wanted)
+            if len(found.out) + len(wanted.out) < LONG_OUTPUT:
+                self.assertEqual(found, wanted)
+            elif found != wanted:
+                pairs = zip(found.out.split(b"\n"), wanted.out.split(b"\n"))
+                line = next((number for number, (one, other) in enumerate(pairs, 1) if one != other), 0)
+                self.fail(f"status {found.status}, {found.err[:200]}, and {len(found.out)} bytes in place of {len(wanted.out)}: another line {line}")

@@ -1,15 +1,16 @@
 //! Letters and their keys.
 
 use std::alloc::{AllocError, Global};
+use std::cmp::Ordering;
 use std::test::Fail;
 use test_kit::{DATA, TABLE, same_bytes};
 use uca_owned::OwnedCollator;
 use uca_weights::{Depth, Weighting};
 
 /// A collator of a table, under which keys have three levels.
-pub fn opened(alloc: Global, table: &[u8], case: &str) -> Result<OwnedCollator, Fail> {
+pub fn opened(alloc: Global, table: &[u8], data: &[u8], case: &str) -> Result<OwnedCollator, Fail> {
     let asked = Some(Weighting::NonIgnorable);
-    match OwnedCollator::open(alloc, table, DATA.as_bytes(), asked, Depth::Weights) {
+    match OwnedCollator::open(alloc, table, data, asked, Depth::Weights) {
         Ok(collator) => Ok(collator),
         Err(_) => Err(Fail::new(case)),
     }
@@ -56,24 +57,34 @@ pub fn letter(alloc: Global, code: u32) -> Result<String, Fail> {
     Ok(text)
 }
 
-/// A letter without a row has its implicit weights, and comes after `a`.
-fn check_letter(alloc: Global, collator: &mut OwnedCollator, code: u32) -> Result<(), Fail> {
-    let case = format!(in alloc; "{code:04X}")?;
-    let text = letter(alloc, code)?;
-    let wanted = letter_key(alloc, &implicit(code))?;
-    check_key(collator, text.as_bytes(), &wanted, &case)?;
-    match collator.compare(text.as_bytes(), b"a") {
-        Ok((std::cmp::Ordering::Greater, 1)) => Ok(()),
-        _ => Err(Fail::new(case.as_str())),
+/// A text is equal to itself.
+fn check_equal(collator: &mut OwnedCollator, text: &[u8], case: &str) -> Result<(), Fail> {
+    match collator.compare(text, text) {
+        Ok((Ordering::Equal, 0)) => Ok(()),
+        _ => Err(Fail::new(case)),
     }
 }
 
-/// One letter of each 256 code points, from plane 3 on. A collator keeps what it knows of code points by such pages.
-#[test]
-fn letters_of_all_pages(rt: HostRuntime) -> Result<(), Fail> {
-    let mut collator = opened(rt.alloc(), TABLE.as_bytes(), "the table")?;
+/// A letter without a row has its implicit weights.
+fn check_letter(alloc: Global, collator: &mut OwnedCollator, code: u32) -> Result<(), Fail> {
+    let text = letter(alloc, code)?;
+    let wanted = letter_key(alloc, &implicit(code))?;
+    check_key(collator, text.as_bytes(), &wanted, text.as_str())?;
+    check_equal(collator, text.as_bytes(), text.as_str())
+}
+
+/// One letter of each 256 code points, from plane 3 on.
+fn check_pages(alloc: Global, collator: &mut OwnedCollator) -> Result<(), Fail> {
     for page in 0x300..0x1100u32 {
-        check_letter(rt.alloc(), &mut collator, page * 256 + 1)?;
+        check_letter(alloc, collator, page * 256 + 1)?;
     }
     Ok(())
+}
+
+/// A collator keeps what it knows of code points by such pages.
+#[test]
+fn letters_of_all_pages(rt: HostRuntime) -> Result<(), Fail> {
+    let alloc = rt.alloc();
+    let mut collator = opened(alloc, TABLE.as_bytes(), DATA.as_bytes(), "the table")?;
+    check_pages(alloc, &mut collator)
 }

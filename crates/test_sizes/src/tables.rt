@@ -62,34 +62,48 @@ fn check_letters(
 }
 
 /// A table and a data file that were read make a collator.
-fn check_made(alloc: Global, table: &[u8]) -> Result<(), Fail> {
+fn check_made(alloc: Global, table: &[u8], data: &[u8], case: &str) -> Result<(), Fail> {
     let table = table_of(alloc, &mut Source::new(table))?;
-    let data = data_of(alloc, &mut Source::new(DATA.as_bytes()))?;
-    drop(OwnedCollator::new(alloc, table, data, None, Depth::Weights)?);
-    Ok(())
+    let data = data_of(alloc, &mut Source::new(data))?;
+    holds(
+        OwnedCollator::new(alloc, table, data, None, Depth::Weights).is_ok(),
+        case,
+    )
+}
+
+/// A collator of a table has the keys of its letters.
+fn check_opened(
+    alloc: Global,
+    table: &[u8],
+    data: &[u8],
+    count: usize,
+    case: &str,
+) -> Result<(), Fail> {
+    let mut collator = opened(alloc, table, data, case)?;
+    check_letters(alloc, &mut collator, u32::try_from(count)?, case)
 }
 
 /// The beginning of the longest table that has so many rows.
-fn check_rows(alloc: Global, longest: &str, count: usize) -> Result<(), Fail> {
+fn check_rows(alloc: Global, longest: &[u8], data: &[u8], count: usize) -> Result<(), Fail> {
     let case = format!(in alloc; "{count} rows")?;
     let length = HEAD.len().saturating_add(count.saturating_mul(ROW));
-    let table = longest
-        .as_bytes()
-        .get(..length)
-        .ok_or("the table is too short")?;
-    let mut collator = opened(alloc, table, &case)?;
-    check_letters(alloc, &mut collator, u32::try_from(count)?, &case)?;
-    drop(collator);
-    let found = fingerprint_of(alloc, table, DATA.as_bytes(), None, Depth::Weights);
+    let table = longest.get(..length).ok_or("the table is too short")?;
+    check_opened(alloc, table, data, count, &case)?;
+    let found = fingerprint_of(alloc, table, data, None, Depth::Weights);
     holds(found.is_ok(), &case)?;
-    check_made(alloc, table)
+    check_made(alloc, table, data, &case)
+}
+
+/// All numbers of rows.
+fn check_tables(alloc: Global, data: &[u8]) -> Result<(), Fail> {
+    let longest = longest_table(alloc)?;
+    for count in &sizes(alloc)? {
+        check_rows(alloc, longest.as_bytes(), data, *count)?;
+    }
+    Ok(())
 }
 
 #[test]
 fn numbers_of_rows(rt: HostRuntime) -> Result<(), Fail> {
-    let longest = longest_table(rt.alloc())?;
-    for count in &sizes(rt.alloc())? {
-        check_rows(rt.alloc(), &longest, *count)?;
-    }
-    Ok(())
+    check_tables(rt.alloc(), DATA.as_bytes())
 }

@@ -5,7 +5,7 @@ use crate::sizes::sizes;
 use std::alloc::{AllocError, Global};
 use std::cmp::Ordering;
 use std::test::Fail;
-use test_kit::{TABLE, holds, joined, repeated, same_bytes};
+use test_kit::{DATA, TABLE, holds, joined, repeated, same_bytes};
 use uca_books::Book;
 use uca_compact::KeyCompacter;
 use uca_lookups::{
@@ -148,12 +148,17 @@ fn check_length(
 }
 
 /// A part in each number.
-fn check_lengths(alloc: Global, part: &Part) -> Result<(), Fail> {
-    let mut collator = opened(alloc, TABLE.as_bytes(), "the table")?;
+fn check_counts(alloc: Global, collator: &mut OwnedCollator, part: &Part) -> Result<(), Fail> {
     for count in &sizes(alloc)? {
-        check_length(alloc, &mut collator, part, *count)?;
+        check_length(alloc, collator, part, *count)?;
     }
     Ok(())
+}
+
+/// A part in each number, by a collator of its own.
+fn check_lengths(alloc: Global, part: &Part) -> Result<(), Fail> {
+    let mut collator = opened(alloc, TABLE.as_bytes(), DATA.as_bytes(), "the table")?;
+    check_counts(alloc, &mut collator, part)
 }
 
 #[test]
