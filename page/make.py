@@ -195,7 +195,7 @@ def main():
     parser = argparse.ArgumentParser(description=__doc__.split("\n")[0], epilog="docs/PAGE.md says more.")
     parser.add_argument("part", nargs="?", choices=["all", "modules", "files", "languages"], default="all")
     parser.add_argument("tags", nargs="*", metavar="TAG", help="the languages that are made, such as sv")
-    parser.add_argument("--tables", action="store_true", help="a table of each language, and one with upper case first, too (a megabyte or two each)")
+    parser.add_argument("--tables", action="store_true", help="a table of each language, and one with upper case first, too (one to five megabytes each)")
     parser.add_argument("--jobs", type=int, default=1, help="how many languages are made side by side")
     options = parser.parse_args()
     os.makedirs(MADE, exist_ok=True)
