@@ -1,7 +1,7 @@
 #!/usr/bin/env python3
 """Makes what the page needs, in page/made: the modules, Unicode's files, and the rules and tables of languages.
 
-    page/make.py                      all of it. What is there already and is not older than its sources is kept
+    page/make.py                      all of it, anew
     page/make.py modules              the WebAssembly modules alone; also `files` (Unicode's files), and `languages`
     page/make.py languages sv de zh   these languages alone; --jobs N makes N of them side by side
 
