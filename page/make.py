@@ -1,7 +1,7 @@
 #!/usr/bin/env python3
 """Makes what the page needs, in page/made: the modules, Unicode's files, and the rules and tables of languages.
 
-    page/make.py                      all of it. What is there already and is not older than its sources is kept
+    page/make.py                      all of it, anew
     page/make.py modules              the WebAssembly modules alone; also `files` (Unicode's files), and `languages`
     page/make.py languages sv de zh   these languages alone; --jobs N makes N of them side by side
 
@@ -195,7 +195,7 @@ def main():
     parser = argparse.ArgumentParser(description=__doc__.split("\n")[0], epilog="docs/PAGE.md says more.")
     parser.add_argument("part", nargs="?", choices=["all", "modules", "files", "languages"], default="all")
     parser.add_argument("tags", nargs="*", metavar="TAG", help="the languages that are made, such as sv")
-    parser.add_argument("--tables", action="store_true", help="a table of each language, and one with upper case first, too (two megabytes each)")
+    parser.add_argument("--tables", action="store_true", help="a table of each language, and one with upper case first, too (one to five megabytes each)")
     parser.add_argument("--jobs", type=int, default=1, help="how many languages are made side by side")
     options = parser.parse_args()
     os.makedirs(MADE, exist_ok=True)
