@@ -278,6 +278,11 @@ TABLE, TAILORED, DATA = (f"{EXAMPLES}/{it}.txt" for it in ("table", "tailored", 
 BOOK = f"{EXAMPLES}/books/general.book"
 USED, OTHER = (fingerprint_of(it, DATA) for it in (TABLE, TAILORED))
 COMPACT = fingerprint_of(TABLE, DATA, book=BOOK)
+# The next edition: `e` is a letter, `ch` is none any more, and each of a to d has a weight more.
+NEW_TABLE, NEW_DATA, CHANGES, CERTIFICATE = (f"{EXAMPLES}/editions/{it}.txt" for it in ("table", "data", "changes", "certificate"))
+EDITIONS = [TABLE, DATA, NEW_TABLE, NEW_DATA, CHANGES, CERTIFICATE]
+NEXT = fingerprint_of(NEW_TABLE, NEW_DATA)
+NEXT_COMPACT = fingerprint_of(NEW_TABLE, NEW_DATA, book=BOOK)
 # The letters a and b have cells of one weight, and so has the space.
 SMALL_BOOK = "@book 1\n1 1C47\n1 1C48\n1 1C60\n1 1C61\n1 2000\n4 0209\n4 020A\n"
 
@@ -321,6 +326,11 @@ def sqlite_fails(work, error, *statements, load=sqlite_load(), database=":memory
     found = sqlite_says(work, *statements, load=load, database=database, fails=True)
     if error not in found:
         raise AssertionError(f"{load} {statements!r:.200}: {found}\n  in place of {error}")
+
+
+def quoted(text):
+    """The text in a statement of SQL."""
+    return "'" + text.replace("'", "''") + "'"
 
 
 SQLITE = [
@@ -548,7 +558,7 @@ def sqlite_lookups(work):
                 raise AssertionError(f"a query without its index: {query}")
 
 
-NEW_TABLE = f"""
+NEW_WORDS = f"""
 DROP INDEX IF EXISTS i;
 CREATE TABLE new_words(word TEXT COLLATE uca_{OTHER}, key BLOB AS (uca_key(word, '{OTHER}')) STORED UNIQUE);
 INSERT INTO new_words(word) SELECT word FROM words;
@@ -573,7 +583,7 @@ def sqlite_schemas(work):
             sqlite_fails(work, error, dump, load=sqlite_load(TAILORED), database=restored)
             os.remove(restored)
         same(sqlite_says(work, dump, IN_ORDER, "PRAGMA integrity_check;", database=restored), "b bh bz\nok\n", f"a dump of {made}")
-        same(sqlite_says(work, NEW_TABLE, load=sqlite_load(TAILORED), database=database), "b bz bh\nok\n", f"{made}: a new table")
+        same(sqlite_says(work, NEW_WORDS, load=sqlite_load(TAILORED), database=database), "b bz bh\nok\n", f"{made}: a new table")
 
 
 def sqlite_restore(work):
@@ -621,10 +631,220 @@ def sqlite_memory(work):
     """Each allocation fails in turn."""
     sqlite_says(work, "SELECT 1;")
     run(["gcc", "-O2", "-std=c11", "-Wall", "-Wextra", "-Werror", "-o", f"{work}/memory", f"{TOP}/bindings/sqlite/memory.c", "-lsqlite3", "-ldl"])
-    run([f"{work}/memory", f"{TOP}/bindings/sqlite/out/uca", TABLE, DATA, USED, BOOK, COMPACT])
+    run([f"{work}/memory", f"{TOP}/bindings/sqlite/out/uca", TABLE, DATA, USED, BOOK, COMPACT, f"{EXAMPLES}/editions", NEXT])
+
+
+# Texts that the next edition does not affect, and their whole keys by both editions, under shifted: hexadecimal digits.
+MENDED = [
+    ("", "000000000000", "000000000000"),
+    ("a", "1C4700000020000000020000FFFF", "1C4800000020000000020000FFFF"),
+    ("Á", "1C470000002000240000000800020000FFFFFFFF", "1C480000002000240000000800020000FFFFFFFF"),
+    ("b a", "1C601C470000002000200000000200020000FFFF0209FFFF", "1C611C480000002000200000000200020000FFFF0209FFFF"),
+    ("hc", "1D181C7A0000002000200000000200020000FFFFFFFF", "1D181C7B0000002000200000000200020000FFFFFFFF"),
+    ("一", "FB40CE0000000020000000020000FFFFFFFF", "FB40CE0000000020000000020000FFFFFFFF"),
+]
+AFFECTED = ["ch", "c-h", "bach", "e", "bed", "é", "\U0001f600", "a\u0324", "\U00021000"]
+
+
+def quoted_list(texts, more=()):
+    """Texts, as arguments of a function of SQL."""
+    return ", ".join([*map(quoted, texts), *more])
+
+
+def sqlite_upgrade(files=EDITIONS, more=()):
+    """Statements that load both editions and the upgrade, and print nothing."""
+    loads = sqlite_load() + sqlite_load(NEW_TABLE, NEW_DATA) + sqlite_load(book=BOOK) + sqlite_load(NEW_TABLE, NEW_DATA, book=BOOK)
+    return f"{loads} SELECT 0 WHERE uca_load_upgrade({quoted_list(files, more)}) IS NULL;"
+
+
+def sqlite_upgrade_loads(work):
+    """uca_load_upgrade returns the new fingerprint, and says what is wrong with its arguments and files."""
+    extension = f".load {TOP}/bindings/sqlite/out/uca"
+    of_settings = [(), ("'shifted'",), ("NULL", "NULL", f"'{USED}'"), ("''", "'weights'", "'unchecked'")]
+    for more in of_settings:
+        same(sqlite_says(work, f"SELECT uca_load_upgrade({quoted_list(EDITIONS, more)});", load=""), f"{NEXT}\n", f"an upgrade by {more}")
+    for setting in SETTINGS[1:]:
+        weighting, depth = setting[0], "identical" if "identical" in setting else "weights"
+        old, new = (fingerprint_of(*it, weighting, depth) for it in ((TABLE, DATA), (NEW_TABLE, NEW_DATA)))
+        more = [quoted(it) for it in (weighting, depth, old)]
+        same(sqlite_says(work, f"SELECT uca_load_upgrade({quoted_list(EDITIONS, more)});", load=""), f"{new}\n", f"an upgrade by {setting}")
+    altered = f"{work}/altered.txt"
+    for at, old, new, error in (
+        (0, b"0061 ; [.1C47", b"0061 ; [.1C4", "the old table: line 7: Weight"),
+        (1, b"@data 1", b"@data 2", "the old data file: line 1: Order"),
+        (2, b"0061 ; [.1C48", b"0061 ; [.1C4", "the new table: line 9: Weight"),
+        (3, b"ccc 0300..0314 230", b"ccc 0300..0314 300", "the new data file: line 2: Weight"),
+        (4, b"text 0065", b"text 0062", "the file of changes: line 3: Order"),
+        (5, b"1 1C60 1C61", b"1 1C60 1C47", "the certificate: line 4: Map NotRising"),
+        (4, b"text 0065\n", b"", "the audit rejects the files: RowExtra new row 9"),
+        (4, b"range 0324..0324\n", b"", "the audit rejects the files: PointChanged code point 0324"),
+        (5, b"1 1C60 1C61", b"1 1C60 1C60", "the audit rejects the files: RowChanged old row 5"),
+        (5, b"3 0008 0008 0001\n", b"", "the audit rejects the files: Uncovered old row 4"),
+        (2, b"@version 2\n", b"@version 2\n@variable non-ignorable\n", "the audit rejects the files: SettingChanged"),
+    ):
+        changed = content(EDITIONS[at]).replace(old, new, 1)
+        with open(altered, "wb") as it:
+            it.write(changed)
+        files = [*EDITIONS[:at], altered, *EDITIONS[at + 1 :]]
+        sqlite_fails(work, f"uca_load_upgrade: {error}", f"SELECT uca_load_upgrade({quoted_list(files)});", load="")
+    roles = ["old table", "old data file", "new table", "new data file", "file of changes", "certificate"]
+    for at, role in enumerate(roles):
+        for path, why in (("none", "it is not found"), ("/dev/zero", "it is not a regular file")):
+            files = [*EDITIONS[:at], path, *EDITIONS[at + 1 :]]
+            sqlite_fails(work, f"uca_load_upgrade: the {role} '{path}': {why}", f"SELECT uca_load_upgrade({quoted_list(files)});", load="")
+    for more, error in (
+        (["'SHIFTED'"], "the weighting is 'SHIFTED', not 'shifted' or 'non-ignorable'"),
+        (["''", "'deep'"], "the depth is 'deep', not 'weights' or 'identical'"),
+        (["''", "''", "''"], f"the ninth argument {NO_FINGERPRINT}, and not 'unchecked'"),
+        (["''", "''", "NULL"], f"the ninth argument {NO_FINGERPRINT}, and not 'unchecked'"),
+        (["''", "''", f"'{NEXT}'"], f"the old files and settings have the fingerprint {USED}, and {NEXT} is wanted"),
+        (["'non-ignorable'", "''", f"'{USED}'"], f"and {USED} is wanted"),
+        (["''", "''", "'unchecked'", "''"], "it takes 6 to 9 arguments"),
+        (["'shifted' || char(0)"], "argument 7 has a zero byte"),
+    ):
+        sqlite_fails(work, f"uca_load_upgrade: {error}" if not error.startswith("and ") else error, f"SELECT uca_load_upgrade({quoted_list(EDITIONS, more)});", load="")
+    for used, error in (("CREATE TABLE t(x CHECK (uca_load_upgrade({}) > '')); INSERT INTO t VALUES (1);", "unsafe use of uca_load_upgrade()"),
+                        ("CREATE TABLE t(x); CREATE INDEX i ON t(uca_load_upgrade({}));", "unsafe use of uca_load_upgrade()"),
+                        ("CREATE VIEW v AS SELECT uca_load_upgrade({}); SELECT * FROM v;", "unsafe use of uca_load_upgrade()")):
+        sqlite_fails(work, error, used.format(quoted_list(EDITIONS)), load="")
+    same(sqlite_says(work, extension, f"SELECT uca_load_upgrade({quoted_list(EDITIONS)});", extension, load=""), f"{NEXT}\n", "the extension twice")
+
+
+def sqlite_upgrades(work):
+    """Which texts are affected, the new keys of the others, and what is an error."""
+    load, named = sqlite_upgrade(), f"'{USED}', '{NEXT}'"
+    statements = [f"SELECT hex(uca_key({quoted(it)}, '{USED}')), uca_affected({quoted(it)}, {named}), hex(uca_rekey(x'{old}', {named})), hex(uca_key({quoted(it)}, '{NEXT}'));" for it, old, _ in MENDED]
+    same(sqlite_says(work, "".join(statements), load=load), "".join(f"{old}|0|{new}|{new}\n" for _, old, new in MENDED), "texts that are not affected")
+    same(sqlite_says(work, "".join(f"SELECT uca_affected({quoted(it)}, {named});" for it in AFFECTED), load=load), "1\n" * len(AFFECTED), "affected texts")
+    rejected = f"SELECT uca_affected(CAST(x'FF' AS TEXT), {named}), uca_affected('a' || replace(hex(zeroblob(33)), '0', char(0x301)), {named}), uca_affected(5, {named});"
+    same(sqlite_says(work, rejected, load=load), "1|1|0\n", "texts that are rejected, and a number")
+    same(sqlite_says(work, f"SELECT uca_affected(NULL, {named}) IS NULL, uca_rekey(NULL, {named}) IS NULL;", load=load), "1|1\n", "NULL")
+    for name, given, other, what in (("uca_affected", "'a'", "x'61'", "a blob, not a text"), ("uca_affected", "'a'", "0.5", "a real number, not a text"),
+                                     ("uca_rekey", "x'00'", "'a'", "no blob, so it is no key"), ("uca_rekey", "x'00'", "1", "no blob, so it is no key")):
+        sqlite_fails(work, f"{name}: the first argument is {what}", f"SELECT {name}({other}, {named});", load=load)
+        for wrong in ("''", "NULL", f"'{USED[:32]}'", f"CAST('{USED}' AS BLOB)"):
+            sqlite_fails(work, f"{name}: the second argument {NO_FINGERPRINT}", f"SELECT {name}({given}, {wrong}, '{NEXT}');", load=load)
+            sqlite_fails(work, f"{name}: the third argument {NO_FINGERPRINT}", f"SELECT {name}({given}, '{USED}', {wrong});", load=load)
+        for old, new in ((NEXT, USED), (USED, USED), (NEXT, NEXT), (OTHER, NEXT), (USED, OTHER)):
+            error = f"{name}: no upgrade from the fingerprint {old} to {new} is loaded; loaded: {USED} to {NEXT}"
+            for it in (given, "NULL"):
+                sqlite_fails(work, error, f"SELECT {name}({it}, '{old}', '{new}');", load=load)
+        sqlite_fails(work, "is loaded; loaded: none", f"SELECT {name}({given}, {named});")
+    for key in (f"uca_key('ch', '{USED}')", "x''", "x'1C'", "x'1C470000'", f"uca_key('b', '{COMPACT}')"):
+        sqlite_fails(work, "uca_rekey: NoImage", f"SELECT uca_rekey({key}, {named});", load=load)
+    for used in (f"CREATE INDEX i ON t(uca_rekey(x, {named}));", f"CREATE INDEX i ON t(uca_affected(x, {named}));"):
+        sqlite_fails(work, "non-deterministic functions prohibited in index expressions", "CREATE TABLE t(x);", used, load=load)
+    with open(f"{work}/more.changes", "wb") as it:
+        it.write(content(CHANGES).replace(b"text 0063 0068\n", b"text 0061\ntext 0063 0068\n"))
+    more = [*EDITIONS[:4], it.name, CERTIFICATE]
+    for first, second, wanted in ((EDITIONS, more, "0"), (more, EDITIONS, "1")):
+        twice = f"SELECT uca_load_upgrade({quoted_list(second)}); SELECT uca_affected('a', {named});"
+        same(sqlite_says(work, twice, load=sqlite_upgrade(first)), f"{NEXT}\n{wanted}\n", "an upgrade of the same fingerprints, which stays")
+
+
+def sqlite_compact_upgrades(work):
+    """Compact keys by the books of both editions, or of one."""
+    load, texts = sqlite_upgrade(), [it for it, _, _ in MENDED]
+    for old, new in ((COMPACT, NEXT_COMPACT), (COMPACT, NEXT), (USED, NEXT_COMPACT), (USED, NEXT)):
+        named = f"'{old}', '{new}'"
+        found = [f"SELECT uca_affected({quoted(it)}, {named}), uca_rekey(uca_key({quoted(it)}, '{old}'), {named}) = uca_key({quoted(it)}, '{new}');" for it in texts]
+        same(sqlite_says(work, "".join(found), load=load), "0|1\n" * len(texts), f"keys from {old} to {new}")
+        sqlite_fails(work, "uca_rekey: NoImage", f"SELECT uca_rekey(uca_key('ch', '{old}'), {named});", load=load)
+    sqlite_fails(work, "uca_rekey: NoCompactKey", f"SELECT uca_rekey(x'', '{COMPACT}', '{NEXT_COMPACT}');", load=load)
+    for old, new in ((NEXT_COMPACT, COMPACT), (COMPACT, COMPACT)):
+        sqlite_fails(work, f"no upgrade from the fingerprint {old} to {new} is loaded", f"SELECT uca_rekey(x'03', '{old}', '{new}');", load=load)
+    without = sqlite_load() + f"SELECT 0 WHERE uca_load_upgrade({quoted_list(EDITIONS)}) IS NULL;"
+    sqlite_fails(work, f"no upgrade from the fingerprint {COMPACT} to {NEXT} is loaded", f"SELECT uca_rekey(x'03', '{COMPACT}', '{NEXT}');", load=without)
+
+
+KEPT_WORDS = "('d'), ('ch'), ('cb'), ('Á'), ('A'), ('a'), ('bach'), ('bz'), ('bh'), ('b'), (NULL)"
+# A table of keys, and the statements that take it to the next edition.
+KEYED = f"""
+CREATE TABLE words(word TEXT, key BLOB); CREATE INDEX by_key ON words(key);
+CREATE TABLE made_by(fingerprint TEXT NOT NULL); INSERT INTO made_by VALUES ('{{0}}');
+INSERT INTO words(word) VALUES {KEPT_WORDS}; UPDATE words SET key = uca_key(word, '{{0}}');
+"""
+MOVE = """
+BEGIN IMMEDIATE;
+UPDATE words SET key = CASE WHEN uca_affected(word, fingerprint, '{0}') THEN uca_key(word, '{0}') ELSE uca_rekey(key, fingerprint, '{0}') END FROM made_by;
+UPDATE made_by SET fingerprint = '{0}';
+COMMIT;
+"""
+STATE = "SELECT count(*), total(key IS NOT uca_key(word, '{0}')), (SELECT group_concat(fingerprint) FROM made_by) FROM words;"
+BY_KEY = "SELECT group_concat(word, ' ') FROM (SELECT word FROM words ORDER BY key);"
+
+
+def sqlite_moves(work):
+    """A table of keys is taken to the next edition in one transaction, or stays as it is."""
+    load = sqlite_upgrade()
+    for old, new in ((USED, NEXT), (COMPACT, NEXT_COMPACT)):
+        database = f"{work}/moves-{old}.db"
+        sqlite_says(work, KEYED.format(old), load=load, database=database)
+        same(sqlite_says(work, STATE.format(old), load=load, database=database), f"11|0.0|{old}\n", "before")
+        with_rejected = MOVE.replace("BEGIN IMMEDIATE;", "BEGIN IMMEDIATE; INSERT INTO words VALUES (CAST(x'61FF' AS TEXT), NULL);")
+        sqlite_fails(work, "uca_key: Utf8", with_rejected.format(new), load=load, database=database)
+        same(sqlite_says(work, STATE.format(old), load=load, database=database), f"11|0.0|{old}\n", "after an error")
+        sqlite_fails(work, "is loaded; loaded: none", MOVE.format(new), load=load.split("SELECT 0 WHERE uca_load_upgrade")[0], database=database)
+        sqlite_says(work, MOVE.format(new), load=load, database=database)
+        same(sqlite_says(work, STATE.format(new), BY_KEY, "PRAGMA integrity_check;", load=load, database=database), f"11|0.0|{new}\na A Á b bach bh bz cb ch d\nok\n", "after")
+        sqlite_fails(work, f"no upgrade from the fingerprint {new} to {new} is loaded", MOVE.format(new), load=load, database=database)
+        same(sqlite_says(work, STATE.format(new), load=load, database=database), f"11|0.0|{new}\n", "a second time")
+
+
+# Tables with indexes that hold texts in the order of the collation.
+TEXT_TABLES = [
+    "CREATE TABLE names(name TEXT COLLATE uca_{0}, note TEXT); CREATE INDEX by_name ON names(name, note);",
+    "CREATE TABLE names(name TEXT, note TEXT); CREATE INDEX by_name ON names(name COLLATE uca_{0} DESC); CREATE INDEX by_note ON names(note, name COLLATE uca_{0});",
+    "CREATE TABLE names(name TEXT COLLATE uca_{0} UNIQUE, note TEXT);",
+]
+TEXTS_MOVE = """
+BEGIN IMMEDIATE;
+CREATE TABLE moved AS SELECT rowid AS number, * FROM names WHERE CASE typeof(name) WHEN 'text' THEN uca_affected(name, '{0}', '{1}') END;
+DELETE FROM names WHERE rowid IN (SELECT number FROM moved);
+PRAGMA writable_schema = on;
+UPDATE sqlite_schema SET sql = replace(sql, 'COLLATE uca_{0}', 'COLLATE uca_{1}') WHERE tbl_name = 'names';
+PRAGMA writable_schema = reset;
+INSERT INTO names(rowid, name, note) SELECT number, name, note FROM moved;
+DROP TABLE moved;
+"""
+# 300 names, of which 'ch' and others are affected; and what is no text or is rejected
+NAMES = ("WITH RECURSIVE n(i) AS (SELECT 0 UNION ALL SELECT i + 1 FROM n WHERE i < 299) INSERT INTO names SELECT char(97 + i * 7 % 5, 97 + i * 11 % 8, 97 + i / 40) || i, i % 7 FROM n;"
+         "INSERT INTO names VALUES (NULL, 1), (NULL, 2), (5, 3), (x'6368', 4), (CAST(x'6368FF' AS TEXT), 5), (CAST(x'61FF' AS TEXT), 6), ('ch', 7), ('c', 8), ('e', 9), ('', 10);")
+BY_NAME = "SELECT group_concat(coalesce(hex(name), 'none'), ' ') FROM (SELECT name FROM names ORDER BY {1}name COLLATE uca_{0}, rowid);"
+
+
+def sqlite_texts(work):
+    """Only affected rows leave an index that holds texts, under the old order, and come back under the new one."""
+    load = sqlite_upgrade()
+    for number, made in enumerate(TEXT_TABLES):
+        database = f"{work}/texts{number}.db"
+        sqlite_says(work, made.format(USED), NAMES, load=load, database=database)
+        wanted = sqlite_says(work, BY_NAME.format(NEXT, "+"), load=load, database=database)
+        before = sqlite_says(work, ".dump", load=load, database=database)
+        sqlite_says(work, TEXTS_MOVE.format(USED, NEXT), "ROLLBACK;", load=load, database=database)
+        same(sqlite_says(work, ".dump", load=load, database=database), before, f"{made}: taken back")
+        sqlite_fails(work, NO_FINGERPRINT, TEXTS_MOVE.format(USED, NEXT), "SELECT uca_key('a', '');", load=load, database=database)
+        same(sqlite_says(work, ".dump", load=load, database=database), before, f"{made}: after an error")
+        other = subprocess.Popen(["sqlite3", database], stdin=subprocess.PIPE, stdout=subprocess.PIPE, stderr=subprocess.STDOUT, text=True, cwd=TOP, bufsize=1)
+        other.stdin.write(f".load {TOP}/bindings/sqlite/out/uca\n{sqlite_load()}\nSELECT count(*) FROM names;\n")
+        same(other.stdout.readline(), "310\n", f"{made}: a connection with the old files alone")
+        sqlite_says(work, TEXTS_MOVE.format(USED, NEXT), "COMMIT;", load=load, database=database)
+        said, _ = other.communicate("INSERT INTO names VALUES ('ch', 1);\n")
+        if f"no such collation sequence: uca_{NEXT}" not in said:
+            raise AssertionError(f"{made}: a row by a connection that has the old files: {said}")
+        found = sqlite_says(work, "PRAGMA integrity_check;", BY_NAME.format(NEXT, ""), BY_NAME.format(NEXT, "+"), "SELECT count(*) FROM names;", load=load, database=database)
+        same(found, f"ok\n{wanted}{wanted}310\n", made)
+        if USED in sqlite_says(work, "SELECT group_concat(sql) FROM sqlite_schema;", load=load, database=database):
+            raise AssertionError(f"{made}: the old fingerprint is in the schema")
+    wrong = TEXTS_MOVE.replace("uca_affected(name, '{0}', '{1}')", "name = 'bach'")
+    sqlite_says(work, TEXT_TABLES[0].format(USED), NAMES, load=load, database=f"{work}/wrong.db")
+    found = sqlite_says(work, wrong.format(USED, NEXT), "COMMIT;", "PRAGMA integrity_check;", load=load, database=f"{work}/wrong.db")
+    if found == "ok\n":
+        raise AssertionError("an index in which affected rows stay is found to be in order")
 
 
 SQLITE_PAGE = re.compile(r"^### In SQLite\n(.*?)^### ", re.S | re.M)
+SQLITE_UPGRADE_PAGE = re.compile(r"^### A new edition in SQLite\n(.*?)^### ", re.S | re.M)
 # What the extension was before: a function of one argument and a collation, which name no files.
 MADE_BEFORE = """
 CREATE TABLE words(word TEXT);
@@ -674,6 +894,9 @@ def sqlite_page(work):
     sqlite_fails(work, "wrong number of arguments to function uca_key()", "SELECT word FROM words;", database=f"{work}/before.db")
     page_error(work, "before-error.db", before, "words", "old_names")
     page_statements(work, "before.db", before)
+    upgrade, of_texts = re.findall(r"```sql\n(.*?)```", SQLITE_UPGRADE_PAGE.search(content(f"{TOP}/docs/BINDINGS.md").decode()).group(1), re.S)
+    for it in (upgrade, of_texts):
+        page_statements(work, "upgrade.db", it, load=sqlite_load(NEW_TABLE, NEW_DATA))
     constraint = re.search(r"`(CHECK \(.*?\))`", text).group(1).replace("e7f5..", USED)
     made = f"CREATE TABLE plain(word TEXT, key BLOB {constraint}); INSERT INTO plain VALUES ('a', uca_key('a', '{USED}')), (NULL, NULL);"
     sqlite_says(work, made)
@@ -1386,11 +1609,6 @@ def python_words(work, table, data, book, keys, order, lookups):
     same(found, keys + found_lines(lookups), f"keys and lookups over {table} by {book}")
 
 
-def quoted(text):
-    """The text in a statement of SQL."""
-    return "'" + text.replace("'", "''") + "'"
-
-
 def sqlite_words(work, table, data, book, keys, order, lookups):
     load, fingerprint = sqlite_load(table, data, book=book), fingerprint_of(table, data, book=book)
     key, database = f"uca_key(word, '{fingerprint}')", f"{tempfile.mkdtemp(dir=work)}/words.db"
@@ -1440,7 +1658,9 @@ def main():
               ("installation", installed), ("stored run", stored_run), ("docs/BINDINGS.md", page), ("keys", keys_like(program)), ("Python", python), ("Python under valgrind", python_valgrind), ("wheel", wheel), ("sort", sorted_like(program)), ("SQLite", sqlite),
               ("SQLite's loads", sqlite_loads), ("SQLite's files", sqlite_files), ("SQLite's compact keys", sqlite_compact), ("SQLite's arguments", sqlite_arguments),
               ("SQLite's books", sqlite_books), ("SQLite's lookups", sqlite_lookups), ("SQLite's schemas", sqlite_schemas), ("SQLite's restores", sqlite_restore),
-              ("SQLite's attached databases", sqlite_attached), ("SQLite's threads", sqlite_threads), ("SQLite's memory", sqlite_memory), ("SQLite on the page", sqlite_page), ("SQLite's orders", sqlite_like(program)),
+              ("SQLite's attached databases", sqlite_attached), ("SQLite's threads", sqlite_threads), ("SQLite's upgrades", sqlite_upgrades),
+              ("SQLite's loads of upgrades", sqlite_upgrade_loads), ("SQLite's compact keys in upgrades", sqlite_compact_upgrades), ("SQLite's moves", sqlite_moves),
+              ("SQLite's indexes of texts", sqlite_texts), ("SQLite's memory", sqlite_memory), ("SQLite on the page", sqlite_page), ("SQLite's orders", sqlite_like(program)),
               ("PostgreSQL", postgresql), ("PostgreSQL's settings", postgresql_settings), ("PostgreSQL's dumps", postgresql_dumps),
               ("PostgreSQL's replication", postgresql_replication), ("PostgreSQL's changes", postgresql_changes), ("PostgreSQL's roles", postgresql_roles),
               ("PostgreSQL's owners", postgresql_owners), ("PostgreSQL's dependents", postgresql_dependents), ("PostgreSQL's columns", postgresql_columns), ("PostgreSQL's compact keys", postgresql_compact),
