@@ -497,6 +497,273 @@ static void check_compact_fingerprint(void)
     CHECK(strcmp(digits, COMPACT_SUM) == 0);
 }
 
+/* ---- Upgrades: the letter c comes between a and b, whose weight moves from 1C60 to 1C70 */
+
+static const char OLD[] = "@version 1\n0061 ; [.1C47.0020.0002]\n0062 ; [.1C60.0020.0002]\n0301 ; [.0000.0024.0002]\n";
+static const char NEW[] = "@version 2\n0061 ; [.1C47.0020.0002]\n0062 ; [.1C70.0020.0002]\n0063 ; [.1C60.0020.0002]\n0301 ; [.0000.0024.0002]\n";
+static const char ACCENT[] = "@data 1\nccc 0301..0301 230\n";
+static const char CHANGES[] = "@changes 1\ntext 0063\n";
+static const char MAPS[] = "1 1C47 1C47 0001\n1 1C60 1C70 0001\n2 0020 0020 0001\n2 0024 0024 0001\n3 0002 0002 0001\n";
+
+/* What sha256sum prints of the text that uca.h states, with what it prints of the files. */
+static const char OLD_SUM[] = "d34ce4fc4b270598c2b5c625901874bb571c96b0c1b0a2a212dc6cada7e8bfd4";
+static const char NEW_SUM[] = "48c46fedd33456a110f2fcb95559b3162019cb9ab66250a5d5a89d4304c05cc5";
+
+/* The six files of an upgrade, in the order of uca_upgrade_file. */
+typedef struct six {
+    const char *files[6];
+} six;
+
+static const six SIX = {{OLD, ACCENT, NEW, ACCENT, CHANGES, MAPS}};
+
+static uint32_t opened_upgrade(uca_upgrade *upgrade, const six *six, uint32_t weighting, uint32_t depth, uca_upgrade_error *error)
+{
+    const uint8_t *at[6];
+    size_t length[6];
+    for (int i = 0; i < 6; i++) {
+        at[i] = (const uint8_t *)six->files[i];
+        length[i] = strlen(six->files[i]);
+    }
+    *error = (uca_upgrade_error){7, 7, 7, 7, 7, 7};
+    return uca_open_upgrade(upgrade, at[0], length[0], at[1], length[1], at[2], length[2], at[3], length[3], at[4], length[4], at[5], length[5], weighting,
+                            depth, error);
+}
+
+static bool is_error(const uca_upgrade_error *error, uint32_t file, uint32_t line, uint32_t kind, uint32_t condition, uint32_t place, uint32_t number)
+{
+    return error->file == file && error->line == line && error->kind == kind && error->condition == condition && error->place == place
+           && error->number == number;
+}
+
+/* Whether the files with this one in place of another are no upgrade: the file is rejected there. */
+static bool rejects_file(uca_upgrade_file file, const char *text, uint32_t line, uint32_t kind)
+{
+    uca_upgrade it = UCA_CLOSED_UPGRADE;
+    uca_upgrade_error error;
+    six given = SIX;
+    given.files[file - 1] = text;
+    return opened_upgrade(&it, &given, UCA_NON_IGNORABLE, UCA_WEIGHTS, &error) == UCA_FILE && is_error(&error, file, line, kind, 0, 0, 0) && !it.is_open;
+}
+
+/* Whether the audit rejects them: this condition is the first that is not met, and there. */
+static bool rejects_change(uca_upgrade_file file, const char *text, uint32_t condition, uint32_t place, uint32_t number)
+{
+    uca_upgrade it = UCA_CLOSED_UPGRADE;
+    uca_upgrade_error error;
+    six given = SIX;
+    given.files[file - 1] = text;
+    return opened_upgrade(&it, &given, UCA_NON_IGNORABLE, UCA_WEIGHTS, &error) == UCA_NOT_MET && is_error(&error, 0, 0, 0, condition, place, number)
+           && !it.is_open;
+}
+
+static void check_rejected_files(void)
+{
+    CHECK(rejects_file(UCA_OLD_TABLE, "@version 1\n0061 ; [.1C", 2, UCA_KIND_WEIGHT));
+    CHECK(rejects_file(UCA_OLD_DATA, "x\n", 1, UCA_KIND_ORDER));
+    CHECK(rejects_file(UCA_NEW_TABLE, "", 1, UCA_KIND_ORDER));
+    CHECK(rejects_file(UCA_NEW_DATA, "@data 1\n\nccc 0300..0314 300\n", 3, UCA_KIND_WEIGHT));
+    CHECK(rejects_file(UCA_CHANGES, "", 1, UCA_KIND_ORDER));
+    CHECK(rejects_file(UCA_CHANGES, "@changes 1\ntext\n", 2, UCA_KIND_LINE));
+    CHECK(rejects_file(UCA_CERTIFICATE, "1 1C47 1C47 1\n", 1, UCA_KIND_LINE));
+    CHECK(rejects_file(UCA_CERTIFICATE, "2 0020 0020 0001\n1 1C47 1C47 0001\n", 2, UCA_KIND_ORDER));
+    CHECK(rejects_file(UCA_CERTIFICATE, "1 1C47 1C47 0000\n", 1, UCA_KIND_MAP_EMPTY));
+    CHECK(rejects_file(UCA_CERTIFICATE, "1 1C47 1C60 0001\n1 1C60 1C60 0001\n", 2, UCA_KIND_MAP_NOT_RISING));
+    CHECK(rejects_file(UCA_CERTIFICATE, "1 0000 1C47 0001\n", 1, UCA_KIND_MAP_OUT_OF_RANGE));
+    CHECK(rejects_file(UCA_CERTIFICATE, "", 1, UCA_KIND_MAP_FIXED));
+}
+
+static void check_rejected_changes(void)
+{
+    CHECK(rejects_change(UCA_OLD_TABLE, "@version 1\n0061 ; [.1C47.0020.0002]\n0062 ; [.1C60.0020.0002]\n0301 ; [.0000.0020.0002]\n",
+                         UCA_OLD_ILL_FORMED, UCA_AT_OLD_ROW, 3));
+    CHECK(rejects_change(UCA_NEW_TABLE, "@version 2\n0061 ; [.1C47.0020.0002]\n0062 ; [.1C70.0020.0002]\n0301 ; [.0000.0020.0002]\n",
+                         UCA_NEW_ILL_FORMED, UCA_AT_NEW_ROW, 3));
+    CHECK(rejects_change(UCA_NEW_TABLE,
+                         "@version 2\n@implicitweights 17000..18AFF; FB00\n0061 ; [.1C47.0020.0002]\n0062 ; [.1C70.0020.0002]\n0301 ; [.0000.0024.0002]\n",
+                         UCA_RANGE_CHANGED, UCA_AT_CODE_POINT, 0x17000));
+    CHECK(rejects_change(UCA_CERTIFICATE, "1 1C47 1C47 0001\n2 0020 0020 0001\n2 0024 0024 0001\n3 0002 0002 0001\n", UCA_UNCOVERED,
+                         UCA_AT_OLD_ROW, 2));
+    CHECK(rejects_change(UCA_NEW_TABLE, OLD, UCA_ROW_CHANGED, UCA_AT_OLD_ROW, 2));
+    CHECK(rejects_change(UCA_NEW_TABLE, "@version 2\n0061 ; [.1C47.0020.0002]\n0062 ; [.1C70.0020.0002]\n", UCA_ROW_MISSING, UCA_AT_OLD_ROW, 3));
+    CHECK(rejects_change(UCA_CHANGES, "@changes 1\n", UCA_ROW_EXTRA, UCA_AT_NEW_ROW, 3));
+    CHECK(rejects_change(UCA_NEW_DATA, "@data 1\nccc 0301..0301 231\n", UCA_POINT_CHANGED, UCA_AT_CODE_POINT, 0x301));
+    CHECK(rejects_change(UCA_NEW_TABLE,
+                         "@version 2\n@variable non-ignorable\n0061 ; [.1C47.0020.0002]\n0062 ; [.1C70.0020.0002]\n0301 ; [.0000.0024.0002]\n",
+                         UCA_SETTING_CHANGED, UCA_NOWHERE, 0));
+}
+
+/* What is told of a text: 1 or 0. */
+static bool is_affected(uca_upgrade *upgrade, const uint8_t *text, size_t length, uint32_t wanted)
+{
+    uint32_t affected = 7;
+    return uca_affected(upgrade, text, length, &affected) == UCA_OK && affected == wanted;
+}
+
+static bool is_not_judged(uca_upgrade *upgrade, const uint8_t *text, size_t length, uint32_t status)
+{
+    uint32_t affected = 7;
+    return uca_affected(upgrade, text, length, &affected) == status && affected == 0;
+}
+
+/* Whether an old key becomes this one, and needs its room. */
+static bool becomes(uca_upgrade *upgrade, const uint8_t *key, size_t length, const char *made, size_t made_length)
+{
+    uint8_t out[ROOM];
+    size_t needed = 77;
+    memset(out, 0xEE, ROOM);
+    bool small = uca_rekey(upgrade, key, length, out, made_length - 1, &needed) == UCA_SMALL && needed == made_length && out[0] == 0xEE;
+    bool empty = uca_rekey(upgrade, key, length, out, 0, &needed) == UCA_SMALL && needed == made_length && out[0] == 0xEE;
+    return small && empty && uca_rekey(upgrade, key, length, out, ROOM, &needed) == UCA_OK && needed == made_length && memcmp(out, made, needed) == 0
+           && out[needed] == 0xEE;
+}
+
+#define BECOMES(upgrade, key, made) becomes(upgrade, BYTES(key), made, sizeof(made) - 1)
+
+static bool becomes_none(uca_upgrade *upgrade, const uint8_t *key, size_t length, uint32_t status)
+{
+    uint8_t out[ROOM];
+    size_t needed = 77;
+    memset(out, 0xEE, ROOM);
+    return uca_rekey(upgrade, key, length, out, ROOM, &needed) == status && needed == 0 && out[0] == 0xEE;
+}
+
+/* The status of the fingerprints of an upgrade, which are then these digits; nothing written is all `ee`. */
+static bool has_sums(uca_upgrade *upgrade, uint32_t status, const char *old_digits, const char *new_digits)
+{
+    uint8_t out[2][33];
+    char digits[2][65];
+    memset(out, 0xEE, sizeof out);
+    bool is_status = uca_upgrade_fingerprints(upgrade, out[0], out[1]) == status && out[0][32] == 0xEE && out[1][32] == 0xEE;
+    for (size_t i = 0; i < 64; i++) {
+        snprintf(digits[i / 32] + 2 * (i % 32), 3, "%02x", out[i / 32][i % 32]);
+    }
+    return is_status && strncmp(digits[0], old_digits, 64) == 0 && strncmp(digits[1], new_digits, 64) == 0;
+}
+
+static void check_closed_upgrade(void)
+{
+    uca_upgrade closed = UCA_CLOSED_UPGRADE;
+    uca_upgrade_error error;
+    char none[65];
+    memset(none, 'e', sizeof none);
+    CHECK(uca_upgrade_size() == sizeof(uca_upgrade));
+    CHECK(is_not_judged(&closed, BYTES("a"), UCA_CLOSED));
+    CHECK(becomes_none(&closed, BYTES("\x1C\x47\0\0\0\x20\0\0\0\x02"), UCA_CLOSED));
+    CHECK(has_sums(&closed, UCA_CLOSED, none, none));
+    uca_close_upgrade(&closed);
+    CHECK(!closed.is_open);
+    CHECK(opened_upgrade(&closed, &SIX, 3, UCA_WEIGHTS, &error) == UCA_ARGUMENT && is_error(&error, 0, 0, 0, 0, 0, 0));
+    CHECK(opened_upgrade(&closed, &SIX, UCA_BY_TABLE, 2, &error) == UCA_ARGUMENT && is_error(&error, 0, 0, 0, 0, 0, 0) && !closed.is_open);
+}
+
+/* Whether the key of a text by the old files becomes its key by the new ones. */
+static bool is_renewed(uca_upgrade *upgrade, uca_collator *before, uca_collator *after, const uint8_t *text, size_t length)
+{
+    uint8_t key[ROOM], wanted[ROOM], made[ROOM];
+    size_t key_length, wanted_length, needed;
+    return is_affected(upgrade, text, length, 0) && uca_key(before, text, length, key, ROOM, &key_length) == UCA_OK
+           && uca_key(after, text, length, wanted, ROOM, &wanted_length) == UCA_OK
+           && uca_rekey(upgrade, key, key_length, made, ROOM, &needed) == UCA_OK && needed == wanted_length && memcmp(made, wanted, needed) == 0;
+}
+
+static void check_renewed(uint32_t weighting, uint32_t depth)
+{
+    uca_upgrade it = UCA_CLOSED_UPGRADE;
+    uca_collator before = UCA_CLOSED_COLLATOR, after = UCA_CLOSED_COLLATOR;
+    uca_upgrade_error error;
+    uca_error collator_error;
+    CHECK(opened_upgrade(&it, &SIX, weighting, depth, &error) == UCA_OK && is_error(&error, 0, 0, 0, 0, 0, 0));
+    CHECK(opened(&before, OLD, ACCENT, weighting, depth, &collator_error) == UCA_OK && opened(&after, NEW, ACCENT, weighting, depth, &collator_error) == UCA_OK);
+    CHECK(is_renewed(&it, &before, &after, BYTES("")));
+    CHECK(is_renewed(&it, &before, &after, BYTES("ab")));
+    CHECK(is_renewed(&it, &before, &after, BYTES("b\xC3\xA1\xCC\x81")));
+    CHECK(is_renewed(&it, &before, &after, BYTES("b\xE4\xB8\x80")));
+    uca_close_upgrade(&it);
+    uca_close(&before);
+    uca_close(&after);
+}
+
+static void check_upgrade(void)
+{
+    uca_upgrade it = UCA_CLOSED_UPGRADE, moved;
+    uca_upgrade_error error;
+    char marks[1 + 2 * 65] = "a";
+    for (size_t i = 0; i < 65; i++) {
+        memcpy(marks + 1 + 2 * i, "\xCC\x81", 2);
+    }
+    CHECK(opened_upgrade(&it, &SIX, UCA_NON_IGNORABLE, UCA_WEIGHTS, &error) == UCA_OK && is_error(&error, 0, 0, 0, 0, 0, 0) && it.is_open);
+    CHECK(is_affected(&it, BYTES("c"), 1) && is_affected(&it, BYTES("abc\xCC\x81"), 1));
+    CHECK(is_affected(&it, BYTES(""), 0) && is_affected(&it, BYTES("ab\xC3\xA1"), 0));
+    CHECK(is_not_judged(&it, BYTES("c\xFF"), UCA_UTF8));
+    CHECK(is_affected(&it, (const uint8_t *)marks, 1 + 2 * 64, 0) && is_not_judged(&it, (const uint8_t *)marks, 1 + 2 * 65, UCA_LONG_RUN));
+    CHECK(BECOMES(&it, "\x1C\x47\x1C\x60\0\0\0\x20\0\x20\0\0\0\x02\0\x02", "\x1C\x47\x1C\x70\0\0\0\x20\0\x20\0\0\0\x02\0\x02"));
+    CHECK(BECOMES(&it, "\0\0\0\0", "\0\0\0\0"));
+    CHECK(becomes_none(&it, BYTES("\x1C\x61\0\0\0\x20\0\0\0\x02"), UCA_NO_IMAGE));
+    CHECK(becomes_none(&it, BYTES(""), UCA_NO_IMAGE));
+    CHECK(becomes_none(&it, BYTES("\x1C\x60\0\0\0\x20\0\0\0\x02\0\0\xFF\xFF"), UCA_NO_IMAGE));
+    CHECK(has_sums(&it, UCA_OK, OLD_SUM, NEW_SUM));
+    CHECK(opened_upgrade(&it, &(six){{"", "", "", "", "", ""}}, 9, 9, &error) == UCA_ALREADY_OPEN && is_error(&error, 0, 0, 0, 0, 0, 0));
+    memcpy(&moved, &it, sizeof moved);
+    memset(&it, 0, sizeof it);
+    CHECK(is_affected(&moved, BYTES("c"), 1));
+    uca_close_upgrade(&moved);
+    CHECK(!moved.is_open && is_not_judged(&moved, BYTES("c"), UCA_CLOSED));
+    CHECK(opened_upgrade(&moved, &SIX, UCA_SHIFTED, UCA_WEIGHTS, &error) == UCA_OK);
+    CHECK(BECOMES(&moved, "\x1C\x60\0\0\0\x20\0\0\0\x02\0\0\xFF\xFF", "\x1C\x70\0\0\0\x20\0\0\0\x02\0\0\xFF\xFF"));
+    CHECK(becomes_none(&moved, BYTES("\x1C\x60\0\0\0\x20\0\0\0\x02"), UCA_NO_IMAGE));
+    uca_close_upgrade(&moved);
+}
+
+static void check_too_long(void)
+{
+    uca_upgrade it = UCA_CLOSED_UPGRADE;
+    uca_upgrade_error error;
+    size_t length = 1048577;
+    uint8_t *text = malloc(length);
+    if (!text) {
+        abort();
+    }
+    memset(text, 'a', length);
+    CHECK(opened_upgrade(&it, &SIX, UCA_BY_TABLE, UCA_WEIGHTS, &error) == UCA_OK);
+    CHECK(is_not_judged(&it, text, length, UCA_TOO_LONG) && is_affected(&it, text, length - 1, 0));
+    uca_close_upgrade(&it);
+    free(text);
+}
+
+static void *judge_c(void *upgrade)
+{
+    return is_affected(upgrade, BYTES("c"), 1) ? upgrade : NULL;
+}
+
+/* An upgrade may change threads: their starts and joins order the calls. */
+static void check_upgrade_threads(void)
+{
+    uca_upgrade it = UCA_CLOSED_UPGRADE;
+    uca_upgrade_error error;
+    CHECK(opened_upgrade(&it, &SIX, UCA_BY_TABLE, UCA_WEIGHTS, &error) == UCA_OK);
+    for (int i = 0; i < 3; i++) {
+        pthread_t thread;
+        void *found = NULL;
+        CHECK(pthread_create(&thread, NULL, judge_c, &it) == 0 && pthread_join(thread, &found) == 0 && found == &it);
+        CHECK(judge_c(&it) == &it);
+    }
+    uca_close_upgrade(&it);
+}
+
+static void check_upgrades(void)
+{
+    check_closed_upgrade();
+    check_rejected_files();
+    check_rejected_changes();
+    check_upgrade();
+    check_renewed(UCA_NON_IGNORABLE, UCA_WEIGHTS);
+    check_renewed(UCA_SHIFTED, UCA_WEIGHTS);
+    check_renewed(UCA_BY_TABLE, UCA_IDENTICAL);
+    check_renewed(UCA_NON_IGNORABLE, UCA_IDENTICAL);
+    check_too_long();
+    check_upgrade_threads();
+}
+
 int main(void)
 {
     uca_collator it = UCA_CLOSED_COLLATOR;
@@ -518,6 +785,7 @@ int main(void)
     check_compact_keys();
     check_ranges();
     check_compact_fingerprint();
+    check_upgrades();
     printf("%d passed, %d failed\n", passed, failed);
     return failed != 0;
 }

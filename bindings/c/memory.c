@@ -93,9 +93,18 @@ static bool is_made(uint32_t status, const uint8_t *out, size_t needed, const ui
     return status == UCA_OK;
 }
 
+/* What is opened in a use. */
+typedef struct opened {
+    uca_collator collator;
+    uca_upgrade upgrade;
+} opened;
+
+static const opened CLOSED = {UCA_CLOSED_COLLATOR, UCA_CLOSED_UPGRADE};
+
 /* Opens with a book, makes a key, both forms of it, and ends of ranges. Returns whether nothing failed. */
-static bool use_compact(uca_collator *it)
+static bool use_compact(opened *opened)
 {
+    uca_collator *it = &opened->collator;
     uca_error error = {7, 7};
     if (!it->is_open) {
         uint32_t status = uca_open_compact(it, BYTES(TABLE), BYTES(DATA), BYTES(BOOK), UCA_NON_IGNORABLE, UCA_WEIGHTS, &error);
@@ -120,8 +129,9 @@ static bool use_compact(uca_collator *it)
 }
 
 /* Makes a fingerprint, opens, makes a key and compares. Returns whether nothing failed. Each status is OK, or says that memory ran out. */
-static bool use(uca_collator *it)
+static bool use(opened *opened)
 {
+    uca_collator *it = &opened->collator;
     uca_error error = {7, 7};
     uca_comparison found = {7, 7};
     uint8_t out[64] = {0xEE};
@@ -145,27 +155,74 @@ static bool use(uca_collator *it)
     return known && status == UCA_OK && other == UCA_OK && third == UCA_OK;
 }
 
-/* A use in which these allocations fail, and then one, of the same collator, in which none does. */
-static void run(bool uses(uca_collator *), long first, long last)
+/* In the new edition b has another weight, and c is there. */
+static const char NEW_TABLE[] = "@version 2\n0061 ; [.1C47.0020.0002]\n0062 ; [.1C70.0020.0002]\n0063 ; [.1C60.0020.0002]\n0301 ; [.0000.0024.0002]\n";
+static const char OLD_TABLE[] = "@version 1\n0061 ; [.1C47.0020.0002]\n0062 ; [.1C60.0020.0002]\n0301 ; [.0000.0024.0002]\n";
+static const char ACCENT[] = "@data 1\nccc 0301..0301 230\n";
+static const char CHANGES[] = "@changes 1\ntext 0063\n";
+static const char MAPS[] = "1 1C47 1C47 0001\n1 1C60 1C70 0001\n2 0020 0020 0001\n2 0024 0024 0001\n3 0002 0002 0001\n";
+static const uint8_t OLD_KEY[] = {0x1C, 0x60, 0, 0, 0, 0x20, 0, 0, 0, 2};
+static const uint8_t NEW_KEY[] = {0x1C, 0x70, 0, 0, 0, 0x20, 0, 0, 0, 2};
+
+/* Whether it says that memory ran out: while a file was read, or later. */
+static bool is_upgrade_memory(uint32_t status, const uca_upgrade_error *error)
 {
-    uca_collator it = UCA_CLOSED_COLLATOR;
+    bool in_file = error->file >= UCA_OLD_TABLE && error->file <= UCA_CERTIFICATE && error->line > 0 && error->kind == UCA_KIND_MEMORY;
+    bool in_none = error->file == 0 && error->line == 0 && error->kind == 0;
+    return error->condition == 0 && error->place == 0 && error->number == 0 && ((status == UCA_FILE && in_file) || (status == UCA_MEMORY && in_none));
+}
+
+/* Opens an upgrade, judges a text and moves a key. Returns whether nothing failed. */
+static bool use_upgrade(opened *opened)
+{
+    uca_upgrade *it = &opened->upgrade;
+    uca_upgrade_error error = {7, 7, 7, 7, 7, 7};
+    if (!it->is_open) {
+        uint32_t status = uca_open_upgrade(it, BYTES(OLD_TABLE), BYTES(ACCENT), BYTES(NEW_TABLE), BYTES(ACCENT), BYTES(CHANGES), BYTES(MAPS),
+                                           UCA_NON_IGNORABLE, UCA_WEIGHTS, &error);
+        CHECK(status == UCA_OK ? it->is_open : can_fail() && is_upgrade_memory(status, &error) && !it->is_open);
+        if (status != UCA_OK) {
+            return false;
+        }
+    }
+    uint32_t affected = 7, others = 7;
+    uint8_t key[64] = {0xEE};
+    size_t needed = 7;
+    uint32_t status = uca_affected(it, BYTES("bc\xCC\x81"), &affected);
+    CHECK(status == UCA_OK ? affected == 1 : can_fail() && status == UCA_MEMORY && affected == 0);
+    uint32_t other = uca_affected(it, BYTES("b\xCC\x81"), &others);
+    CHECK(others == 0 && (other == UCA_OK || (can_fail() && other == UCA_MEMORY)));
+    uint32_t third = uca_rekey(it, OLD_KEY, sizeof OLD_KEY, key, sizeof key, &needed);
+    return is_made(third, key, needed, NEW_KEY, sizeof NEW_KEY) && status == UCA_OK && other == UCA_OK;
+}
+
+static void close_all(opened *it)
+{
+    uca_close(&it->collator);
+    uca_close_upgrade(&it->upgrade);
+}
+
+/* A use in which these allocations fail, and then one, of what is open by then, in which none does. */
+static void run(bool uses(opened *), long first, long last)
+{
+    opened it = CLOSED;
     asked = 0;
     first_failing = first;
     last_failing = last;
     uses(&it);
     first_failing = last_failing = 0;
     CHECK(uses(&it));
-    uca_close(&it);
+    close_all(&it);
     CHECK(held == 0);
 }
 
 /* Each allocation of this use fails in turn. Returns how many there are. */
-static long run_all(bool uses(uca_collator *))
+static long run_all(bool uses(opened *))
 {
-    uca_collator it = UCA_CLOSED_COLLATOR;
+    opened it = CLOSED;
     asked = 0;
     CHECK(uses(&it));
-    uca_close(&it);
+    close_all(&it);
     long count = asked;
     for (long n = 1; n <= count; n++) {
         run(uses, n, n);
@@ -176,7 +233,7 @@ static long run_all(bool uses(uca_collator *))
 
 int main(void)
 {
-    long count = run_all(use), compact_count = run_all(use_compact);
-    printf("%ld runs, %ld checks failed\n", 2 * (count + compact_count), failed);
-    return failed != 0 || count == 0 || compact_count == 0;
+    long count = run_all(use), compact_count = run_all(use_compact), upgrade_count = run_all(use_upgrade);
+    printf("%ld runs, %ld checks failed\n", 2 * (count + compact_count + upgrade_count), failed);
+    return failed != 0 || count == 0 || compact_count == 0 || upgrade_count == 0;
 }

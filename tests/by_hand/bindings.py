@@ -116,7 +116,7 @@ def sanitizers(work):
 def header(work):
     need("g++")
     with open(f"{work}/header.cpp", "w", encoding="utf-8") as it:
-        it.write('#include "uca.h"\nint main() { uca_collator c = UCA_CLOSED_COLLATOR; uca_close(&c); return uca_abi() == UCA_ABI ? 0 : 1; }\n')
+        it.write('#include "uca.h"\nint main() { uca_collator c = UCA_CLOSED_COLLATOR; uca_close(&c); uca_upgrade u = UCA_CLOSED_UPGRADE; uca_close_upgrade(&u); return uca_abi() == UCA_ABI ? 0 : 1; }\n')
     run(["g++", "-Wall", "-Wextra", "-Werror", f"-I{C}/include", "-o", f"{work}/header", f"{work}/header.cpp", f"{C}/out/libuca.a"])
     run([f"{work}/header"])
 

@@ -129,7 +129,8 @@ typedef struct uca_comparison {
     uint32_t level; /* the first level at which they differ, from 1 on, or 0 */
 } uca_comparison;
 
-/* An upgrade of stored keys. Zeros are a closed one. The members are the library's; uca_upgrade_size tells how many bytes they have. */
+/* An upgrade of stored keys. Zeros are a closed one. The members are the library's; uca_upgrade_size tells how many bytes
+   they have. */
 typedef struct uca_upgrade {
     struct {
         void *inside;
@@ -311,21 +312,21 @@ void uca_close(uca_collator *collator);
 /* sizeof(uca_upgrade), as the library was built. */
 size_t uca_upgrade_size(void);
 
-/* Opens a closed upgrade by the bytes of six files: the table and the data file that the stored keys were made by, the new table and
-   data file, and the file of changes and the certificate that `uca changes` made of these four. The files are judged in this order.
-   Then the change that they mean is audited, as `uca audit-changes` does. `weighting` and `depth` are those that the stored keys were
-   made with, also where that is UCA_BY_TABLE.
+/* Opens a closed upgrade by the bytes of six files: the table and the data file that the stored keys were made by, the new
+   table and data file, and the file of changes and the certificate that `uca changes` made of these four. The files are judged
+   in this order. Then the change that they mean is audited, as `uca audit-changes` does. `weighting` and `depth` are those that
+   the stored keys were made with, also where that is UCA_BY_TABLE.
 
-   UCA_OK: the audit accepts the change. Take any text of UTF-8 that the change does not affect, by uca_affected. uca_rekey makes of its
-   key by the old files its key by the new files. Two such texts compare by the new files as by the old ones.
+   UCA_OK: the audit accepts the change. Take any text of UTF-8 that the change does not affect, by uca_affected. uca_rekey makes
+   of its key by the old files its key by the new files. Two such texts compare by the new files as by the old ones.
    UCA_ALREADY_OPEN, UCA_ARGUMENT, UCA_FILE, UCA_NOT_MET, UCA_MEMORY: the upgrade is as before. */
 uint32_t uca_open_upgrade(uca_upgrade *upgrade, const uint8_t *old_table, size_t old_table_length, const uint8_t *old_data,
                           size_t old_data_length, const uint8_t *new_table, size_t new_table_length, const uint8_t *new_data,
                           size_t new_data_length, const uint8_t *changes, size_t changes_length, const uint8_t *certificate,
                           size_t certificate_length, uint32_t weighting, uint32_t depth, uca_upgrade_error *error);
 
-/* Whether the key of a text has to be made anew, by a collator of the new files. `uca affected --changes` prints exactly the lines of
-   such texts.
+/* Whether the key of a text has to be made anew, by a collator of the new files. `uca affected --changes` prints exactly the
+   lines of such texts.
 
    UCA_OK: `*affected` is 1 if the change affects the text, else 0.
    UCA_CLOSED, UCA_UTF8, UCA_TOO_LONG, UCA_LONG_RUN, UCA_MEMORY: `*affected` is 0. */
@@ -343,8 +344,8 @@ uint32_t uca_affected(uca_upgrade *upgrade, const uint8_t *text, size_t length, 
    Unless the status is UCA_OK, `out` is as before. */
 uint32_t uca_rekey(uca_upgrade *upgrade, const uint8_t *key, size_t length, uint8_t *out, size_t room, size_t *needed);
 
-/* The fingerprints of the old keys and of the new keys, as uca_fingerprint makes them of the old files and of the new ones. The
-   upgrade is for keys of the old one alone: compare it with the fingerprint that is kept beside the stored keys.
+/* The fingerprints of the old keys and of the new keys, as uca_fingerprint makes them of the old files and of the new ones.
+   The upgrade is for keys of the old one alone: compare it with the fingerprint that is kept beside the stored keys.
 
    UCA_OK: the 32 bytes at `old_out` and those at `new_out` are written.
    UCA_CLOSED: they are as before. */

@@ -1,5 +1,5 @@
-//! The crate declares and uses what `uca.h` of the repository says. A packaged crate lacks this test, since it lacks
-//! the header.
+//! The crate declares and uses what `uca.h` of the repository says, but for upgrades. A packaged crate lacks this test,
+//! since it lacks the header.
 use std::collections::BTreeSet;
 
 const HEADER: &str = include_str!("../../c/include/uca.h");
@@ -50,10 +50,11 @@ fn in_rust(declared: &str) -> String {
     )
 }
 
-/// Each call of the header as `name(type, ..) -> type`.
+/// Each call of the header as `name(type, ..) -> type`, without those of an upgrade.
 fn calls_of_header() -> BTreeSet<String> {
     let text = header();
-    let calls = text.split(';').filter_map(|it| it.trim().split_once(" uca_").filter(|_| it.contains('(')));
+    let calls = text.split(';').filter(|it| it.contains('(') && !it.contains("uca_upgrade"));
+    let calls = calls.filter_map(|it| it.trim().split_once(" uca_"));
     calls
         .map(|(result, call)| {
             let (name, given) = call.trim_end_matches(')').split_once('(').expect("a call has parameters");

@@ -5,4 +5,6 @@ pub mod Opened
 pub mod RangeCalls
 pub mod Results
 pub mod Statuses
+pub mod UpgradeCalls
+pub mod UpgradeErrors
 pub mod inside

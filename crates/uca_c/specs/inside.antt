@@ -1,3 +1,4 @@
 pub mod Crossing
 pub mod Handles
 pub mod TextKeys
+pub mod UpgradeHandles

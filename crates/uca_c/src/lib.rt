@@ -1,8 +1,9 @@
 //! The library for C: a collator that is opened by the bytes of a table and a data file, sort keys in the caller's
-//! memory, and comparison. `bindings/c/include/uca.h` declares the calls, and says what a caller owes.
+//! memory, comparison, and an upgrade of stored keys to a new edition. `bindings/c/include/uca.h` declares the calls,
+//! and says what a caller owes.
 //!
-//! The calls are those of an `OwnedCollator` (`uca_owned`) that C keeps, with a book where its keys are compact. Each error is a
-//! status.
+//! The calls are those of an `OwnedCollator` (`uca_owned`) that C keeps, with a book where its keys are compact, and
+//! those of an `OwnedUpgrade` (`uca_upgrade`). Each error is a status.
 #![tactic(auto)]
 
 mod compact_exports;
@@ -10,12 +11,20 @@ mod compact_work;
 mod crossing;
 mod exports;
 mod handle;
+mod keeping;
 mod numbers;
 mod open_collator;
+mod open_upgrade;
 mod opening;
 mod parts;
 mod range_work;
 mod slot;
 mod statuses;
 mod structs;
+mod upgrade_errors;
+mod upgrade_exports;
+mod upgrade_handle;
+mod upgrade_opening;
+mod upgrade_slot;
+mod upgrade_work;
 mod work;

@@ -15,6 +15,7 @@ ghost use Rattle.uca_c.specs.OpenCollators.{keying_at};
 ghost use Rattle.uca_c.specs.Opened.{Asks, FingerprintsBy, OpensBy, IsNoFileError, IsOpenStatus, IsStopStatus, TellsFault};
 ghost use Rattle.uca_c.specs.Opened.{HasBook, RejectsBook, IsCompactOpenStatus, IsCompactStopStatus};
 
+use crate::keeping::keep;
 use crate::numbers::{asked_depth, asked_weighting, number_of_kind};
 use crate::open_collator::OpenCollator;
 use crate::statuses::{ARGUMENT, BOOK, DATA, MEMORY, TABLE};
@@ -93,16 +94,6 @@ fn book_of(alloc: Global, book: &[u8]) -> Result<Book, TableFault>
     match read_book(alloc, &mut Source::new(book)) {
         Ok(book) => Ok(book),
         Err(fault) => Err(in_memory(fault)),
-    }
-}
-
-// Puts a collator into memory of its own, or returns the status of the call.
-fn keep(alloc: Global, collator: OpenCollator) -> Result<Box<OpenCollator>, u32>
-    ensures { MatchResult result (λ kept. kept.value ≡ collator) (λ status. status ≡ MEMORY) }
-{
-    match Box::new(alloc, collator) {
-        Ok(kept) => Ok(kept),
-        Err(_) => Err(MEMORY),
     }
 }
 

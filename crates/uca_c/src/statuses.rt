@@ -9,10 +9,10 @@ use uca_text::TextFault;
 /// The call did what it says.
 pub const OK: u32 = 0;
 
-/// The collator is closed.
+/// The collator or the upgrade is closed.
 pub const CLOSED: u32 = 1;
 
-/// The collator is open already.
+/// The collator or the upgrade is open already.
 pub const ALREADY_OPEN: u32 = 2;
 
 /// A number is none of those that the call takes.
@@ -47,6 +47,15 @@ pub const NO_BOOK: u32 = 12;
 
 /// The bytes are no key, or no compact key.
 pub const NO_KEY: u32 = 13;
+
+/// A file of an upgrade is rejected.
+pub const FILE: u32 = 14;
+
+/// The audit rejects what the files of an upgrade mean.
+pub const NOT_MET: u32 = 15;
+
+/// A weight of a key has no image under an upgrade.
+pub const NO_IMAGE: u32 = 16;
 
 // The status of a text that is rejected.
 pub fn status_of_text(fault: KeyFault) -> u32

@@ -10,6 +10,26 @@ pub struct FileError {
     pub kind: u32,
 }
 
+/// Why an upgrade is not opened. All are 0 unless a file is rejected, or the audit rejects what the files mean.
+#[repr(C)]
+#[derive(Clone, Copy, Debug, Drop)]
+pub struct UpgradeError {
+    /// The file: 1 the old table, 2 its data file, 3 the new table, 4 its data file, 5 the file of changes,
+    /// 6 the certificate.
+    pub file: u32,
+    /// Its line, counted from 1.
+    pub line: u32,
+    /// The kind, as in a `FileError`; of a certificate also 10 `Map Empty`, 11 `Map NotRising`, 12 `Map OutOfRange`,
+    /// 13 `Map Fixed`.
+    pub kind: u32,
+    /// The condition of the audit that is not met, counted from 1.
+    pub condition: u32,
+    /// What the number is: 1 a row of the old table, 2 a row of the new table, 3 a code point, or 0 nothing.
+    pub place: u32,
+    /// The first position where the condition is not met.
+    pub number: u32,
+}
+
 /// How two texts or two keys compare.
 #[repr(C)]
 #[derive(Clone, Copy, Debug, Drop)]

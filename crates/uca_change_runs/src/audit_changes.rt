@@ -6,7 +6,7 @@ ghost use Rattle.uca_editions.specs.ChangeInputs.{MeansUnaffectedTextsStay};
 ghost use Rattle.uca_editions.specs.ChangeRefusals.{IsFirstRefusal};
 ghost use Rattle.uca_run_parts.specs.Runs.{ended_by_output};
 ghost use Rattle.uca_run_parts.specs.Verdicts.{RunsAudit};
-ghost use Rattle.uca_change_runs.specs.inside.ReadChanges.{change_of};
+ghost use Rattle.uca_change_runs.specs.ReadChange.{change_of};
 ghost use Rattle.uca_change_runs.specs.AuditRun.{AuditsChanges, change_audit};
 
 use crate::files::{ChangeFiles, read_editions, read_listed};
@@ -86,8 +86,12 @@ fn write_verdict<M: Allocator + Copy, W: Write>(
     }
 }
 
-// Audits the change that the files mean, with lists to look up in place of the file of changes.
-fn audit_files<M: Allocator + Copy>(alloc: M, files: &ChangeFiles<M>) -> Result<(), ChangeFault>
+/// Audits the change that was read of its files, as [`audit_change`] does.
+///
+/// # Errors
+///
+/// Those of [`audit_change`].
+pub fn audit_files<M: Allocator + Copy>(alloc: M, files: &ChangeFiles<M>) -> Result<(), ChangeFault>
     ensures accepted { OnOk result (IsAcceptedChange (change_of files.now)) }
     ensures meaning { OnOk result (MeansUnaffectedTextsStay (change_of files.now)) }
     ensures refused { IfErr result (λ fault. IsFirstRefusal (change_of files.now) fault ⊎ (fault ≡ ChangeFault.Memory)) }

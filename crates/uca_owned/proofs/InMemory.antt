@@ -5,20 +5,25 @@ use Rattle.uca_values.specs.declared.faults.FaultKind.TheVariants as kinds
 use Rattle.uca_lines.specs.declared.files.FileForm.{FileForm}
 use Rattle.uca_lines.specs.declared.files.TheConstants.{TABLE_FORM}
 use Rattle.uca_lines.specs.FileStops.{IsStop}
-use Rattle.uca_lines.specs.Files.{FailsIn, Refuses, StopsAt}
+use Rattle.uca_lines.specs.Files.{FailsIn, Refuses, RefusesLine, StopsAt}
 
 of_left : {K S : Type 0} (form : FileForm K) (Says : List (List ℕ) → S → Type 0) (bytes : List ℕ) (left : Option (List ℕ)) (number : ℕ)
     → IsSomeAnd left (λ rest. FailsIn form Says bytes rest number) → StopsAt form Says bytes number
 of_left form Says bytes None number h = absurd h
 of_left form Says bytes (Some rest) number h = record { said = h.said; rest = h.rest; reaches = h.reaches }
 
--- where a file is rejected, all lines before that line are acceptable
+-- where a line is rejected, all lines before it are acceptable
+pub line_stopped : {K S : Type 0} (form : FileForm K) (Says : List (List ℕ) → S → Type 0) (Cause : S → List ℕ → K → Type 0)
+    (bytes : List ℕ) (left : Option (List ℕ)) (number : ℕ) (kind : K) → RefusesLine form Says Cause bytes left number kind → StopsAt form Says bytes number
+line_stopped form Says Cause bytes left number kind (inl (read, fails)) = of_left form Says bytes left number fails
+line_stopped form Says Cause bytes left number kind (inr (inl (memory, stops))) = stops
+line_stopped form Says Cause bytes left number kind (inr (inr h)) = record { said = h.said; rest = h.rest; reaches = h.reaches }
+
+-- and so they are where a file is rejected
 stopped : {K S : Type 0} (form : FileForm K) (Says : List (List ℕ) → S → Type 0) (Cause : S → List ℕ → K → Type 0) (IsUnfinished : S → Type 0)
     (bytes : List ℕ) (left : Option (List ℕ)) (number : ℕ) (kind : K) → Refuses form Says Cause IsUnfinished bytes left number kind
     → StopsAt form Says bytes number
-stopped form Says Cause IsUnfinished bytes left number kind (inl (inl (read, fails))) = of_left form Says bytes left number fails
-stopped form Says Cause IsUnfinished bytes left number kind (inl (inr (inl (memory, stops)))) = stops
-stopped form Says Cause IsUnfinished bytes left number kind (inl (inr (inr h))) = record { said = h.said; rest = h.rest; reaches = h.reaches }
+stopped form Says Cause IsUnfinished bytes left number kind (inl h) = line_stopped form Says Cause bytes left number kind h
 stopped form Says Cause IsUnfinished bytes left number kind (inr h) = record { said = h.said; rest = []; reaches = h.reaches }
 
 -- so the error may be one of memory in place of another one

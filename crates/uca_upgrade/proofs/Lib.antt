@@ -1,3 +1,4 @@
+pub mod CertificatesInMemory
 pub mod Renewed
 pub mod Reading
 pub mod Opened

@@ -26,7 +26,7 @@ stop_of_audit change _ stop = absurd stop
 
 pub cause_of_audit : (files : UpgradeFiles) (change : Change) (fault : UpgradeFault) → MeanChange files change → IsAuditStop change fault → IsUpgradeCause files fault
 cause_of_audit files change (NotMet condition place) mean stop = (change, mean, stop)
-cause_of_audit files change Memory mean stop = tt
+cause_of_audit files change Memory mean stop = (change, mean)
 cause_of_audit files change _ mean stop = absurd stop
 
 -- ---- Results

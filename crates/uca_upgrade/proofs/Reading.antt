@@ -1,4 +1,5 @@
 -- Why files are rejected, by the errors of their parts.
+use Rattle.std.proofs.Common.{◌≢◌, refl}
 use Rattle.uca_changes.specs.Changes.{Change}
 use Rattle.uca_owned.specs.Opening.{IsOpenCause, IsOpenStop}
 use Rattle.uca_owned.specs.declared.faults.OpenFault.{OpenFault}
@@ -7,16 +8,17 @@ use Rattle.uca_upgrade.specs.Causes.{IsEdition, IsUpgradeCause, IsUpgradeStop}
 use Rattle.uca_upgrade.specs.declared.files.UpgradeFiles.{UpgradeFiles}
 use Rattle.uca_upgrade.specs.inside.Read.{new_fault_of, old_fault_of}
 
-pub old_cause : (files : UpgradeFiles) (fault : OpenFault) → IsOpenCause files.old_table.now files.old_data.now fault → IsUpgradeCause files (old_fault_of fault)
-old_cause files (Table fault) cause = cause
-old_cause files (Data fault) cause = cause
-old_cause files Memory cause = tt
+pub old_cause : (files : UpgradeFiles) (fault : OpenFault) → fault ≢ Memory → IsOpenCause files.old_table.now files.old_data.now fault
+    → IsUpgradeCause files (old_fault_of fault)
+old_cause files (Table fault) file cause = cause
+old_cause files (Data fault) file cause = cause
+old_cause files Memory file cause = absurd (file refl)
 
-pub new_cause : (files : UpgradeFiles) → IsEdition files.old_table.now files.old_data.now → (fault : OpenFault)
+pub new_cause : (files : UpgradeFiles) → IsEdition files.old_table.now files.old_data.now → (fault : OpenFault) → fault ≢ Memory
     → IsOpenCause files.new_table.now files.new_data.now fault → IsUpgradeCause files (new_fault_of fault)
-new_cause files old (Table fault) cause = (old, cause)
-new_cause files old (Data fault) cause = (old, cause)
-new_cause files old Memory cause = tt
+new_cause files old (Table fault) file cause = (old, cause)
+new_cause files old (Data fault) file cause = (old, cause)
+new_cause files old Memory file cause = absurd (file refl)
 
 pub old_stop : (change : Change) (fault : OpenFault) → IsOpenStop fault → IsUpgradeStop change (old_fault_of fault)
 old_stop change (Table fault) stop = stop

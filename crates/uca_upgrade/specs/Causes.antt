@@ -1,11 +1,11 @@
 -- Why no upgrade is opened.
-use Rattle.std.specs.Prelude.{◌≡◌, ℕ, List, Option, ⊤}
+use Rattle.std.specs.Prelude.{◌≡◌, ◌≢◌, ℕ, List, Option, ⊤}
 use Rattle.uca_values.specs.Content.{TableContent, Properties}
 use Rattle.uca_values.specs.declared.faults.FaultKind.TheVariants as kinds
 use Rattle.uca_values.specs.declared.faults.TableFault.{TableFault}
-use Rattle.uca_lines.specs.FileStops.{IsStop}
 use Rattle.uca_certificates.specs.Texts as certificates
 use Rattle.uca_certificates.specs.declared.faults.CertificateFault.{CertificateFault}
+use Rattle.uca_certificates.specs.declared.faults.CertificateFaultKind.TheVariants as certificate_kinds
 use Rattle.uca_change_files.specs.Changes.{ChangeContent}
 use Rattle.uca_change_files.specs.ChangeTexts as changes
 use Rattle.uca_changes.specs.Changes.{Change}
@@ -26,15 +26,20 @@ IsEdition table_bytes data_bytes = (table : TableContent) × (properties : Prope
 abbrev pub AreEditions : UpgradeFiles → Type 0
 AreEditions files = IsEdition files.old_table.now files.old_data.now × IsEdition files.new_table.now files.new_data.now
 
--- why the bytes of a file of changes are rejected, and those of a certificate, whatever is left of them
-abbrev pub RejectsChanges : List ℕ → TableFault → Type 0
-RejectsChanges bytes fault = (left : Option (List ℕ)) × changes.Refuses bytes left fault
+-- Why the bytes of a file of changes are rejected, whatever is left of them. Reading bytes in memory does not fail.
+pub record RejectsChanges (bytes : List ℕ) (fault : TableFault) : Type 0 where
+  pub left : Option (List ℕ)
+  pub cause : changes.Refuses bytes left fault
+  pub not_read : fault.kind ≢ kinds.Read
 
-abbrev pub RejectsCertificate : List ℕ → CertificateFault → Type 0
-RejectsCertificate bytes fault = (left : Option (List ℕ)) × certificates.Refuses bytes left fault
+-- why the bytes of a certificate are rejected
+pub record RejectsCertificate (bytes : List ℕ) (fault : CertificateFault) : Type 0 where
+  pub left : Option (List ℕ)
+  pub cause : certificates.Refuses bytes left fault
+  pub not_read : fault.kind ≢ certificate_kinds.Read
 
 -- A file is rejected, and those before it are not. Or the files mean a change, and it does not meet the condition, first at this
--- place. Or an allocation failed.
+-- place. Or they mean a change, and an allocation failed later.
 abbrev pub IsUpgradeCause : UpgradeFiles → UpgradeFault → Type 0
 IsUpgradeCause files (OldTable fault) = IsOpenCause files.old_table.now files.old_data.now (open_faults.Table fault)
 IsUpgradeCause files (OldData fault) = IsOpenCause files.old_table.now files.old_data.now (open_faults.Data fault)
@@ -47,16 +52,15 @@ IsUpgradeCause files (Certificate fault) =
     AreEditions files × ((content : ChangeContent) × changes.Means files.changes.now content) × RejectsCertificate files.certificate.now fault
 IsUpgradeCause files (NotMet condition place) =
     (change : Change) × MeanChange files change × IsFirstRefusal change (change_faults.NotMet condition place)
-IsUpgradeCause files Memory = ⊤
+IsUpgradeCause files Memory = (change : Change) × MeanChange files change
 
--- Why there is none though the files mean this change: an allocation failed, or the audit rejects the change. Of a file of changes and
--- a certificate a failed read is not excluded.
+-- why there is none though the files mean this change: an allocation failed, or the audit rejects the change
 abbrev pub IsUpgradeStop : Change → UpgradeFault → Type 0
 IsUpgradeStop change (OldTable fault) = fault.kind ≡ kinds.Memory
 IsUpgradeStop change (OldData fault) = fault.kind ≡ kinds.Memory
 IsUpgradeStop change (NewTable fault) = fault.kind ≡ kinds.Memory
 IsUpgradeStop change (NewData fault) = fault.kind ≡ kinds.Memory
-IsUpgradeStop change (Changes fault) = IsStop fault.kind
-IsUpgradeStop change (Certificate fault) = certificates.IsStop fault.kind
+IsUpgradeStop change (Changes fault) = fault.kind ≡ kinds.Memory
+IsUpgradeStop change (Certificate fault) = fault.kind ≡ certificate_kinds.Memory
 IsUpgradeStop change (NotMet condition place) = IsFirstRefusal change (change_faults.NotMet condition place)
 IsUpgradeStop change Memory = ⊤

@@ -1,20 +1,28 @@
 //! The six files of an upgrade, read from their bytes.
 
-ghost use Rattle.std.specs.Prelude.{◌≡◌, IfOk, IfErr, MatchResult};
+ghost use Rattle.std.specs.Prelude.{◌≡◌, ◌≢◌, ◌⊎◌, IfOk, IfErr, MatchResult};
 ghost use Rattle.uca_values.specs.Content.{TableContent, Properties, properties_of};
+ghost use Rattle.uca_values.specs.declared.faults.FaultKind.TheVariants as kinds;
+ghost use Rattle.uca_certificates.specs.Certificates.{CertificateContent};
+ghost use Rattle.uca_certificates.specs.Texts as certificates;
+ghost use Rattle.uca_certificates.specs.declared.faults.CertificateFaultKind.TheVariants as certificate_kinds;
+ghost use Rattle.uca_change_files.specs.Changes.{ChangeContent};
+ghost use Rattle.uca_change_files.specs.ChangeTexts as changes;
 ghost use Rattle.uca_changes.specs.Changes.{Change};
 ghost use Rattle.uca_owned.specs.Opening.{MeanFiles, IsOpenCause, IsOpenStop};
 ghost use Rattle.uca_upgrade.specs.Files.{MeanChange};
-ghost use Rattle.uca_upgrade.specs.Causes.{AreEditions, IsUpgradeCause, IsUpgradeStop};
-ghost use Rattle.uca_upgrade.specs.inside.Read.{AreEditionsOf, EditionsMean, IsListedOf, ListMeans, change_of, new_fault_of, old_fault_of};
+ghost use Rattle.uca_upgrade.specs.Causes.{AreEditions, IsUpgradeCause, IsUpgradeStop, RejectsChanges, RejectsCertificate};
+ghost use Rattle.uca_change_runs.specs.ReadChange.{change_of};
+ghost use Rattle.uca_upgrade.specs.inside.Read.{AreEditionsOf, EditionsMean, IsListedOf, ListMeans, new_fault_of, old_fault_of};
 
 use crate::faults::UpgradeFault;
 use std::alloc::Global;
-use uca_certificates::{Certificate, read_certificate};
+use uca_certificates::{Certificate, CertificateFault, CertificateFaultKind, read_certificate};
 use uca_change_files::{ChangeList, read_changes};
+use uca_change_runs::{ChangeFiles, Edition, EditionFiles, Listed};
 use uca_owned::{OpenFault, in_memory};
 use uca_table::{read_data, read_table};
-use uca_values::{Data, Table};
+use uca_values::TableFault;
 use uca_weights::Source;
 
 /// The bytes of the six files of an upgrade.
@@ -34,36 +42,8 @@ pub struct UpgradeFiles<'a> {
     pub certificate: &'a [u8],
 }
 
-// What a table and its data file mean.
-#[derive(Drop)]
-pub(crate) struct Edition {
-    pub(crate) table: Table,
-    pub(crate) properties: Data,
-}
-
-// What the files of both editions mean.
-#[derive(Drop)]
-pub(crate) struct Editions {
-    pub(crate) old: Edition,
-    pub(crate) new: Edition,
-}
-
-// What a file of changes and a certificate mean.
-#[derive(Drop)]
-pub(crate) struct Listed {
-    pub(crate) list: ChangeList,
-    pub(crate) certificate: Certificate,
-}
-
-// What all six files mean.
-#[derive(Drop)]
-pub(crate) struct ReadChange {
-    pub(crate) editions: Editions,
-    pub(crate) listed: Listed,
-}
-
 // Reads the six files, in their order.
-pub(crate) fn read_change(alloc: Global, files: &UpgradeFiles) -> Result<ReadChange, UpgradeFault>
+pub(crate) fn read_change(alloc: Global, files: &UpgradeFiles) -> Result<ChangeFiles, UpgradeFault>
     ensures found { IfOk result (λ read. MeanChange files.now (change_of read)) }
     ensures only { (change : Change) → MeanChange files.now change →
         MatchResult result (λ read. change_of read ≡ change) (IsUpgradeStop change) }
@@ -71,7 +51,7 @@ pub(crate) fn read_change(alloc: Global, files: &UpgradeFiles) -> Result<ReadCha
 {
     match read_editions(alloc, files) {
         Ok(editions) => match read_listed(alloc, files) {
-            Ok(listed) => Ok(ReadChange { editions, listed }),
+            Ok(listed) => Ok(ChangeFiles { editions, listed }),
             Err(fault) => {
                 drop(editions);
                 Err(fault)
@@ -82,7 +62,7 @@ pub(crate) fn read_change(alloc: Global, files: &UpgradeFiles) -> Result<ReadCha
 }
 
 // Reads the files of the old edition, and then those of the new one.
-fn read_editions(alloc: Global, files: &UpgradeFiles) -> Result<Editions, UpgradeFault>
+fn read_editions(alloc: Global, files: &UpgradeFiles) -> Result<EditionFiles, UpgradeFault>
     ensures found { IfOk result (EditionsMean files.now) }
     ensures only { (change : Change) → MeanChange files.now change →
         MatchResult result (AreEditionsOf change) (IsUpgradeStop change) }
@@ -90,7 +70,7 @@ fn read_editions(alloc: Global, files: &UpgradeFiles) -> Result<Editions, Upgrad
 {
     match read_edition(alloc, files.old_table, files.old_data) {
         Ok(old) => match read_edition(alloc, files.new_table, files.new_data) {
-            Ok(new) => Ok(Editions { old, new }),
+            Ok(new) => Ok(EditionFiles { old, new }),
             Err(fault) => {
                 drop(old);
                 Err(new_fault(fault))
@@ -100,12 +80,13 @@ fn read_editions(alloc: Global, files: &UpgradeFiles) -> Result<Editions, Upgrad
     }
 }
 
-// Reads a table, and then its data file.
+// Reads a table, and then its data file. An error is in one of them.
 fn read_edition(alloc: Global, table: &[u8], data_file: &[u8]) -> Result<Edition, OpenFault>
     ensures found { IfOk result (λ read. MeanFiles table.now data_file.now read.table (properties_of read.properties)) }
     ensures only { (meant : TableContent) (properties : Properties) → MeanFiles table.now data_file.now meant properties →
         MatchResult result (λ read. (read.table ≡ meant) × (properties_of read.properties ≡ properties)) IsOpenStop }
     ensures fault { IfErr result (IsOpenCause table.now data_file.now) }
+    ensures file { IfErr result (λ fault. fault ≢ OpenFault.Memory) }
 {
     match read_table(alloc, &mut Source::new(table)) {
         Ok(table) => match read_data(alloc, &mut Source::new(data_file)) {
@@ -126,8 +107,8 @@ fn read_listed(alloc: Global, files: &UpgradeFiles) -> Result<Listed, UpgradeFau
         MatchResult result (IsListedOf change) (IsUpgradeStop change) }
     ensures fault { IfErr result (λ fault. AreEditions files.now → IsUpgradeCause files.now fault) }
 {
-    match read_changes(alloc, &mut Source::new(files.changes)) {
-        Ok(list) => match read_certificate(alloc, &mut Source::new(files.certificate)) {
+    match list_of(alloc, files.changes) {
+        Ok(list) => match certificate_of(alloc, files.certificate) {
             Ok(certificate) => Ok(Listed { list, certificate }),
             Err(fault) => {
                 drop(list);
@@ -135,6 +116,47 @@ fn read_listed(alloc: Global, files: &UpgradeFiles) -> Result<Listed, UpgradeFau
             }
         },
         Err(fault) => Err(UpgradeFault::Changes(fault)),
+    }
+}
+
+// The list that the bytes of a file of changes mean.
+fn list_of(alloc: Global, bytes: &[u8]) -> Result<ChangeList, TableFault>
+    ensures found { IfOk result (changes.Means bytes.now) }
+    ensures only { (content : ChangeContent) → changes.Means bytes.now content →
+        MatchResult result (λ list. list ≡ content) (λ fault. fault.kind ≡ kinds.Memory) }
+    ensures rejected { IfErr result (RejectsChanges bytes.now) }
+{
+    match read_changes(alloc, &mut Source::new(bytes)) {
+        Ok(list) => Ok(list),
+        Err(fault) => Err(in_memory(fault)),
+    }
+}
+
+// The certificate that these bytes mean.
+fn certificate_of(alloc: Global, bytes: &[u8]) -> Result<Certificate, CertificateFault>
+    ensures found { IfOk result (certificates.Means bytes.now) }
+    ensures only { (content : CertificateContent) → certificates.Means bytes.now content →
+        MatchResult result (λ read. read ≡ content) (λ fault. fault.kind ≡ certificate_kinds.Memory) }
+    ensures rejected { IfErr result (RejectsCertificate bytes.now) }
+{
+    match read_certificate(alloc, &mut Source::new(bytes)) {
+        Ok(certificate) => Ok(certificate),
+        Err(fault) => Err(certificate_in_memory(fault)),
+    }
+}
+
+// The error of a certificate whose bytes are in memory. A read of these does not fail.
+fn certificate_in_memory(fault: CertificateFault) -> CertificateFault
+    ensures fault { (result ≡ fault)
+        ⊎ ((fault.kind ≡ certificate_kinds.Read) × (result ≡ record { line = fault.line; kind = certificate_kinds.Memory })) }
+    ensures not_read { result.kind ≢ certificate_kinds.Read }
+{
+    match fault.kind {
+        CertificateFaultKind::Read => CertificateFault {
+            line: fault.line,
+            kind: CertificateFaultKind::Memory,
+        },
+        _ => fault,
     }
 }
 

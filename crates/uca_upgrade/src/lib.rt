@@ -9,7 +9,6 @@
 //! its key by 15.0.0.
 #![tactic(auto)]
 
-mod auditing;
 mod calls;
 mod faults;
 mod files;

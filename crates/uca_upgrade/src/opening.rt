@@ -7,14 +7,14 @@ ghost use Rattle.uca_upgrade.specs.Causes.{IsUpgradeCause, IsUpgradeStop};
 ghost use Rattle.uca_upgrade.specs.Files.{MeanChange};
 ghost use Rattle.uca_upgrade.specs.Opening.{IsUpgradeOf, OpensUpgrade};
 ghost use Rattle.uca_upgrade.specs.Upgrades.{KeepsChange};
-ghost use Rattle.uca_upgrade.specs.inside.Read.{IsAuditStop, audit_fault_of, change_of};
+ghost use Rattle.uca_change_runs.specs.ReadChange.{change_of};
+ghost use Rattle.uca_upgrade.specs.inside.Read.{IsAuditStop, audit_fault_of};
 
-use crate::auditing::audit_read;
 use crate::faults::UpgradeFault;
-use crate::files::{Editions, Listed, ReadChange, UpgradeFiles, read_change};
+use crate::files::{UpgradeFiles, read_change};
 use crate::owned::OwnedUpgrade;
 use std::alloc::{AllocError, Global};
-use uca_change_runs::ChangeIndex;
+use uca_change_runs::{ChangeFiles, ChangeIndex, EditionFiles, Listed, audit_files};
 use uca_editions::ChangeFault;
 use uca_fingerprint::fingerprint;
 use uca_images::KeyMover;
@@ -61,13 +61,13 @@ impl OwnedUpgrade {
 fn audited(
     alloc: Global,
     files: &UpgradeFiles,
-    read: ReadChange,
+    read: ChangeFiles,
     asked: Option<Weighting>,
     depth: Depth,
 ) -> Result<OwnedUpgrade, UpgradeFault>
     ensures { MatchResult result (IsUpgradeOf files.now (change_of read) asked depth) (IsAuditStop (change_of read)) }
 {
-    match audit_read(alloc, &read) {
+    match audit_files(alloc, &read) {
         Ok(()) => match kept(alloc, files, read, asked, depth) {
             Ok(upgrade) => Ok(upgrade),
             Err(_) => Err(UpgradeFault::Memory),
@@ -93,14 +93,14 @@ fn not_met(fault: ChangeFault) -> UpgradeFault
 fn kept(
     alloc: Global,
     files: &UpgradeFiles,
-    read: ReadChange,
+    read: ChangeFiles,
     asked: Option<Weighting>,
     depth: Depth,
 ) -> Result<OwnedUpgrade, AllocError>
     ensures { IfOk result (KeepsChange files.now (change_of read) asked depth) }
 {
-    let ReadChange {
-        editions: Editions { old, new },
+    let ChangeFiles {
+        editions: EditionFiles { old, new },
         listed: Listed { list, certificate },
     } = read;
     let settings = settings_under(asked, &old.table.header, depth);

@@ -54,9 +54,6 @@ editions_of files = editions_with (edition_of files.old) (edition_of files.new)
 abbrev pub listed_of : {A : Type 0} → Listed A → ListedContent
 listed_of listed = listed_with listed.list listed.certificate
 
-abbrev pub change_of : {A : Type 0} → ChangeFiles A → Change
-change_of files = change_listed (editions_of files.editions) (listed_of files.listed)
-
 -- the change of these files, with other lists of texts and ranges
 abbrev pub change_by : {A : Type 0} → ChangeFiles A → ChangesContent → Change
 change_by files changes =

@@ -1,34 +1,33 @@
 -- What was read of the six files.
+use Rattle.std.specs.Global.{Global}
 use Rattle.std.specs.Prelude.{◌≡◌, ⊤}
 use Rattle.uca_values.specs.Content.{properties_of}
 use Rattle.uca_certificates.specs.Texts as certificates
 use Rattle.uca_tailorings.specs.Inputs.{maps_of}
 use Rattle.uca_change_files.specs.ChangeTexts as changes
-use Rattle.uca_change_lists.specs.ChangeLists.{ChangesContent}
 use Rattle.uca_changes.specs.Changes.{Change}
 use Rattle.uca_changes.specs.declared.faults.ChangeFault.{ChangeFault}
 use Rattle.uca_changes.specs.declared.faults.ChangeFault.TheVariants as change_faults
 use Rattle.uca_change_runs.specs.AffectedRun.{listed_in}
+use Rattle.uca_change_runs.specs.declared.files.EditionFiles.{EditionFiles}
+use Rattle.uca_change_runs.specs.declared.files.Listed.{Listed}
 use Rattle.uca_editions.specs.ChangeRefusals.{IsFirstRefusal}
 use Rattle.uca_owned.specs.Opening.{MeanFiles}
 use Rattle.uca_owned.specs.declared.faults.OpenFault.{OpenFault}
 use Rattle.uca_owned.specs.declared.faults.OpenFault.TheVariants as open_faults
 use Rattle.uca_upgrade.specs.declared.faults.UpgradeFault.{UpgradeFault}
 use Rattle.uca_upgrade.specs.declared.faults.UpgradeFault.TheVariants.{OldTable, OldData, NewTable, NewData, NotMet, Memory}
-use Rattle.uca_upgrade.specs.declared.files.Editions.{Editions}
-use Rattle.uca_upgrade.specs.declared.files.Listed.{Listed}
-use Rattle.uca_upgrade.specs.declared.files.ReadChange.{ReadChange}
 use Rattle.uca_upgrade.specs.declared.files.UpgradeFiles.{UpgradeFiles}
 
 -- ---- Two editions
 
 -- the bytes of both editions mean what was read
-pub record EditionsMean (files : UpgradeFiles) (read : Editions) : Type 0 where
+pub record EditionsMean (files : UpgradeFiles) (read : EditionFiles Global) : Type 0 where
   pub old : MeanFiles files.old_table.now files.old_data.now read.old.table (properties_of read.old.properties)
   pub new : MeanFiles files.new_table.now files.new_data.now read.new.table (properties_of read.new.properties)
 
 -- what was read is what a change has
-pub record AreEditionsOf (change : Change) (read : Editions) : Type 0 where
+pub record AreEditionsOf (change : Change) (read : EditionFiles Global) : Type 0 where
   pub old : read.old.table ≡ change.old
   pub old_data : properties_of read.old.properties ≡ change.old_properties
   pub new : read.new.table ≡ change.new
@@ -48,39 +47,14 @@ new_fault_of open_faults.Memory = Memory
 -- ---- What is listed
 
 -- the bytes of the file of changes and of the certificate mean what was read
-pub record ListMeans (files : UpgradeFiles) (read : Listed) : Type 0 where
+pub record ListMeans (files : UpgradeFiles) (read : Listed Global) : Type 0 where
   pub list : changes.Means files.changes.now read.list
   pub certificate : certificates.Means files.certificate.now read.certificate
 
 -- what was read is what a change lists
-pub record IsListedOf (change : Change) (read : Listed) : Type 0 where
+pub record IsListedOf (change : Change) (read : Listed Global) : Type 0 where
   pub list : read.list ≡ listed_in change
   pub maps : maps_of read.certificate ≡ change.maps
-
--- ---- The change
-
-abbrev pub change_of : ReadChange → Change
-change_of read = record {
-  old = read.editions.old.table;
-  old_properties = properties_of read.editions.old.properties;
-  new = read.editions.new.table;
-  new_properties = properties_of read.editions.new.properties;
-  texts = read.listed.list.texts;
-  ranges = read.listed.list.ranges;
-  maps = maps_of read.listed.certificate;
-}
-
--- the change with other lists of texts and ranges
-abbrev pub change_by : ReadChange → ChangesContent → Change
-change_by read listed = record {
-  old = read.editions.old.table;
-  old_properties = properties_of read.editions.old.properties;
-  new = read.editions.new.table;
-  new_properties = properties_of read.editions.new.properties;
-  texts = listed.texts;
-  ranges = listed.ranges;
-  maps = maps_of read.listed.certificate;
-}
 
 -- ---- The audit
 

@@ -5,7 +5,8 @@ use Rattle.uca_changes.specs.declared.faults.ChangeFault.TheVariants.{Memory}
 use Rattle.uca_changes.proofs.SameLists.{accepted_by_same}
 use Rattle.uca_editions.specs.ChangeRefusals.{IsFirstRefusal}
 use Rattle.uca_editions.proofs.SameChanges.{meaning_by_same, refused_by_same}
-use Rattle.uca_change_runs.specs.inside.ReadChanges.{change_by, change_of}
+use Rattle.uca_change_runs.specs.ReadChange.{change_of}
+use Rattle.uca_change_runs.specs.inside.ReadChanges.{change_by}
 use Rattle.uca_change_runs.proofs.audit_changes.audit_files.Goals as goal
 
 pub returns-in-Ok-clause-accepted : goal.returns-in-Ok-clause-accepted

@@ -20,7 +20,7 @@ pub returns-in-Err-read_edition-clause-fault : goal.returns-in-Err-read_edition-
 returns-in-Err-read_edition-clause-fault c =
     subst (IsUpgradeCause c.args.files.now) (sym c.new_fault.ensures)
     (new_cause c.args.files.now (c.in-Ok.old.table, properties_of c.in-Ok.old.properties, c.in-Ok.ensures.found) c.in-Err-read_edition.fault
-    c.in-Err-read_edition.ensures.fault)
+    c.in-Err-read_edition.ensures.file c.in-Err-read_edition.ensures.fault)
 
 pub returns-in-Err-clause-only : goal.returns-in-Err-clause-only
 returns-in-Err-clause-only c change mean =
@@ -29,4 +29,4 @@ returns-in-Err-clause-only c change mean =
 
 pub returns-in-Err-clause-fault : goal.returns-in-Err-clause-fault
 returns-in-Err-clause-fault c =
-    subst (IsUpgradeCause c.args.files.now) (sym c.old_fault.ensures) (old_cause c.args.files.now c.in-Err.fault c.in-Err.ensures.fault)
+    subst (IsUpgradeCause c.args.files.now) (sym c.old_fault.ensures) (old_cause c.args.files.now c.in-Err.fault c.in-Err.ensures.file c.in-Err.ensures.fault)

@@ -1,0 +1,30 @@
+-- Files that mean a change are rejected by no cause of their own, and the numbers are those that were asked for.
+use Rattle.std.proofs.Common.{◌∙◌, ap, inr, subst}
+use Rattle.std.specs.Prelude.{Option, unwrap_or}
+use Rattle.uca_weights.specs.declared.Depth.{Depth}
+use Rattle.uca_weights.specs.declared.Weighting.{Weighting}
+use Rattle.uca_upgrade.specs.Opening.{IsUpgradeOf}
+use Rattle.uca_c.proofs.upgrade_opening.open_files.Goals as goal
+
+pub returns-in-Ok-clause-only : goal.returns-in-Ok-clause-only
+returns-in-Ok-clause-only c asked at change asks =
+    let files = c.args.files.now in
+    subst (λ (it : Option Weighting). IsUpgradeOf files change it at c.in-Ok.upgrade)
+    (ap (λ (o : Option (Option Weighting)). unwrap_or o asked) (c.in-Some.ensures ∙ asks.is_weighting))
+    (subst (λ (it : Depth). IsUpgradeOf files change c.in-Some.asked it c.in-Ok.upgrade)
+    (ap (λ (o : Option Depth). unwrap_or o at) (c.in-Some-asked_depth.ensures ∙ asks.is_depth))
+    (c.in-Ok.ensures.only change asks.mean))
+
+pub returns-in-Err-clause-only : goal.returns-in-Err-clause-only
+returns-in-Err-clause-only c asked at change asks = record {
+  fault = c.in-Err.fault;
+  cause = (c.in-Err.ensures.only change asks.mean, c.tell.ensures.error);
+  same = c.tell.ensures.status;
+}
+
+pub returns-in-Err-clause-rejected : goal.returns-in-Err-clause-rejected
+returns-in-Err-clause-rejected c = inr (record {
+  fault = c.in-Err.fault;
+  cause = (c.in-Err.ensures.fault, c.tell.ensures.error);
+  same = c.tell.ensures.status;
+})

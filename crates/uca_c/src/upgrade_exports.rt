@@ -1,0 +1,169 @@
+//! The calls of an upgrade that C makes. Their clauses hold for every argument: a wrong one is a status.
+
+ghost use Rattle.std.specs.Prelude.{◌≡◌, ◌≢◌, ◌↔◌, ◌⊎◌, true, false, Option, None, if◌then◌else◌};
+ghost use Rattle.uca_weights.specs.declared.Depth.{Depth};
+ghost use Rattle.uca_weights.specs.declared.Weighting.{Weighting};
+ghost use Rattle.uca_values.specs.Content.{properties_of};
+ghost use Rattle.uca_changes.specs.Changes.{Change};
+ghost use Rattle.uca_upgrade.specs.Causes.{IsUpgradeStop};
+ghost use Rattle.uca_upgrade.specs.Opening.{IsUpgradeOf};
+ghost use Rattle.uca_upgrade.specs.Upgrades.{is_affected_in, rekeyed_in};
+ghost use Rattle.uca_c.specs.CompactCalls.{IsOneTooSmall, WritesOne};
+ghost use Rattle.uca_c.specs.UpgradeCalls.{AsksUpgrade, OpensUpgradeBy, IsUpgradeOpenStatus, IsRekeyed, IsTextStatus, files_of};
+ghost use Rattle.uca_c.specs.UpgradeErrors.{TellsUpgrade, no_error};
+
+use crate::statuses::{ALREADY_OPEN, CLOSED, MEMORY, NO_IMAGE, OK, SMALL};
+use crate::structs::UpgradeError;
+use crate::upgrade_errors::nothing;
+use crate::upgrade_slot::{UpgradeSlot, put, take};
+use crate::{upgrade_opening, upgrade_work};
+use std::alloc::Global;
+use uca_upgrade::UpgradeFiles;
+
+/// How many bytes `struct uca_upgrade` has.
+#[unsafe(no_mangle)]
+pub extern "C" fn uca_upgrade_size() -> usize
+    ensures { result ≡ 24 }
+{
+    size_of::<UpgradeSlot>()
+}
+
+/// Opens an upgrade that is closed, by the bytes of six files. An upgrade that is opened is one of an accepted change.
+/// By it the old key of each text that is not affected, put through the maps, is the text's new key.
+#[unsafe(no_mangle)]
+pub extern "C" fn uca_open_upgrade(
+    alloc: Global,
+    upgrade: &mut UpgradeSlot,
+    old_table: &[u8],
+    old_data: &[u8],
+    new_table: &[u8],
+    new_data: &[u8],
+    changes: &[u8],
+    certificate: &[u8],
+    weighting: u32,
+    depth: u32,
+    error: &mut UpgradeError,
+) -> u32
+    ensures already { (result ≡ ALREADY_OPEN) ↔ (upgrade.old.full ≡ true) }
+    ensures ok { let files = files_of old_table old_data new_table new_data changes certificate in
+        result ≡ OK → OpensUpgradeBy weighting depth files upgrade.new.handle.kept }
+    ensures open { result ≡ OK → upgrade.new.full ≡ true }
+    ensures same { result ≢ OK → upgrade.new ≡ upgrade.old }
+    ensures only { let files = files_of old_table old_data new_table new_data changes certificate in
+        (asked : Option Weighting) (at : Depth) (change : Change) → upgrade.old.full ≡ false → AsksUpgrade weighting depth files asked at change →
+        ((result ≡ OK) × IsUpgradeOf files change asked at upgrade.new.handle.kept) ⊎ TellsUpgrade (IsUpgradeStop change) error.new result }
+    ensures no_error { (result ≡ OK) ⊎ (result ≡ ALREADY_OPEN) → error.new ≡ no_error }
+    ensures rejected { let files = files_of old_table old_data new_table new_data changes certificate in
+        result ≢ OK → result ≢ ALREADY_OPEN → IsUpgradeOpenStatus weighting depth files error.new result }
+{
+    if upgrade.full {
+        *error = nothing();
+        return ALREADY_OPEN;
+    }
+    let files = UpgradeFiles {
+        old_table,
+        old_data,
+        new_table,
+        new_data,
+        changes,
+        certificate,
+    };
+    match upgrade_opening::open(alloc, &files, weighting, depth, error) {
+        Ok(opened) => {
+            put(upgrade, opened);
+            OK
+        }
+        Err(status) => status,
+    }
+}
+
+/// Tells whether the key of a text has to be made anew.
+#[unsafe(no_mangle)]
+pub extern "C" fn uca_affected(
+    alloc: Global,
+    upgrade: &mut UpgradeSlot,
+    text: &[u8],
+    affected: &mut u32,
+) -> u32
+    ensures closed { (result ≡ CLOSED) ↔ (upgrade.old.full ≡ false) }
+    ensures ok { result ≡ OK → affected.new ≡ (if is_affected_in upgrade.old.handle.kept text.now then 1 else 0) }
+    ensures rejected { upgrade.old.full ≡ true → IsTextStatus (properties_of upgrade.old.handle.kept.data_file) text.now result }
+    ensures none { result ≢ OK → affected.new ≡ 0 }
+    ensures full { upgrade.new.full ≡ upgrade.old.full }
+    ensures kept { upgrade.old.full ≡ true → upgrade.new.handle.kept ≡ upgrade.old.handle.kept }
+{
+    if !upgrade.full {
+        *affected = 0;
+        return CLOSED;
+    }
+    let mut opened = take(alloc, upgrade);
+    let status = upgrade_work::affected(&mut opened, text, affected);
+    put(upgrade, opened);
+    status
+}
+
+/// Writes the new key of an old key at `out`.
+#[unsafe(no_mangle)]
+pub extern "C" fn uca_rekey(
+    alloc: Global,
+    upgrade: &mut UpgradeSlot,
+    key: &[u8],
+    out: &mut [u8],
+    needed: &mut usize,
+) -> u32
+    ensures closed { (result ≡ CLOSED) ↔ (upgrade.old.full ≡ false) }
+    ensures ok { result ≡ OK → WritesOne (IsRekeyed upgrade.old.handle.kept key.now) out.old out.new needed.new }
+    ensures small { result ≡ SMALL → IsOneTooSmall (IsRekeyed upgrade.old.handle.kept key.now) out.old needed.new }
+    ensures no_image { result ≡ NO_IMAGE → rekeyed_in upgrade.old.handle.kept key.now ≡ None }
+    ensures statuses { (result ≡ OK) ⊎ (result ≡ SMALL) ⊎ (result ≡ CLOSED) ⊎ (result ≡ NO_IMAGE) ⊎ (result ≡ MEMORY) }
+    ensures unwritten { result ≢ OK → out.new ≡ out.old }
+    ensures none { result ≢ OK → result ≢ SMALL → needed.new ≡ 0 }
+    ensures full { upgrade.new.full ≡ upgrade.old.full }
+    ensures kept { upgrade.old.full ≡ true → upgrade.new.handle.kept ≡ upgrade.old.handle.kept }
+{
+    if !upgrade.full {
+        *needed = 0;
+        return CLOSED;
+    }
+    let mut opened = take(alloc, upgrade);
+    let status = upgrade_work::rekey(&mut opened, key, out, needed);
+    put(upgrade, opened);
+    status
+}
+
+/// Writes the fingerprint of what the old keys were made by at `old_out`, and that of what the new keys are made by at
+/// `new_out`.
+#[unsafe(no_mangle)]
+pub extern "C" fn uca_upgrade_fingerprints(
+    alloc: Global,
+    upgrade: &mut UpgradeSlot,
+    old_out: &mut [u8; 32],
+    new_out: &mut [u8; 32],
+) -> u32
+    ensures closed { (result ≡ CLOSED) ↔ (upgrade.old.full ≡ false) }
+    ensures statuses { (result ≡ OK) ⊎ (result ≡ CLOSED) }
+    ensures old_keys { result ≡ OK → old_out.new ≡ upgrade.old.handle.kept.old_fingerprint }
+    ensures new_keys { result ≡ OK → new_out.new ≡ upgrade.old.handle.kept.new_fingerprint }
+    ensures unwritten { result ≢ OK → (old_out.new ≡ old_out.old) × (new_out.new ≡ new_out.old) }
+    ensures full { upgrade.new.full ≡ upgrade.old.full }
+    ensures kept { upgrade.old.full ≡ true → upgrade.new.handle.kept ≡ upgrade.old.handle.kept }
+{
+    if !upgrade.full {
+        return CLOSED;
+    }
+    let opened = take(alloc, upgrade);
+    *old_out = opened.upgrade.old_fingerprint();
+    *new_out = opened.upgrade.new_fingerprint();
+    put(upgrade, opened);
+    OK
+}
+
+/// Gives back all memory of an upgrade, which is closed then. One that is closed stays so.
+#[unsafe(no_mangle)]
+pub extern "C" fn uca_close_upgrade(alloc: Global, upgrade: &mut UpgradeSlot)
+    ensures { upgrade.new.full ≡ false }
+{
+    if upgrade.full {
+        drop(take(alloc, upgrade));
+    }
+}

@@ -1,0 +1,66 @@
+//! How an upgrade of C's is opened.
+
+ghost use Rattle.std.specs.Prelude.{◌≡◌, Option, IfOk, IfErr, OnOk, MatchResult};
+ghost use Rattle.uca_weights.specs.declared.Depth.{Depth};
+ghost use Rattle.uca_weights.specs.declared.Weighting.{Weighting};
+ghost use Rattle.uca_changes.specs.Changes.{Change};
+ghost use Rattle.uca_upgrade.specs.Causes.{IsUpgradeStop};
+ghost use Rattle.uca_upgrade.specs.Opening.{IsUpgradeOf};
+ghost use Rattle.uca_c.specs.UpgradeCalls.{AsksUpgrade, OpensUpgradeBy, IsUpgradeOpenStatus};
+ghost use Rattle.uca_c.specs.UpgradeErrors.{TellsUpgrade, no_error};
+
+use crate::keeping::keep;
+use crate::numbers::{asked_depth, asked_weighting};
+use crate::open_upgrade::OpenUpgrade;
+use crate::statuses::ARGUMENT;
+use crate::structs::UpgradeError;
+use crate::upgrade_errors::{nothing, tell};
+use std::alloc::Global;
+use uca_upgrade::{OwnedUpgrade, UpgradeFiles};
+
+// An upgrade by these files, or the status of the call.
+fn open_files(
+    alloc: Global,
+    files: &UpgradeFiles,
+    weighting: u32,
+    depth: u32,
+    error: &mut UpgradeError,
+) -> Result<OwnedUpgrade, u32>
+    ensures found { IfOk result (OpensUpgradeBy weighting depth files.now) }
+    ensures only { (asked : Option Weighting) (at : Depth) (change : Change) → AsksUpgrade weighting depth files.now asked at change →
+        MatchResult result (IsUpgradeOf files.now change asked at) (TellsUpgrade (IsUpgradeStop change) error.new) }
+    ensures no_error { OnOk result (error.new ≡ no_error) }
+    ensures rejected { IfErr result (IsUpgradeOpenStatus weighting depth files.now error.new) }
+{
+    *error = nothing();
+    let Some(asked) = asked_weighting(weighting) else {
+        return Err(ARGUMENT);
+    };
+    let Some(depth) = asked_depth(depth) else {
+        return Err(ARGUMENT);
+    };
+    match OwnedUpgrade::open(alloc, files, asked, depth) {
+        Ok(upgrade) => Ok(upgrade),
+        Err(fault) => Err(tell(fault, error)),
+    }
+}
+
+// An upgrade by these files in memory of its own, or the status of the call.
+pub fn open(
+    alloc: Global,
+    files: &UpgradeFiles,
+    weighting: u32,
+    depth: u32,
+    error: &mut UpgradeError,
+) -> Result<Box<OpenUpgrade>, u32>
+    ensures found { IfOk result (λ kept. OpensUpgradeBy weighting depth files.now kept.value) }
+    ensures only { (asked : Option Weighting) (at : Depth) (change : Change) → AsksUpgrade weighting depth files.now asked at change →
+        MatchResult result (λ kept. IsUpgradeOf files.now change asked at kept.value) (TellsUpgrade (IsUpgradeStop change) error.new) }
+    ensures no_error { OnOk result (error.new ≡ no_error) }
+    ensures rejected { IfErr result (IsUpgradeOpenStatus weighting depth files.now error.new) }
+{
+    match open_files(alloc, files, weighting, depth, error) {
+        Ok(upgrade) => keep(alloc, OpenUpgrade::new(alloc, upgrade)),
+        Err(status) => Err(status),
+    }
+}
