@@ -12,6 +12,7 @@ First prove and build the static library: `tools/build.py uca_c`. Then this scri
 - a program that is compiled by what pkg-config says of a temporary installation, and the programs of docs/BINDINGS.md;
 - the tests of the module for Python, as it is and from a wheel with the library inside, and those of keys, threads, signals and forks under valgrind;
 - statements of SQLite with the extension, over files that are the same or others, and those of docs/BINDINGS.md; also in threads, and where each allocation fails in turn;
+- upgrades from the edition of examples/ to that of examples/editions/, in Python, SQLite and PostgreSQL. upgrades.py does the same with Unicode's tables;
 - statements, dumps and replication of PostgreSQL with its extension, which is installed to a copy of the server's programs in a temporary folder. Each server
   has a folder of its own, listens on a Unix socket there, and is stopped afterwards;
 - all four over Unicode's table, and over that table tailored for Danish: 100,000 words of nine languages have the keys of `uca keys` and the order of `uca sort`.
@@ -959,8 +960,9 @@ def postgresql_programs(work):
 
 
 @contextlib.contextmanager
-def postgresql_server(work, table=TABLE, data=DATA, book=None, more=""):
-    """A server with the extension over these files, what runs statements in it, and its settings. The small book is beside the files."""
+def postgresql_server(work, table=TABLE, data=DATA, book=None, more="", editions=None):
+    """A server with the extension over these files, what runs statements in it, and its settings. The small book is beside the files. `editions`
+    are a new table and data file, a file of changes and a certificate: then the server has this next edition too, with the same book."""
     programs = postgresql_programs(work)
     sys.path.insert(0, f"{EXAMPLES}/databases")
     sys.dont_write_bytecode = True
@@ -973,6 +975,11 @@ def postgresql_server(work, table=TABLE, data=DATA, book=None, more=""):
         shutil.copy(file, f"{room}/{name}")
     shutil.copy(small_book(room) if book is None else book, f"{room}/book.txt")
     files = "".join(f"uca.{it}_file = '{room}/{it}.txt'\n" for it in ("table", "data", "book")[: 2 if book is None else 3])
+    its_names = ["next_table", "next_data", "changes", "certificate"] if editions else []
+    for file, name in zip(editions or [], its_names):
+        shutil.copy(file, f"{room}/{name}.txt")
+    files += "".join(f"uca.{it}_file = '{room}/{it}.txt'\n" for it in its_names)
+    files += f"uca.next_book_file = '{room}/book.txt'\n" if editions and book else ""
     settings = f"shared_preload_libraries = 'uca'\n{files}uca.weighting = shifted\n{more}"
     with PostgreSQL(room, settings, programs) as server:
 
@@ -1485,6 +1492,123 @@ def postgresql_books(work):
             raise AssertionError("a role without rights reads uca.book_file")
 
 
+NO_NEXT = "ERROR:  uca: the server has no next edition: name it in uca.next_table_file and the other settings"
+
+
+def postgresql_upgrades(work):
+    """The next edition beside the present one: which texts are affected, the new keys of the others, and what is an error."""
+    for book in (None, BOOK):
+        old, new = (fingerprint_of(*it, book=book) for it in ((TABLE, DATA), (NEW_TABLE, NEW_DATA)))
+        with postgresql_server(work, book=book, editions=EDITIONS[2:]) as (server, says, settings):
+            same(says("SELECT uca_fingerprint(), uca_next_fingerprint(); SELECT fingerprint FROM uca_files;"), f"{old}|{new}\n{old}\n", "the fingerprints")
+            postgresql_mended(says, old, new, book)
+            postgresql_upgrade_errors(says, old, new)
+            expanded = f"SELECT uca_expand(uca_key('a', '{new}'), '{new}') = '\\x{MENDED[1][2]}';"
+            same(says(expanded, fails=not book).strip(), "t" if book else NO_SERVER_BOOK, "a whole key of the next edition")
+            same(says(f"INSERT INTO uca_files VALUES ('{new}'); SELECT uca_rekey('\\x03');", fails=True), OTHER_FILES, "keys of the next edition in the database")
+            same(says("SELECT uca_affected('a');", fails=True), OTHER_FILES, "the same of a text")
+            same(says(f"SELECT uca_affected('ch', '{old}', '{new}'), uca_key('a', '{new}') IS NULL;"), "t|f\n", "calls that name both editions")
+            says(f"DELETE FROM uca_files WHERE fingerprint = '{new}';")
+    with postgresql_server(work) as (_, says, _):
+        for it in ("uca_next_fingerprint()", "uca_affected('a')", "uca_rekey('')", f"uca_affected('a', '{USED}', '{NEXT}')", f"uca_rekey('', '{USED}', '{NEXT}')"):
+            same(says(f"SELECT {it};", fails=True), NO_NEXT, f"{it} without a next edition")
+        same(says(f"SELECT uca_key('a', '{NEXT}');", fails=True), OTHERS_NAMED, "a key of the next edition without one")
+
+
+def postgresql_mended(says, old, new, book):
+    """Texts that are affected, and the keys of others."""
+    named = f"'{old}', '{new}'"
+    for text, old_key, new_key in MENDED:
+        key = f"uca_key({quoted(text)}, '{old}')"
+        whole = f"encode(uca_expand({key}, '{old}'), 'hex'), encode(uca_expand(uca_rekey({key}), '{new}'), 'hex')" if book else f"encode({key}, 'hex'), encode(uca_rekey({key}), 'hex')"
+        statement = (f"SELECT uca_affected({quoted(text)}), uca_affected({quoted(text)}, {named}), {whole},"
+                     f" uca_rekey({key}) = uca_key({quoted(text)}, '{new}'), uca_rekey({key}, {named}) = uca_key({quoted(text)}, '{new}'), {key} = uca_key({quoted(text)});")
+        same(says(statement), f"f|f|{old_key.lower()}|{new_key.lower()}|t|t|t\n", f"the keys of {text!r}")
+    same(says("".join(f"SELECT uca_affected({quoted(it)}), uca_affected({quoted(it)}, {named});" for it in AFFECTED)), "t|t\n" * len(AFFECTED), "affected texts")
+    same(says(f"SELECT uca_affected({RUN_OF_65}), uca_affected({LONG});"), "t|t\n", "texts that are rejected")
+    nulls = [f"{name}(NULL{more}) IS NULL" for name in ("uca_affected", "uca_rekey") for more in ("", f", {named}")]
+    same(says(f"SELECT {', '.join(nulls)};"), "t|t|t|t\n", "NULL")
+
+
+def postgresql_upgrade_errors(says, old, new):
+    for name, given in (("uca_affected", "'a'"), ("uca_rekey", "'\\x00'")):
+        for it in (f"'{new}', '{old}'", f"'{old}', '{old}'", f"'{new}', '{new}'", f"'{OTHER}', '{new}'", f"'{old}', '{OTHER}'", f"'', '{new}'"):
+            for value in (given, "NULL"):
+                same(says(f"SELECT {name}({value}, {it});", fails=True), OTHERS_NAMED, f"{name} by {it}")
+        for it in (f"NULL, '{new}'", f"'{old}', NULL"):
+            same(says(f"SELECT {name}({given}, {it});", fails=True), "ERROR:  uca: the fingerprint is NULL", f"{name} by {it}")
+        its_type = "text" if name == "uca_affected" else "bytea"
+        for call in (f"{name}(x)", f"{name}(x, '{old}', '{new}')"):
+            same(says(f"CREATE TABLE t(x {its_type}); CREATE INDEX ON t({call});", fails=True), "ERROR:  functions in index expression must be marked IMMUTABLE", call)
+            says("DROP TABLE t;")
+    same(says("SELECT uca_rekey(uca_key('ch'));", fails=True), "ERROR:  uca: the bytes are rejected: NoImage", "the key of an affected text")
+    for key in ("''", "'\\x1c'"):
+        found = says(f"SELECT uca_rekey({key});", fails=True)
+        if found not in ("ERROR:  uca: the bytes are rejected: NoImage", "ERROR:  uca: the bytes are rejected: NoCompactKey"):
+            raise AssertionError(f"the new key of {key}: {found}")
+    same(says(f"SELECT uca_key('a', '{OTHER}');", fails=True), OTHERS_NAMED, "a key of neither edition")
+
+
+def postgresql_upgrade_files(work):
+    """A next edition that is rejected does not touch the present one. After the next edition has become the present one, its keys are used."""
+    with postgresql_server(work, editions=EDITIONS[2:]) as (server, says, settings):
+        room = os.path.dirname(server.folder)
+        altered = f"{room}/altered.txt"
+        for name, file, old, new, error in (
+            ("next_table", NEW_TABLE, b"0061 ; [.1C48", b"0061 ; [.1C4", "next table line 9: Weight"),
+            ("next_data", NEW_DATA, b"ccc 0300..0314 230", b"ccc 0300..0314 300", "next data line 2: Weight"),
+            ("changes", CHANGES, b"text 0065", b"text 0062", "changes line 3: Order"),
+            ("certificate", CERTIFICATE, b"1 1C60 1C61", b"1 1C60 1C47", "certificate line 4: Map NotRising"),
+            ("changes", CHANGES, b"text 0065\n", b"", "the audit rejects the next edition: RowExtra new row 9"),
+            ("changes", CHANGES, b"range 0324..0324\n", b"", "the audit rejects the next edition: PointChanged code point 0324"),
+            ("next_table", NEW_TABLE, b"@version 2\n", b"@version 2\n@variable non-ignorable\n", "the audit rejects the next edition: SettingChanged"),
+        ):
+            changed = content(file).replace(old, new, 1)
+            with open(altered, "wb") as it:
+                it.write(changed)
+            os.chmod(altered, 0o644)
+            server.restart(settings.replace(f"/{name}.txt", "/altered.txt"))
+            same(says("SELECT uca_next_fingerprint();", fails=True), f"ERROR:  uca: {error}", f"{name} with {new}")
+            same(says("SELECT uca_affected('a');", fails=True), f"ERROR:  uca: {error}", f"{name} with {new}")
+            same(says(f"SELECT uca_key('a', '{NEXT}');", fails=True), OTHERS_NAMED, "a key of the rejected edition")
+            same(says("SELECT encode(uca_key('a'), 'hex');"), f"{MENDED[1][1].lower()}\n", "a key of the present edition")
+            until(lambda: f"WARNING:  uca: {error}" in content(f"{server.folder}/log").decode(), True, "the log")
+        for name in ("next_table", "next_data", "changes", "certificate"):
+            error = f"ERROR:  uca: the file of uca.{name}_file cannot be read: No such file or directory"
+            for it in (settings.replace(f"/{name}.txt", "/none.txt"), re.sub(f"uca.{name}_file.*\n", "", settings)):
+                server.restart(it)
+                same(says("SELECT uca_next_fingerprint();", fails=True), error, f"without {name}")
+                same(says("SELECT uca_key('a') IS NULL;"), "f\n", f"a key without {name}")
+            role = f"no_rights_{name}"
+            if "pg_read_all_settings" not in says(f"CREATE ROLE {role}; SET ROLE {role}; SHOW uca.{name}_file;", fails=True):
+                raise AssertionError(f"a role without rights reads uca.{name}_file")
+        server.restart(settings.replace("/table.txt", "/none.txt"))
+        same(says("SELECT uca_rekey('');", fails=True), "ERROR:  uca: the file of uca.table_file cannot be read: No such file or directory", "without a present edition")
+        server.restart(settings)
+        says(f"CREATE TABLE words(word text); INSERT INTO words VALUES ('ch'), ('cb'), ('d'); CREATE INDEX by_key ON words(uca_key(word)); CREATE INDEX by_next ON words(uca_key(word, '{NEXT}'));")
+        ordered = "SET enable_seqscan = off; SELECT string_agg(word, ' ') FROM (SELECT word FROM words ORDER BY uca_key(word{})) it;"
+        same(says(ordered.format("") + ordered.format(f", '{NEXT}'")), "cb ch d\ncb ch d\n", "indexes of both editions")
+        without = re.sub("uca.(next_.*|changes|certificate)_file.*\n", "", settings)
+        server.restart(without.replace("/table.txt", "/next_table.txt").replace("/data.txt", "/next_data.txt"))
+        same(says("SELECT uca_key('a');", fails=True), OTHER_FILES, "the next edition as the present one")
+        same(says(f"INSERT INTO words VALUES ('c-h');", fails=True), OTHER_FILES, "a row of an index by the present edition")
+        same(says("SELECT uca_use_files(again => true); INSERT INTO words VALUES ('c-h');" + ordered.format("") + ordered.format(f", '{NEXT}'")), "1\ncb c-h ch d\ncb c-h ch d\n", "files that are used from now on")
+
+
+def postgresql_upgrade_page(work):
+    """The statements of docs/BINDINGS.md for a new edition."""
+    page = re.search(r"^### A new edition in PostgreSQL\n(.*?)^## ", content(f"{TOP}/docs/BINDINGS.md").decode(), re.S | re.M).group(1)
+    blocks = re.findall(r"```sql\n(.*?)```", page, re.S)
+    with postgresql_server(work, editions=EDITIONS[2:]) as (server, says, settings):
+        says("SELECT uca_next_fingerprint();")
+        said = "".join(says(it) for it in blocks)
+        same(said.splitlines(), re.findall(r"^-- (.*)", "".join(blocks), re.M), "the page's statements")
+        same(says(f"SELECT count(*) FROM words WHERE key = uca_key(word, '{NEXT}'); INSERT INTO words VALUES ('e') RETURNING key = uca_key('e', '{NEXT}');"), "5\nt\n", "the page's table")
+        without = re.sub("uca.(next_.*|changes|certificate)_file.*\n", "", settings)
+        server.restart(without.replace("/table.txt", "/next_table.txt").replace("/data.txt", "/next_data.txt"))
+        same(says("SELECT uca_use_files(); INSERT INTO words VALUES ('f') RETURNING key = uca_key('f');"), "0\nt\n", "the page's table afterwards")
+
+
 def postgresql_like(program):
     """Lines ordered by the key and by an index on it are in the order of `uca sort`, and the keys are those of `uca keys`."""
 
@@ -1664,7 +1788,8 @@ def main():
               ("PostgreSQL", postgresql), ("PostgreSQL's settings", postgresql_settings), ("PostgreSQL's dumps", postgresql_dumps),
               ("PostgreSQL's replication", postgresql_replication), ("PostgreSQL's changes", postgresql_changes), ("PostgreSQL's roles", postgresql_roles),
               ("PostgreSQL's owners", postgresql_owners), ("PostgreSQL's dependents", postgresql_dependents), ("PostgreSQL's columns", postgresql_columns), ("PostgreSQL's compact keys", postgresql_compact),
-              ("PostgreSQL's books", postgresql_books), ("PostgreSQL's orders", postgresql_like(program))]
+              ("PostgreSQL's books", postgresql_books), ("PostgreSQL's upgrades", postgresql_upgrades), ("PostgreSQL's files of upgrades", postgresql_upgrade_files),
+              ("PostgreSQL's upgrade on the page", postgresql_upgrade_page), ("PostgreSQL's orders", postgresql_like(program))]
     tried = {"C": c_words, "Python": python_words, "SQLite": sqlite_words, "PostgreSQL": postgresql_words}
     checks += [(f"100,000 words in {name}", over_unicode(program, it)) for name, it in tried.items()]
     passed = failed = skipped = 0
