@@ -837,6 +837,8 @@ def sqlite_texts(work):
         same(found, f"ok\n{wanted}{wanted}310\n", made)
         if USED in sqlite_says(work, "SELECT group_concat(sql) FROM sqlite_schema;", load=load, database=database):
             raise AssertionError(f"{made}: the old fingerprint is in the schema")
+    database = f"{work}/texts0.db"
+    sqlite_fails(work, "may not be modified", ".dbconfig defensive on", TEXTS_MOVE.format(NEXT, USED).replace("uca_affected(", "NULL AND uca_affected("), load=load, database=database)
     wrong = TEXTS_MOVE.replace("uca_affected(name, '{0}', '{1}')", "name = 'bach'")
     sqlite_says(work, TEXT_TABLES[0].format(USED), NAMES, load=load, database=f"{work}/wrong.db")
     found = sqlite_says(work, wrong.format(USED, NEXT), "COMMIT;", "PRAGMA integrity_check;", load=load, database=f"{work}/wrong.db")

@@ -44,8 +44,8 @@ __version__ = "0.1.0"
 
 _ABI = 1
 
-_OK, _CLOSED, _TABLE, _DATA, _MEMORY, _SMALL, _BOOK, _NO_BOOK, _NO_KEY, _FILE, _NOT_MET = 0, 1, 4, 5, 6, 10, 11, 12, 13, 14, 15
-_NO_IMAGE = 16
+_OK, _CLOSED, _TABLE, _DATA, _MEMORY, _SMALL, _BOOK, _NO_BOOK, _NO_KEY = 0, 1, 4, 5, 6, 10, 11, 12, 13
+_FILE, _NO_IMAGE = 14, 16
 _ROLES = {_TABLE: "table", _DATA: "data", _BOOK: "book"}
 _TEXT_ERRORS = {7: "Utf8", 8: "TooLong", 9: "LongRun"}
 _STORED_KEY_ERRORS = {"uca_compact": "OtherKey", "uca_expand": "NoCompactKey", "uca_rekey": "NoImage"}
@@ -421,7 +421,7 @@ def _opened_upgrade(files: List[bytes], settings: Tuple[int, int]) -> _Upgrade:
         raise MemoryError
     if status == _FILE:
         raise FileError(_UPGRADE_ROLES[error.file], error.line, _KINDS[error.kind])
-    if status == _NOT_MET:
+    if status != _OK:
         raise AuditError(_CONDITIONS[error.condition], _PLACES[error.place], error.number)
     old, new = (ctypes.c_char * 32)(), (ctypes.c_char * 32)()
     _library.uca_upgrade_fingerprints(upgrade, old, new)
