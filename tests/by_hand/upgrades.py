@@ -274,7 +274,7 @@ def postgresql_is_killed(store, update, seconds, given):
         process.wait()
         after, wrong = map(int, store.run(waiting)[0].split())
         # writers give new keys to rows that they change, and delete rows
-        found.append("whole" if wrong == 0 and errors and 0 < after <= before and before - after < 3000 else f"{before}, then {after}, wrong {wrong}: {errors[:80]}")
+        found.append("whole" if wrong == 0 and errors and before / 2 < after <= before else f"{before}, then {after}, wrong {wrong}: {errors[:80]}")
     see("PostgreSQL: killed in the middle, the UPDATE leaves all rows as they were", found == ["whole"] * 8, ", ".join({*found}))
 
 
