@@ -811,6 +811,7 @@ DROP TABLE moved;
 # 300 names, of which 'ch' and others are affected; and what is no text or is rejected
 NAMES = ("WITH RECURSIVE n(i) AS (SELECT 0 UNION ALL SELECT i + 1 FROM n WHERE i < 299) INSERT INTO names SELECT char(97 + i * 7 % 5, 97 + i * 11 % 8, 97 + i / 40) || i, i % 7 FROM n;"
          "INSERT INTO names VALUES (NULL, 1), (NULL, 2), (5, 3), (x'6368', 4), (CAST(x'6368FF' AS TEXT), 5), (CAST(x'61FF' AS TEXT), 6), ('ch', 7), ('c', 8), ('e', 9), ('', 10);")
+ROWS_AND_SCHEMA = "SELECT rowid, hex(name), note FROM names ORDER BY rowid; SELECT sql FROM sqlite_schema;"
 BY_NAME = "SELECT group_concat(coalesce(hex(name), 'none'), ' ') FROM (SELECT name FROM names ORDER BY {1}name COLLATE uca_{0}, rowid);"
 
 
@@ -821,11 +822,11 @@ def sqlite_texts(work):
         database = f"{work}/texts{number}.db"
         sqlite_says(work, made.format(USED), NAMES, load=load, database=database)
         wanted = sqlite_says(work, BY_NAME.format(NEXT, "+"), load=load, database=database)
-        before = sqlite_says(work, ".dump", load=load, database=database)
+        before = sqlite_says(work, ROWS_AND_SCHEMA, load=load, database=database)
         sqlite_says(work, TEXTS_MOVE.format(USED, NEXT), "ROLLBACK;", load=load, database=database)
-        same(sqlite_says(work, ".dump", load=load, database=database), before, f"{made}: taken back")
+        same(sqlite_says(work, ROWS_AND_SCHEMA, load=load, database=database), before, f"{made}: taken back")
         sqlite_fails(work, NO_FINGERPRINT, TEXTS_MOVE.format(USED, NEXT), "SELECT uca_key('a', '');", load=load, database=database)
-        same(sqlite_says(work, ".dump", load=load, database=database), before, f"{made}: after an error")
+        same(sqlite_says(work, ROWS_AND_SCHEMA, load=load, database=database), before, f"{made}: after an error")
         other = subprocess.Popen(["sqlite3", database], stdin=subprocess.PIPE, stdout=subprocess.PIPE, stderr=subprocess.STDOUT, text=True, cwd=TOP, bufsize=1)
         other.stdin.write(f".load {TOP}/bindings/sqlite/out/uca\n{sqlite_load()}\nSELECT count(*) FROM names;\n")
         same(other.stdout.readline(), "310\n", f"{made}: a connection with the old files alone")
@@ -837,12 +838,10 @@ def sqlite_texts(work):
         same(found, f"ok\n{wanted}{wanted}310\n", made)
         if USED in sqlite_says(work, "SELECT group_concat(sql) FROM sqlite_schema;", load=load, database=database):
             raise AssertionError(f"{made}: the old fingerprint is in the schema")
-    database = f"{work}/texts0.db"
-    sqlite_fails(work, "may not be modified", ".dbconfig defensive on", TEXTS_MOVE.format(NEXT, USED).replace("uca_affected(", "NULL AND uca_affected("), load=load, database=database)
-    wrong = TEXTS_MOVE.replace("uca_affected(name, '{0}', '{1}')", "name = 'bach'")
-    sqlite_says(work, TEXT_TABLES[0].format(USED), NAMES, load=load, database=f"{work}/wrong.db")
-    found = sqlite_says(work, wrong.format(USED, NEXT), "COMMIT;", "PRAGMA integrity_check;", load=load, database=f"{work}/wrong.db")
-    if found == "ok\n":
+    database, wrong = f"{work}/wrong.db", TEXTS_MOVE.replace("uca_affected(name, '{0}', '{1}')", "name = 'bach'")
+    sqlite_says(work, TEXT_TABLES[0].format(USED), NAMES, load=load, database=database)
+    sqlite_fails(work, "may not be modified", ".dbconfig defensive on", TEXTS_MOVE.format(USED, NEXT), load=load, database=database)
+    if sqlite_says(work, wrong.format(USED, NEXT), "COMMIT;", "PRAGMA integrity_check;", load=load, database=database) == "ok\n":
         raise AssertionError("an index in which affected rows stay is found to be in order")
 
 
