@@ -11,7 +11,7 @@ mod compact_work;
 mod crossing;
 mod exports;
 mod handle;
-mod keeping;
+mod kept;
 mod numbers;
 mod open_collator;
 mod open_upgrade;

@@ -15,7 +15,7 @@ ghost use Rattle.uca_c.specs.OpenCollators.{keying_at};
 ghost use Rattle.uca_c.specs.Opened.{Asks, FingerprintsBy, OpensBy, IsNoFileError, IsOpenStatus, IsStopStatus, TellsFault};
 ghost use Rattle.uca_c.specs.Opened.{HasBook, RejectsBook, IsCompactOpenStatus, IsCompactStopStatus};
 
-use crate::keeping::keep;
+use crate::kept::keep;
 use crate::numbers::{asked_depth, asked_weighting, number_of_kind};
 use crate::open_collator::OpenCollator;
 use crate::statuses::{ARGUMENT, BOOK, DATA, MEMORY, TABLE};

@@ -45,15 +45,15 @@ pub extern "C" fn uca_open_upgrade(
     error: &mut UpgradeError,
 ) -> u32
     ensures already { (result ≡ ALREADY_OPEN) ↔ (upgrade.old.full ≡ true) }
-    ensures ok { let files = files_of old_table old_data new_table new_data changes certificate in
+    ensures ok { let files = files_of old_table.entry old_data.entry new_table.entry new_data.entry changes.entry certificate.entry in
         result ≡ OK → OpensUpgradeBy weighting depth files upgrade.new.handle.kept }
     ensures open { result ≡ OK → upgrade.new.full ≡ true }
     ensures same { result ≢ OK → upgrade.new ≡ upgrade.old }
-    ensures only { let files = files_of old_table old_data new_table new_data changes certificate in
+    ensures only { let files = files_of old_table.entry old_data.entry new_table.entry new_data.entry changes.entry certificate.entry in
         (asked : Option Weighting) (at : Depth) (change : Change) → upgrade.old.full ≡ false → AsksUpgrade weighting depth files asked at change →
         ((result ≡ OK) × IsUpgradeOf files change asked at upgrade.new.handle.kept) ⊎ TellsUpgrade (IsUpgradeStop change) error.new result }
     ensures no_error { (result ≡ OK) ⊎ (result ≡ ALREADY_OPEN) → error.new ≡ no_error }
-    ensures rejected { let files = files_of old_table old_data new_table new_data changes certificate in
+    ensures rejected { let files = files_of old_table.entry old_data.entry new_table.entry new_data.entry changes.entry certificate.entry in
         result ≢ OK → result ≢ ALREADY_OPEN → IsUpgradeOpenStatus weighting depth files error.new result }
 {
     if upgrade.full {

@@ -9,7 +9,7 @@ ghost use Rattle.uca_upgrade.specs.Opening.{IsUpgradeOf};
 ghost use Rattle.uca_c.specs.UpgradeCalls.{AsksUpgrade, OpensUpgradeBy, IsUpgradeOpenStatus};
 ghost use Rattle.uca_c.specs.UpgradeErrors.{TellsUpgrade, no_error};
 
-use crate::keeping::keep;
+use crate::kept::keep;
 use crate::numbers::{asked_depth, asked_weighting};
 use crate::open_upgrade::OpenUpgrade;
 use crate::statuses::ARGUMENT;
