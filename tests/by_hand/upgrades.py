@@ -2,13 +2,14 @@
 """Takes stored keys from Unicode 13.0.0 to the edition of /usr/share/unicode inside of SQLite and PostgreSQL, while rows come in.
 
     tools/build.py uca uca_c             # first
-    tests/by_hand/upgrades.py [--uca PATH] [--rows COUNT]
+    tests/by_hand/upgrades.py [--uca PATH] [--rows COUNT] [--kills COUNT] [PART ..]
 
+The parts are keys and texts, both in SQLite, and postgresql; all of them, unless some are named.
 The files are those of tests/by_hand/editions.py, and the lines too: 100,000, unless another number is given. The extensions are built here, and nothing is
 installed. In each database
 
 - the keys of the lines are made by the old edition, and then taken to the new one by the statements of docs/BINDINGS.md;
-- the move is killed at several moments, and each row has to be as it was, or as it will be;
+- the move is killed at several moments, eight as a rule, and each row has to be as it was, or as it will be;
 - other connections add, change and delete rows meanwhile;
 - then each key has to be the one that `uca keys` prints under the new edition, and the order that of `uca sort`.
 
@@ -33,17 +34,17 @@ import packages
 
 NEEDS = ["gcc", "make", "sqlite3", "libsqlite3-dev", "postgresql", "postgresql-server-dev-15", "unicode-data", "perl-modules-5.36"]
 WANTS = []
-ROWS, MORE_ROWS, SEED = 100_000, 20_000, 20_261_128
+ROWS, MORE_ROWS, KILLS, SEED = 100_000, 20_000, 8, 20_261_128
 FILES = ["old.txt", "old_data.txt", "new.txt", "new_data.txt", "changes.txt", "certificate.txt"]
 PAGE = f"{bindings.TOP}/docs/BINDINGS.md"
 see = editions.see
 
 
 class Given:
-    """The six files, their fingerprints, the lines that are stored, and other lines."""
+    """The six files, their fingerprints, the lines that are stored, other lines, and how often a move is killed."""
 
-    def __init__(self, folder, rows):
-        self.folder, self.files = folder, [folder.file(it) for it in FILES]
+    def __init__(self, folder, rows, kills):
+        self.folder, self.files, self.kills = folder, [folder.file(it) for it in FILES], kills
         editions.make(folder)
         status, _, said, _ = folder.run("changes", *FILES[:4], FILES[5], out=FILES[4])
         see("changes", status == 0, said or "found")
@@ -124,9 +125,9 @@ class Sqlite:
         """The script is killed at several moments of its time. Each time the state is one of two, and the file is kept as it was before."""
         kept, found = f"{self.path}.kept", []
         shutil.copy(self.path, kept)
-        for at in range(1, 9):
+        for at in range(1, self.given.kills + 1):
             process = self.start(script)
-            time.sleep(seconds * at / 9)
+            time.sleep(seconds * at / (self.given.kills + 1))
             process.send_signal(signal.SIGKILL)
             process.wait()
             its_state = state()
@@ -135,7 +136,7 @@ class Sqlite:
                 if os.path.exists(it):
                     os.remove(it)
             shutil.copy(kept, self.path)
-        see(f"{what}: killed in the middle, it leaves a whole state", 2 not in found and found.count(0) > 3, f"{found.count(0)} times the old one, {found.count(1)} times the new one")
+        see(f"{what}: killed in the middle, it leaves a whole state", 2 not in found and 2 * found.count(0) >= self.given.kills, f"{found.count(0)} times the old one, {found.count(1)} times the new one")
 
 
 def sqlite_keys(work, given):
@@ -258,14 +259,14 @@ def escaped(text):
 
 
 def postgresql_is_killed(store, update, seconds, given):
-    """The UPDATE is killed at several moments, and the server once. The rows that were there before have no new key then."""
+    """The UPDATE is killed at several moments, the last time with the server. The rows that were there before have no new key then."""
     waiting = f"SELECT count(*) FROM words WHERE next_key IS NULL; SELECT count(*) FROM words WHERE next_key IS DISTINCT FROM uca_key(word, '{given.new}') AND next_key IS NOT NULL;"
     found = []
-    for at in range(1, 9):
+    for at in range(1, given.kills + 1):
         before = int(store.run(waiting)[0].split()[0])
         process = store.start(update)
-        time.sleep(seconds * at / 12)
-        if at == 8:
+        time.sleep(seconds * at / (1.5 * given.kills))
+        if at == given.kills:
             store.server.call("pg_ctl", "-w", "-m", "immediate", "stop")
             store.server.start(store.settings)
         else:
@@ -275,7 +276,7 @@ def postgresql_is_killed(store, update, seconds, given):
         after, wrong = map(int, store.run(waiting)[0].split())
         # writers give new keys to rows that they change, and delete rows
         found.append("whole" if wrong == 0 and errors and before / 2 < after <= before else f"{before}, then {after}, wrong {wrong}: {errors[:80]}")
-    see("PostgreSQL: killed in the middle, the UPDATE leaves all rows as they were", found == ["whole"] * 8, ", ".join({*found}))
+    see("PostgreSQL: killed in the middle, the UPDATE leaves all rows as they were", found == ["whole"] * given.kills, f"{given.kills} times: " + ", ".join({*found}))
 
 
 def postgresql_keys(work, given):
@@ -318,21 +319,28 @@ def postgresql_keys(work, given):
         given.check("PostgreSQL", [(bytes.fromhex(word).decode(), key) for word, key in (it.split("|") for it in said.splitlines())])
 
 
+PARTS = {"keys": sqlite_keys, "texts": sqlite_texts, "postgresql": postgresql_keys}
+
+
 def main():
     parser = argparse.ArgumentParser(description=__doc__, formatter_class=argparse.RawDescriptionHelpFormatter)
     parser.add_argument("--uca", default=f"{bindings.TOP}/crates/uca/out/uca", help="the program")
     parser.add_argument("--rows", type=int, default=ROWS, help="how many rows there are at the beginning")
+    parser.add_argument("--kills", type=int, default=KILLS, help="how often each move is killed")
+    parser.add_argument("parts", nargs="*", metavar="PART", help=", ".join(PARTS))
     options = parser.parse_args()
+    if unknown := {*options.parts} - {*PARTS}:
+        parser.error(f"no part is named {', '.join(sorted(unknown))}: they are {', '.join(PARTS)}")
     packages.stop_without(NEEDS)
     bindings.run(["make", "-s", "-C", bindings.C])
     bindings.run(["make", "-s", "-C", f"{bindings.TOP}/bindings/sqlite"])
     with tempfile.TemporaryDirectory() as work:
-        given = Given(editions.Folder(options.uca, work), options.rows)
-        for it in (sqlite_keys, sqlite_texts, postgresql_keys):
+        given = Given(editions.Folder(options.uca, work), options.rows, options.kills)
+        for name in options.parts or PARTS:
             try:
-                it(work, given)
+                PARTS[name](work, given)
             except AssertionError as error:
-                see(it.__name__, False, error)
+                see(name, False, error)
     print(f"{editions.COUNTS[True]} passed, {editions.COUNTS[False]} failed")
     return 1 if editions.COUNTS[False] else 0
 
