@@ -809,7 +809,7 @@ INSERT INTO names(rowid, name, note) SELECT number, name, note FROM moved;
 DROP TABLE moved;
 """
 # 300 names, of which 'ch' and others are affected; and what is no text or is rejected
-NAMES = ("WITH RECURSIVE n(i) AS (SELECT 0 UNION ALL SELECT i + 1 FROM n WHERE i < 299) INSERT INTO names SELECT char(97 + i * 7 % 5, 97 + i * 11 % 8, 97 + i / 40) || i, i % 7 FROM n;"
+MANY_NAMES = ("WITH RECURSIVE n(i) AS (SELECT 0 UNION ALL SELECT i + 1 FROM n WHERE i < 299) INSERT INTO names SELECT char(97 + i * 7 % 5, 97 + i * 11 % 8, 97 + i / 40) || i, i % 7 FROM n;"
          "INSERT INTO names VALUES (NULL, 1), (NULL, 2), (5, 3), (x'6368', 4), (CAST(x'6368FF' AS TEXT), 5), (CAST(x'61FF' AS TEXT), 6), ('ch', 7), ('c', 8), ('e', 9), ('', 10);")
 ROWS_AND_SCHEMA = "SELECT rowid, hex(name), note FROM names ORDER BY rowid; SELECT sql FROM sqlite_schema;"
 BY_NAME = "SELECT group_concat(coalesce(hex(name), 'none'), ' ') FROM (SELECT name FROM names ORDER BY {1}name COLLATE uca_{0}, rowid);"
@@ -820,7 +820,7 @@ def sqlite_texts(work):
     load = sqlite_upgrade()
     for number, made in enumerate(TEXT_TABLES):
         database = f"{work}/texts{number}.db"
-        sqlite_says(work, made.format(USED), NAMES, load=load, database=database)
+        sqlite_says(work, made.format(USED), MANY_NAMES, load=load, database=database)
         wanted = sqlite_says(work, BY_NAME.format(NEXT, "+"), load=load, database=database)
         before = sqlite_says(work, ROWS_AND_SCHEMA, load=load, database=database)
         sqlite_says(work, TEXTS_MOVE.format(USED, NEXT), "ROLLBACK;", load=load, database=database)
@@ -839,7 +839,7 @@ def sqlite_texts(work):
         if USED in sqlite_says(work, "SELECT group_concat(sql) FROM sqlite_schema;", load=load, database=database):
             raise AssertionError(f"{made}: the old fingerprint is in the schema")
     database, wrong = f"{work}/wrong.db", TEXTS_MOVE.replace("uca_affected(name, '{0}', '{1}')", "name = 'bach'")
-    sqlite_says(work, TEXT_TABLES[0].format(USED), NAMES, load=load, database=database)
+    sqlite_says(work, TEXT_TABLES[0].format(USED), MANY_NAMES, load=load, database=database)
     sqlite_fails(work, "may not be modified", ".dbconfig defensive on", TEXTS_MOVE.format(USED, NEXT), load=load, database=database)
     if sqlite_says(work, wrong.format(USED, NEXT), "COMMIT;", "PRAGMA integrity_check;", load=load, database=database) == "ok\n":
         raise AssertionError("an index in which affected rows stay is found to be in order")
