@@ -69,6 +69,6 @@ upgrade_status (NotMet condition place) = statuses.NOT_MET
 upgrade_status Memory = statuses.MEMORY
 upgrade_status _ = statuses.FILE
 
--- the error and the status are those of a fault like this
+-- the error and the status say that there is no upgrade, for such a reason
 abbrev pub TellsUpgrade : (IsFault : UpgradeFault → Type 0) → UpgradeError → ℕ → Type 0
 TellsUpgrade IsFault error status = IsErrorStatus (λ fault. IsFault fault × (error ≡ upgrade_error fault)) upgrade_status status

@@ -1,6 +1,6 @@
-//! The library for C: a collator that is opened by the bytes of a table and a data file, sort keys in the caller's
-//! memory, comparison, and an upgrade of stored keys to a new edition. `bindings/c/include/uca.h` declares the calls,
-//! and says what a caller owes.
+//! The library for C: a collator that is opened by the bytes of a table and a data file, keys in the caller's
+//! memory, comparison, and upgrades of stored keys. `bindings/c/include/uca.h` declares the calls, and says what a
+//! caller owes.
 //!
 //! The calls are those of an `OwnedCollator` (`uca_owned`) that C keeps, with a book where its keys are compact, and
 //! those of an `OwnedUpgrade` (`uca_upgrade`). Each error is a status.

@@ -1,5 +1,5 @@
 -- The reader knows all bytes.
-use Rattle.std.proofs.Common.{◌≡◌, subst}
+use Rattle.std.proofs.Common.{subst}
 use Rattle.std.specs.Prelude.{IfSome}
 use Rattle.uca_lines.specs.FileStops.{IsStop}
 use Rattle.uca_change_files.specs.Changes.{ChangeContent}
