@@ -199,7 +199,7 @@ class Writers:
     def __init__(self, store, given):
         self.store, self.given, self.stops = store, given, threading.Event()
         self.added, self.lock = [], threading.Lock()
-        self.threads = [threading.Thread(target=self.write, args=(number,)) for number in range(4)]
+        self.threads = [threading.Thread(target=self.write, args=(number,), daemon=True) for number in range(4)]
         for it in self.threads:
             it.start()
 
@@ -281,7 +281,9 @@ def postgresql_is_killed(store, update, seconds, given):
 
 def postgresql_keys(work, given):
     """The keys of a table are taken to the new edition, while other connections write it."""
-    with bindings.postgresql_server(work, *given.files[:2], editions=given.files[2:]) as (server, _, settings):
+    # a server that is killed reads what it wrote since the last checkpoint
+    more = "checkpoint_timeout = 30s\nmax_wal_size = 256MB\n"
+    with bindings.postgresql_server(work, *given.files[:2], editions=given.files[2:], more=more) as (server, _, settings):
         store = Store(server)
         store.settings = settings
         blocks = statements("A new edition in PostgreSQL", given)
@@ -332,6 +334,7 @@ def main():
     if unknown := {*options.parts} - {*PARTS}:
         parser.error(f"no part is named {', '.join(sorted(unknown))}: they are {', '.join(PARTS)}")
     packages.stop_without(NEEDS)
+    os.environ["PGCTLTIMEOUT"] = "600"  # a server that was killed may start slowly
     bindings.run(["make", "-s", "-C", bindings.C])
     bindings.run(["make", "-s", "-C", f"{bindings.TOP}/bindings/sqlite"])
     with tempfile.TemporaryDirectory() as work:
@@ -339,7 +342,7 @@ def main():
         for name in options.parts or PARTS:
             try:
                 PARTS[name](work, given)
-            except AssertionError as error:
+            except (AssertionError, OSError) as error:
                 see(name, False, error)
     print(f"{editions.COUNTS[True]} passed, {editions.COUNTS[False]} failed")
     return 1 if editions.COUNTS[False] else 0
