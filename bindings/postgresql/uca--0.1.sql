@@ -3,6 +3,9 @@
 -- the fingerprint of the files and settings that the server has read when it started, as `uca fingerprint` prints it
 CREATE FUNCTION uca_fingerprint() RETURNS text AS 'MODULE_PATHNAME', 'uca_fingerprint_of_files' LANGUAGE C STABLE PARALLEL SAFE;
 
+-- the same of the next edition. It is an error where the server has none.
+CREATE FUNCTION uca_next_fingerprint() RETURNS text AS 'MODULE_PATHNAME', 'uca_fingerprint_of_next_files' LANGUAGE C STABLE PARALLEL SAFE;
+
 -- The fingerprints of the files and settings by which the keys of this database are made. Each row has to be that of the server, or else
 -- uca_key(text) is an error. A dump has these rows. So a restored database has a row of its server and the rows of the dump.
 CREATE TABLE uca_files (fingerprint text NOT NULL);
@@ -51,7 +54,19 @@ LANGUAGE C IMMUTABLE STRICT PARALLEL SAFE COST 20;
 CREATE FUNCTION uca_expand(bytea) RETURNS bytea AS 'MODULE_PATHNAME', 'uca_expand_key' LANGUAGE C IMMUTABLE STRICT PARALLEL SAFE COST 20;
 CREATE FUNCTION uca_compact(bytea) RETURNS bytea AS 'MODULE_PATHNAME', 'uca_compact_key' LANGUAGE C IMMUTABLE STRICT PARALLEL SAFE COST 20;
 
--- The same by the files and settings of a fingerprint. The call is an error where the server has others, whatever uca_files has.
+-- Whether the key of a text has to be made again for the next edition, as for a text that is rejected; and the next edition's key of the key
+-- of another text. They are not for indexes: what they make of an affected text, or of its key, depends on the file of changes.
+CREATE FUNCTION uca_affected(text) RETURNS boolean AS 'MODULE_PATHNAME', 'uca_affected_text' LANGUAGE C STABLE STRICT PARALLEL SAFE COST 20;
+CREATE FUNCTION uca_rekey(bytea) RETURNS bytea AS 'MODULE_PATHNAME', 'uca_rekey_key' LANGUAGE C STABLE STRICT PARALLEL SAFE COST 20;
+
+-- The same by the fingerprints of both editions. The call is an error where the server has others, whatever uca_files has.
+CREATE FUNCTION uca_affected(text, fingerprint text, next_fingerprint text) RETURNS boolean AS 'MODULE_PATHNAME', 'uca_affected_by_fingerprints'
+LANGUAGE C STABLE PARALLEL SAFE COST 20;
+CREATE FUNCTION uca_rekey(bytea, fingerprint text, next_fingerprint text) RETURNS bytea AS 'MODULE_PATHNAME', 'uca_rekey_by_fingerprints'
+LANGUAGE C STABLE PARALLEL SAFE COST 20;
+
+-- The keys by the files and settings of a fingerprint, which may be that of the next edition. The call is an error where the server has others,
+-- whatever uca_files has.
 CREATE FUNCTION uca_key(text, fingerprint text) RETURNS bytea AS 'MODULE_PATHNAME', 'uca_key_by_fingerprint'
 LANGUAGE C IMMUTABLE PARALLEL SAFE COST 20;
 CREATE FUNCTION uca_any_key(text, fingerprint text) RETURNS bytea AS 'MODULE_PATHNAME', 'uca_any_key_by_fingerprint'

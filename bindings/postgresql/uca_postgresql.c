@@ -4,7 +4,12 @@
    The server reads these files once, when it starts, so no setting and no file changes an order while it runs. But keys that a
    database keeps may come from an earlier start or from another server. So uca_key(text) compares the fingerprints in the
    database's table uca_files with the server's, and uca_key(text, fingerprint) compares the fingerprint that it is given. Where
-   one is not the server's, the call is an error. */
+   one is not the server's, the call is an error.
+
+   The server may have the next edition of these files beside them: uca.next_table_file and uca.next_data_file, and what `uca changes`
+   made of the four, uca.changes_file and uca.certificate_file. They are read and audited when it starts. Then uca_key(text, fingerprint)
+   takes the fingerprint of either edition, uca_affected(text) says whether a key has to be made again, and uca_rekey(bytea) makes the
+   next edition's key of another one. All that names no fingerprint stays with the present edition. */
 #include "postgres.h"
 
 #include <fcntl.h>
@@ -58,23 +63,47 @@ void _PG_init(void);
 
 #define DIGEST 32
 
-static char *table_name, *data_name, *book_name;
+/* The names of the files of an edition. */
+typedef struct {
+    char *table, *data, *book;
+} Names;
+
+static Names names, next_names;
+static char *changes_name, *certificate_name;
 static int weighting = UCA_BY_TABLE;
 static bool identical = false;
 
 static const struct config_enum_entry WEIGHTINGS[] = {
     {"table", UCA_BY_TABLE, false}, {"non-ignorable", UCA_NON_IGNORABLE, false}, {"shifted", UCA_SHIFTED, false}, {NULL, 0, false}};
 
-/* The names of uca_kind, as in docs/FORMATS.md. */
-static const char *const KINDS[] = {"", "Line", "Order", "CodePoint", "Weight", "DuplicateKey", "Range", "Limit", "Read", "Memory"};
+/* The names of uca_kind, of uca_condition and of uca_place, as in docs/FORMATS.md. */
+static const char *const KINDS[] = {"", "Line", "Order", "CodePoint", "Weight", "DuplicateKey", "Range", "Limit", "Read", "Memory",
+                                    "Map Empty", "Map NotRising", "Map OutOfRange", "Map Fixed"};
+static const char *const CONDITIONS[] = {"", "OldIllFormed", "NewIllFormed", "RangeChanged", "Uncovered",
+                                         "RowChanged", "RowMissing", "RowExtra", "PointChanged", "SettingChanged"};
+static const char *const PLACES[] = {"", " old row %u", " new row %u", " code point %04X"};
 
-static uca_collator collator = UCA_CLOSED_COLLATOR;
+/* The size of a reason. */
+#define REASON 200
 
-/* The fingerprint of the collator's files and settings, in hexadecimal digits. */
-static char fingerprint[2 * DIGEST + 1];
+/* An edition: what keys are made by, the fingerprint of its files and settings in hexadecimal digits, and why it is closed. */
+typedef struct {
+    uca_collator collator;
+    char fingerprint[2 * DIGEST + 1];
+    bool has_book;
+    char reason[REASON];
+} Edition;
 
-/* Why the collator is closed. */
-static char reason[200] = "uca: the server has not read the files of uca.table_file and uca.data_file";
+static Edition present = {UCA_CLOSED_COLLATOR, "", false, "uca: the server has not read the files of uca.table_file and uca.data_file"};
+static Edition next = {UCA_CLOSED_COLLATOR, "", false, "uca: the server has no next edition: name it in uca.next_table_file and the other settings"};
+
+/* From the present edition to the next one. It is open where both are. */
+static uca_upgrade upgrade = UCA_CLOSED_UPGRADE;
+
+/* The bytes of an edition's files. */
+typedef struct {
+    StringInfoData table, data, book;
+} Files;
 
 /* The last snapshot in which this process has seen its database to be for these files: its transaction, the one inside it, and what
    differs between two snapshots of one transaction if another transaction has ended or a command of its own has written. So a statement
@@ -91,13 +120,13 @@ typedef struct {
 static Seen checked = {InvalidLocalTransactionId, InvalidSubTransactionId, InvalidTransactionId, 0, 0, 0};
 
 /* The bytes of an open file, or false and the reason. */
-static bool read_open_file(const char *setting, FILE *file, StringInfo bytes)
+static bool read_open_file(const char *setting, FILE *file, StringInfo bytes, char *reason)
 {
     struct stat about;
     size_t count;
 
     if (fstat(fileno(file), &about) != 0 || !S_ISREG(about.st_mode)) {
-        snprintf(reason, sizeof reason, "uca: %s does not name a regular file", setting);
+        snprintf(reason, REASON, "uca: %s does not name a regular file", setting);
         return false;
     }
     do {
@@ -106,86 +135,166 @@ static bool read_open_file(const char *setting, FILE *file, StringInfo bytes)
         bytes->len += count;
     } while (count > 0 && bytes->len <= MOST_FILE);
     if (ferror(file))
-        snprintf(reason, sizeof reason, "uca: the file of %s cannot be read", setting);
+        snprintf(reason, REASON, "uca: the file of %s cannot be read", setting);
     else if (bytes->len > MOST_FILE)
-        snprintf(reason, sizeof reason, "uca: the file of %s has more than %d bytes", setting, MOST_FILE);
+        snprintf(reason, REASON, "uca: the file of %s has more than %d bytes", setting, MOST_FILE);
     return !ferror(file) && bytes->len <= MOST_FILE;
 }
 
 /* The bytes of the file that a setting names, or false and the reason. It does not wait for a writer of a named pipe. */
-static bool read_file(const char *setting, const char *name, StringInfo bytes)
+static bool read_file(const char *setting, const char *name, StringInfo bytes, char *reason)
 {
     int number = open(name, O_RDONLY | O_NONBLOCK | O_CLOEXEC);
     FILE *file = number < 0 ? NULL : fdopen(number, "rb");
     bool is_read;
 
     if (!file) {
-        snprintf(reason, sizeof reason, "uca: the file of %s cannot be read: %s", setting, strerror(errno));
+        snprintf(reason, REASON, "uca: the file of %s cannot be read: %s", setting, strerror(errno));
         if (number >= 0)
             close(number);
         return false;
     }
-    is_read = read_open_file(setting, file, bytes);
+    is_read = read_open_file(setting, file, bytes, reason);
     fclose(file);
     return is_read;
 }
 
-/* Makes the fingerprint of the files and settings. A book that is NULL is none. */
-static uint32 make_fingerprint(StringInfo table, StringInfo data, StringInfo book, uint32 depth, uca_error *error)
+/* Makes the fingerprint of an edition's files and settings. */
+static uint32 make_fingerprint(Edition *edition, Files *files, uint32 depth, uca_error *error)
 {
     uint8 whole[DIGEST], compact[DIGEST];
-    uint32 status = uca_fingerprint((uint8 *) table->data, table->len, (uint8 *) data->data, data->len, weighting, depth, whole, error);
+    uint32 status = uca_fingerprint((uint8 *) files->table.data, files->table.len, (uint8 *) files->data.data, files->data.len, weighting, depth,
+                                    whole, error);
 
-    if (status == UCA_OK && book)
-        uca_compact_fingerprint(whole, (uint8 *) book->data, book->len, compact);
+    if (status == UCA_OK && edition->has_book)
+        uca_compact_fingerprint(whole, (uint8 *) files->book.data, files->book.len, compact);
     if (status == UCA_OK)
-        hex_encode((char *) (book ? compact : whole), DIGEST, fingerprint);
+        hex_encode((char *) (edition->has_book ? compact : whole), DIGEST, edition->fingerprint);
     return status;
 }
 
-/* Opens the collator by the files, or says why not. A book that is NULL is none. */
-static void open_files(StringInfo table, StringInfo data, StringInfo book)
+/* Opens the collator of an edition by its files, or says why not. */
+static void open_files(Edition *edition, Files *files)
 {
     uint32 depth = identical ? UCA_IDENTICAL : UCA_WEIGHTS, status;
     uca_error error = {0, 0};
 
-    status = make_fingerprint(table, data, book, depth, &error);
-    if (status == UCA_OK && book)
-        status = uca_open_compact(&collator, (uint8 *) table->data, table->len, (uint8 *) data->data, data->len, (uint8 *) book->data, book->len,
-                                  weighting, depth, &error);
+    status = make_fingerprint(edition, files, depth, &error);
+    if (status == UCA_OK && edition->has_book)
+        status = uca_open_compact(&edition->collator, (uint8 *) files->table.data, files->table.len, (uint8 *) files->data.data, files->data.len,
+                                  (uint8 *) files->book.data, files->book.len, weighting, depth, &error);
     else if (status == UCA_OK)
-        status = uca_open(&collator, (uint8 *) table->data, table->len, (uint8 *) data->data, data->len, weighting, depth, &error);
+        status = uca_open(&edition->collator, (uint8 *) files->table.data, files->table.len, (uint8 *) files->data.data, files->data.len, weighting,
+                          depth, &error);
     if (status == UCA_TABLE || status == UCA_DATA || status == UCA_BOOK)
-        snprintf(reason, sizeof reason, "uca: %s line %u: %s", status == UCA_TABLE ? "table" : status == UCA_DATA ? "data" : "book", error.line,
-                 error.kind < lengthof(KINDS) ? KINDS[error.kind] : "");
+        snprintf(edition->reason, REASON, "uca: %s%s line %u: %s", edition == &next ? "next " : "",
+                 status == UCA_TABLE ? "table" : status == UCA_DATA ? "data" : "book", error.line, error.kind < lengthof(KINDS) ? KINDS[error.kind] : "");
     else if (status != UCA_OK)
-        strlcpy(reason, "uca: out of memory", sizeof reason);
+        strlcpy(edition->reason, "uca: out of memory", REASON);
 }
 
+/* Reads the files of an edition, and opens its collator. */
+static void read_edition(Edition *edition, Files *files, const Names *its)
+{
+    bool is_next = edition == &next;
+
+    edition->has_book = *its->book;
+    if (read_file(is_next ? "uca.next_table_file" : "uca.table_file", its->table, &files->table, edition->reason) &&
+        read_file(is_next ? "uca.next_data_file" : "uca.data_file", its->data, &files->data, edition->reason) &&
+        (!edition->has_book || read_file(is_next ? "uca.next_book_file" : "uca.book_file", its->book, &files->book, edition->reason)))
+        open_files(edition, files);
+}
+
+/* Says why no upgrade is opened. */
+static void tell_upgrade_error(uint32 status, const uca_upgrade_error *error)
+{
+    static const char *const ROLES[] = {"", "table", "data", "next table", "next data", "changes", "certificate"};
+    int length;
+
+    if (status == UCA_FILE)
+        snprintf(next.reason, REASON, "uca: %s line %u: %s", ROLES[error->file], error->line, error->kind < lengthof(KINDS) ? KINDS[error->kind] : "");
+    else if (status == UCA_NOT_MET) {
+        length = snprintf(next.reason, REASON, "uca: the audit rejects the next edition: %s", CONDITIONS[error->condition]);
+        snprintf(next.reason + length, REASON - length, PLACES[error->place], error->number);
+    } else
+        strlcpy(next.reason, "uca: out of memory", REASON);
+}
+
+/* Opens the upgrade by the files of both editions and by those of its own settings, or says why not. */
+static void read_upgrade(Files *old, Files *new)
+{
+    StringInfoData changes, certificate;
+    uca_upgrade_error error = {0};
+    uint32 status;
+
+    initStringInfo(&changes);
+    initStringInfo(&certificate);
+    if (read_file("uca.changes_file", changes_name, &changes, next.reason) &&
+        read_file("uca.certificate_file", certificate_name, &certificate, next.reason)) {
+        status = uca_open_upgrade(&upgrade, (uint8 *) old->table.data, old->table.len, (uint8 *) old->data.data, old->data.len,
+                                  (uint8 *) new->table.data, new->table.len, (uint8 *) new->data.data, new->data.len, (uint8 *) changes.data,
+                                  changes.len, (uint8 *) certificate.data, certificate.len, weighting, identical ? UCA_IDENTICAL : UCA_WEIGHTS,
+                                  &error);
+        if (status != UCA_OK)
+            tell_upgrade_error(status, &error);
+    }
+    pfree(changes.data);
+    pfree(certificate.data);
+}
+
+static void init_files(Files *files)
+{
+    initStringInfo(&files->table);
+    initStringInfo(&files->data);
+    initStringInfo(&files->book);
+}
+
+static void free_files(Files *files)
+{
+    pfree(files->table.data);
+    pfree(files->data.data);
+    pfree(files->book.data);
+}
+
+static bool has_next(void)
+{
+    return *next_names.table || *next_names.data || *next_names.book || *changes_name || *certificate_name;
+}
+
+/* Reads the present edition, and then the next one, if there is one. */
 static void read_files(void)
 {
-    StringInfoData table, data, book;
-    bool has_book = *book_name;
+    Files old, new;
 
-    initStringInfo(&table);
-    initStringInfo(&data);
-    initStringInfo(&book);
-    if (read_file("uca.table_file", table_name, &table) && read_file("uca.data_file", data_name, &data) &&
-        (!has_book || read_file("uca.book_file", book_name, &book)))
-        open_files(&table, &data, has_book ? &book : NULL);
-    pfree(table.data);
-    pfree(data.data);
-    pfree(book.data);
+    init_files(&old);
+    init_files(&new);
+    read_edition(&present, &old, &names);
+    if (present.collator.is_open && has_next())
+        read_edition(&next, &new, &next_names);
+    if (next.collator.is_open)
+        read_upgrade(&old, &new);
+    if (!upgrade.is_open)
+        uca_close(&next.collator);
+    free_files(&old);
+    free_files(&new);
+}
+
+/* A setting that names a file. It is read when the server starts, and only some roles see it. */
+static void define_file(const char *setting, const char *what, char **name)
+{
+    DefineCustomStringVariable(setting, what, NULL, name, "", PGC_POSTMASTER, GUC_SUPERUSER_ONLY, NULL, NULL, NULL);
 }
 
 static void define_settings(void)
 {
-    DefineCustomStringVariable("uca.table_file", "The weight table, in the format of allkeys.txt.", NULL, &table_name, "",
-                               PGC_POSTMASTER, GUC_SUPERUSER_ONLY, NULL, NULL, NULL);
-    DefineCustomStringVariable("uca.data_file", "The data file: combining classes and Han ranges.", NULL, &data_name, "",
-                               PGC_POSTMASTER, GUC_SUPERUSER_ONLY, NULL, NULL, NULL);
-    DefineCustomStringVariable("uca.book_file", "The book, by which keys are compact. Keys are whole without one.", NULL, &book_name, "",
-                               PGC_POSTMASTER, GUC_SUPERUSER_ONLY, NULL, NULL, NULL);
+    define_file("uca.table_file", "The weight table, in the format of allkeys.txt.", &names.table);
+    define_file("uca.data_file", "The data file: combining classes and Han ranges.", &names.data);
+    define_file("uca.book_file", "The book, by which keys are compact. Keys are whole without one.", &names.book);
+    define_file("uca.next_table_file", "The weight table of the next edition.", &next_names.table);
+    define_file("uca.next_data_file", "The data file of the next edition.", &next_names.data);
+    define_file("uca.next_book_file", "The book of the next edition.", &next_names.book);
+    define_file("uca.changes_file", "The changes between both editions, as uca changes prints them.", &changes_name);
+    define_file("uca.certificate_file", "The certificate that uca changes writes.", &certificate_name);
     DefineCustomEnumVariable("uca.weighting", "How spaces and punctuation are weighted.", NULL, &weighting, UCA_BY_TABLE, WEIGHTINGS,
                              PGC_POSTMASTER, 0, NULL, NULL, NULL);
     DefineCustomBoolVariable("uca.identical", "Whether texts that are equal by all weights are ordered by their code points.", NULL,
@@ -203,19 +312,21 @@ void _PG_init(void)
     has_old_names = GetConfigOption("uca.table", true, false) || GetConfigOption("uca.data", true, false);
     MarkGUCPrefixReserved("uca");
     if (has_old_names)
-        strlcpy(reason, "uca: the settings uca.table and uca.data are now uca.table_file and uca.data_file", sizeof reason);
-    else if (*table_name || *data_name || *book_name)
+        strlcpy(present.reason, "uca: the settings uca.table and uca.data are now uca.table_file and uca.data_file", REASON);
+    else if (*names.table || *names.data || *names.book || has_next())
         read_files();
     else
         return;
-    if (!collator.is_open)
-        ereport(WARNING, (errmsg("%s", reason)));
+    if (!present.collator.is_open)
+        ereport(WARNING, (errmsg("%s", present.reason)));
+    else if (has_next() && !upgrade.is_open)
+        ereport(WARNING, (errmsg("%s", next.reason)));
 }
 
 static void need_open(void)
 {
-    if (!collator.is_open)
-        ereport(ERROR, (errcode(ERRCODE_CONFIG_FILE_ERROR), errmsg("%s", reason)));
+    if (!present.collator.is_open)
+        ereport(ERROR, (errcode(ERRCODE_CONFIG_FILE_ERROR), errmsg("%s", present.reason)));
     if (GetDatabaseEncoding() != PG_UTF8)
         ereport(ERROR, (errcode(ERRCODE_FEATURE_NOT_SUPPORTED), errmsg("uca needs a database with the encoding UTF8")));
 }
@@ -264,9 +375,18 @@ static Relation open_files_of(Oid function)
     return files;
 }
 
-static bool is_fingerprint(const text *given)
+static void need_upgrade(void)
 {
-    return VARSIZE_ANY_EXHDR(given) == 2 * DIGEST && memcmp(VARDATA_ANY(given), fingerprint, 2 * DIGEST) == 0;
+    need_open();
+    if (!upgrade.is_open)
+        ereport(ERROR, (errcode(ERRCODE_CONFIG_FILE_ERROR), errmsg("%s", next.reason)));
+}
+
+/* Whether a text is the fingerprint of an open edition. */
+static bool is_fingerprint(const text *given, const Edition *edition)
+{
+    return edition->collator.is_open && VARSIZE_ANY_EXHDR(given) == 2 * DIGEST &&
+           memcmp(VARDATA_ANY(given), edition->fingerprint, 2 * DIGEST) == 0;
 }
 
 /* The first 100 bytes of a text, or one to three less, so that no character is cut. */
@@ -293,7 +413,7 @@ static char *other_fingerprint(Oid function, Snapshot now)
         Datum value = slot_getattr(slot, 1, &is_null);
 
         rows++;
-        if (is_null || !is_fingerprint(DatumGetTextPP(value)))
+        if (is_null || !is_fingerprint(DatumGetTextPP(value), &present))
             other = is_null ? "none" : beginning_of(DatumGetTextPP(value));
     }
     table_endscan(scan);
@@ -318,23 +438,50 @@ static void need_files(Oid function)
     if (other)
         ereport(ERROR, (errcode(ERRCODE_OBJECT_NOT_IN_PREREQUISITE_STATE),
                         errmsg("uca: the server has other files or settings than those by which this database's keys were made"),
-                        errdetail("The database's fingerprint is %s. The server's is %s.", other, fingerprint),
+                        errdetail("The database's fingerprint is %s. The server's is %s.", other, present.fingerprint),
                         errhint("Give the server the old files and settings. Or call uca_use_files(), and make all stored keys and "
                                 "indexes on keys again.")));
     checked = seen;
 }
 
-/* The second argument, a text, has to be the server's fingerprint. */
-static void need_fingerprint(FunctionCallInfo fcinfo)
+/* An argument that is a fingerprint, and not NULL. */
+static text *fingerprint_argument(FunctionCallInfo fcinfo, int argument)
 {
-    need_open();
-    if (PG_ARGISNULL(1))
+    if (PG_ARGISNULL(argument))
         ereport(ERROR, (errcode(ERRCODE_NULL_VALUE_NOT_ALLOWED), errmsg("uca: the fingerprint is NULL")));
-    if (!is_fingerprint(PG_GETARG_TEXT_PP(1)))
-        ereport(ERROR, (errcode(ERRCODE_OBJECT_NOT_IN_PREREQUISITE_STATE),
-                        errmsg("uca: the server has other files or settings than those that are named"),
-                        errdetail("The named fingerprint is %s. The server's is %s.", beginning_of(PG_GETARG_TEXT_PP(1)),
-                                  fingerprint)));
+    return PG_GETARG_TEXT_PP(argument);
+}
+
+static void others_named_error(const text *given)
+{
+    ereport(ERROR, (errcode(ERRCODE_OBJECT_NOT_IN_PREREQUISITE_STATE),
+                    errmsg("uca: the server has other files or settings than those that are named"),
+                    errdetail("The named fingerprint is %s. The server's is %s%s%s.", beginning_of(given), present.fingerprint,
+                              next.collator.is_open ? ", and its next one is " : "", next.collator.is_open ? next.fingerprint : "")));
+}
+
+/* The edition that the second argument, a fingerprint, names. */
+static Edition *named_edition(FunctionCallInfo fcinfo)
+{
+    text *given;
+    Edition *edition;
+
+    need_open();
+    given = fingerprint_argument(fcinfo, 1);
+    edition = is_fingerprint(given, &present) ? &present : is_fingerprint(given, &next) ? &next : NULL;
+    if (!edition)
+        others_named_error(given);
+    return edition;
+}
+
+/* The second argument has to name the present edition, and the third one the next. */
+static void need_both_editions(FunctionCallInfo fcinfo)
+{
+    need_upgrade();
+    if (!is_fingerprint(fingerprint_argument(fcinfo, 1), &present))
+        others_named_error(PG_GETARG_TEXT_PP(1));
+    if (!is_fingerprint(fingerprint_argument(fcinfo, 2), &next))
+        others_named_error(PG_GETARG_TEXT_PP(2));
 }
 
 /* A value with room for so many bytes. */
@@ -346,40 +493,42 @@ static bytea *new_value(size_t room)
 }
 
 /* What a value is made of: a text, or a key. */
-typedef enum { KEY, RANGE, COMPACT_KEY, EXPANDED_KEY } Made;
+typedef enum { KEY, RANGE, COMPACT_KEY, EXPANDED_KEY, REKEYED } Made;
 
-/* What is made. The range and its end are those of uca_range. */
+/* What is made, and by which edition. The range and its end are those of uca_range. */
 typedef struct {
     Made made;
     uint32 range, end;
+    Edition *edition;
 } Request;
 
-static const Request WHOLE = {KEY, 0, 0}, PREFIX_LOW = {RANGE, UCA_BEGINS, UCA_LOW}, PREFIX_HIGH = {RANGE, UCA_BEGINS, UCA_HIGH};
-static const Request COMPACT = {COMPACT_KEY, 0, 0}, EXPANDED = {EXPANDED_KEY, 0, 0};
-
-static uint32 try_make(Request asked, const uint8 *bytes, size_t length, uint8 *out, size_t room, size_t *needed)
+static uint32 try_make(const Request *asked, const uint8 *bytes, size_t length, uint8 *out, size_t room, size_t *needed)
 {
-    switch (asked.made) {
+    uca_collator *collator = &asked->edition->collator;
+
+    switch (asked->made) {
     case KEY:
-        return uca_key(&collator, bytes, length, out, room, needed);
+        return uca_key(collator, bytes, length, out, room, needed);
     case RANGE:
-        return uca_range(&collator, bytes, length, asked.range, asked.end, out, room, needed);
+        return uca_range(collator, bytes, length, asked->range, asked->end, out, room, needed);
     case COMPACT_KEY:
-        return uca_compact(&collator, bytes, length, out, room, needed);
+        return uca_compact(collator, bytes, length, out, room, needed);
     case EXPANDED_KEY:
-        return uca_expand(&collator, bytes, length, out, room, needed);
+        return uca_expand(collator, bytes, length, out, room, needed);
+    case REKEYED:
+        return uca_rekey(&upgrade, bytes, length, out, room, needed);
     }
     return UCA_ARGUMENT;
 }
 
 /* Writes what is asked for after so many bytes of a new value, and returns its status. */
-static uint32 write_value(Request asked, const struct varlena *given, size_t before, bytea **value)
+static uint32 write_value(const Request *asked, const struct varlena *given, size_t before, bytea **value)
 {
     const uint8 *bytes = (const uint8 *) VARDATA_ANY(given);
     size_t length = VARSIZE_ANY_EXHDR(given), room = Min(6 * length + SPARE, MOST_VALUE - before), needed = 0;
     uint32 status;
 
-    if (length > MOST_TEXT && (asked.made == KEY || asked.made == RANGE))
+    if (length > MOST_TEXT && (asked->made == KEY || asked->made == RANGE))
         return UCA_TOO_LONG;
     *value = new_value(before + room);
     status = try_make(asked, bytes, length, (uint8 *) VARDATA(*value) + before, room, &needed);
@@ -395,38 +544,47 @@ static uint32 write_value(Request asked, const struct varlena *given, size_t bef
     return status;
 }
 
-static void value_error(Request asked, uint32 status)
+static void value_error(Made made, uint32 status)
 {
     if (status == UCA_NO_BOOK)
         ereport(ERROR, (errcode(ERRCODE_OBJECT_NOT_IN_PREREQUISITE_STATE), errmsg("uca: the server has no book, so its keys are whole"),
-                        errhint("Name a book in uca.book_file, and start the server again.")));
-    if (status == UCA_NO_KEY)
+                        errhint("Name a book in uca.book_file, or in uca.next_book_file for the next edition, and start the server again.")));
+    if (status == UCA_NO_KEY || status == UCA_NO_IMAGE)
         ereport(ERROR, (errcode(ERRCODE_INVALID_BINARY_REPRESENTATION),
-                        errmsg("uca: the bytes are rejected: %s", asked.made == EXPANDED_KEY ? "NoCompactKey" : "OtherKey")));
+                        errmsg("uca: the bytes are rejected: %s", made == REKEYED ? "NoImage" : made == EXPANDED_KEY ? "NoCompactKey" : "OtherKey")));
     ereport(ERROR, (errcode(ERRCODE_INVALID_TEXT_REPRESENTATION),
                     errmsg("uca: the text is rejected: %s", status == UCA_UTF8 ? "Utf8" : status == UCA_TOO_LONG ? "TooLong" : "LongRun")));
+}
+
+/* What is asked for of some bytes. */
+static bytea *value_of_bytes(const Request *asked, const struct varlena *given)
+{
+    bytea *value;
+    uint32 status = write_value(asked, given, 0, &value);
+
+    if (status != UCA_OK)
+        value_error(asked->made, status);
+    return value;
 }
 
 /* What is asked for of the first argument. */
 static Datum value_of(FunctionCallInfo fcinfo, Request asked)
 {
     struct varlena *given = PG_DETOAST_DATUM_PACKED(PG_GETARG_DATUM(0));
-    bytea *value;
-    uint32 status = write_value(asked, given, 0, &value);
+    bytea *value = value_of_bytes(&asked, given);
 
-    if (status != UCA_OK)
-        value_error(asked, status);
     PG_FREE_IF_COPY(given, 0);
     PG_RETURN_BYTEA_P(value);
 }
 
-static Datum any_key_of(FunctionCallInfo fcinfo)
+static Datum any_key_of(FunctionCallInfo fcinfo, Edition *edition)
 {
+    Request asked = {KEY, 0, 0, edition};
     text *given = PG_GETARG_TEXT_PP(0);
     size_t length = VARSIZE_ANY_EXHDR(given);
     bytea *value;
 
-    if (write_value(WHOLE, given, 1, &value) == UCA_OK)
+    if (write_value(&asked, given, 1, &value) == UCA_OK)
         *VARDATA(value) = 0;
     else {
         value = new_value(1 + length);
@@ -438,20 +596,57 @@ static Datum any_key_of(FunctionCallInfo fcinfo)
     PG_RETURN_BYTEA_P(value);
 }
 
+/* The next edition's key of a key of the present one. Each is compact where its edition has a book. */
+static Datum rekeyed_of(FunctionCallInfo fcinfo)
+{
+    Request expanded = {EXPANDED_KEY, 0, 0, &present}, rekeyed = {REKEYED, 0, 0, &present}, compact = {COMPACT_KEY, 0, 0, &next};
+    struct varlena *given = PG_DETOAST_DATUM_PACKED(PG_GETARG_DATUM(0));
+    struct varlena *whole = present.has_book ? value_of_bytes(&expanded, given) : given;
+    bytea *value = value_of_bytes(&rekeyed, whole);
+
+    if (next.has_book) {
+        bytea *before = value;
+
+        value = value_of_bytes(&compact, before);
+        pfree(before);
+    }
+    if (whole != given)
+        pfree(whole);
+    PG_FREE_IF_COPY(given, 0);
+    PG_RETURN_BYTEA_P(value);
+}
+
+/* Whether the key of a text has to be made again. A text that is rejected has no key, as uca_key says then. */
+static Datum affected_of(FunctionCallInfo fcinfo)
+{
+    text *given = PG_GETARG_TEXT_PP(0);
+    size_t length = VARSIZE_ANY_EXHDR(given);
+    uint32 affected = 1, status = UCA_TOO_LONG;
+
+    if (length <= MOST_TEXT)
+        status = uca_affected(&upgrade, (const uint8 *) VARDATA_ANY(given), length, &affected);
+    if (status == UCA_MEMORY)
+        ereport(ERROR, (errcode(ERRCODE_OUT_OF_MEMORY), errmsg("uca: out of memory")));
+    PG_FREE_IF_COPY(given, 0);
+    PG_RETURN_BOOL(status != UCA_OK || affected);
+}
+
 /* An end of the range of keys with the first levels of a text. This argument is how many. */
-static Request levels_request(FunctionCallInfo fcinfo, int argument, uint32 end)
+static Request levels_request(FunctionCallInfo fcinfo, int argument, uint32 end, Edition *edition)
 {
     int32 levels = PG_GETARG_INT32(argument);
-    Request asked = {RANGE, levels == 1 ? UCA_SAME_LETTERS : UCA_SAME_ACCENTS, end};
+    Request asked = {RANGE, levels == 1 ? UCA_SAME_LETTERS : UCA_SAME_ACCENTS, end, edition};
 
     if (levels != 1 && levels != 2)
         ereport(ERROR, (errcode(ERRCODE_INVALID_PARAMETER_VALUE), errmsg("uca: the number of levels is %d, and not 1 or 2", levels)));
     return asked;
 }
 
-/* By the files of the database. The function is STRICT. */
-static Datum value_by_files(FunctionCallInfo fcinfo, Request asked)
+/* By the files of the database, which are those of the present edition. The function is STRICT. */
+static Datum value_by_files(FunctionCallInfo fcinfo, Made made, uint32 range, uint32 end)
 {
+    Request asked = {made, range, end, &present};
+
     need_files(fcinfo->flinfo->fn_oid);
     return value_of(fcinfo, asked);
 }
@@ -459,13 +654,14 @@ static Datum value_by_files(FunctionCallInfo fcinfo, Request asked)
 static Datum levels_by_files(FunctionCallInfo fcinfo, uint32 end)
 {
     need_files(fcinfo->flinfo->fn_oid);
-    return value_of(fcinfo, levels_request(fcinfo, 1, end));
+    return value_of(fcinfo, levels_request(fcinfo, 1, end, &present));
 }
 
 /* By the files that the fingerprint names. A fingerprint that is NULL is an error, and another argument that is NULL makes NULL. */
-static Datum value_by_fingerprint(FunctionCallInfo fcinfo, Request asked)
+static Datum value_by_fingerprint(FunctionCallInfo fcinfo, Made made, uint32 range, uint32 end)
 {
-    need_fingerprint(fcinfo);
+    Request asked = {made, range, end, named_edition(fcinfo)};
+
     if (PG_ARGISNULL(0))
         PG_RETURN_NULL();
     return value_of(fcinfo, asked);
@@ -473,10 +669,11 @@ static Datum value_by_fingerprint(FunctionCallInfo fcinfo, Request asked)
 
 static Datum levels_by_fingerprint(FunctionCallInfo fcinfo, uint32 end)
 {
-    need_fingerprint(fcinfo);
+    Edition *edition = named_edition(fcinfo);
+
     if (PG_ARGISNULL(0) || PG_ARGISNULL(2))
         PG_RETURN_NULL();
-    return value_of(fcinfo, levels_request(fcinfo, 2, end));
+    return value_of(fcinfo, levels_request(fcinfo, 2, end, edition));
 }
 
 #define FUNCTION(name, value)   \
@@ -487,8 +684,8 @@ static Datum levels_by_fingerprint(FunctionCallInfo fcinfo, uint32 end)
     }
 
 /* uca_key(text) and uca_key(text, fingerprint) return bytea: the sort key. A text that is rejected is an error. */
-FUNCTION(uca_key_of_text, value_by_files(fcinfo, WHOLE))
-FUNCTION(uca_key_by_fingerprint, value_by_fingerprint(fcinfo, WHOLE))
+FUNCTION(uca_key_of_text, value_by_files(fcinfo, KEY, 0, 0))
+FUNCTION(uca_key_by_fingerprint, value_by_fingerprint(fcinfo, KEY, 0, 0))
 
 /* uca_range_low(text, levels) and uca_range_high(text, levels) return bytea: both ends of the keys with as many first levels as the text
    has. uca_key(text, levels) is the low end. A fingerprint may come before the levels. */
@@ -499,17 +696,17 @@ FUNCTION(uca_range_high_by_fingerprint, levels_by_fingerprint(fcinfo, UCA_HIGH))
 
 /* uca_prefix_low(text) and uca_prefix_high(text) return bytea: both ends of the keys whose level 1 begins with the letters of the text. A
    fingerprint may come after the text. */
-FUNCTION(uca_prefix_low_of_text, value_by_files(fcinfo, PREFIX_LOW))
-FUNCTION(uca_prefix_high_of_text, value_by_files(fcinfo, PREFIX_HIGH))
-FUNCTION(uca_prefix_low_by_fingerprint, value_by_fingerprint(fcinfo, PREFIX_LOW))
-FUNCTION(uca_prefix_high_by_fingerprint, value_by_fingerprint(fcinfo, PREFIX_HIGH))
+FUNCTION(uca_prefix_low_of_text, value_by_files(fcinfo, RANGE, UCA_BEGINS, UCA_LOW))
+FUNCTION(uca_prefix_high_of_text, value_by_files(fcinfo, RANGE, UCA_BEGINS, UCA_HIGH))
+FUNCTION(uca_prefix_low_by_fingerprint, value_by_fingerprint(fcinfo, RANGE, UCA_BEGINS, UCA_LOW))
+FUNCTION(uca_prefix_high_by_fingerprint, value_by_fingerprint(fcinfo, RANGE, UCA_BEGINS, UCA_HIGH))
 
 /* uca_expand(bytea) returns bytea: the whole key of a compact key. uca_compact(bytea) makes that compact again. A fingerprint may come
    after the key. */
-FUNCTION(uca_expand_key, value_by_files(fcinfo, EXPANDED))
-FUNCTION(uca_compact_key, value_by_files(fcinfo, COMPACT))
-FUNCTION(uca_expand_by_fingerprint, value_by_fingerprint(fcinfo, EXPANDED))
-FUNCTION(uca_compact_by_fingerprint, value_by_fingerprint(fcinfo, COMPACT))
+FUNCTION(uca_expand_key, value_by_files(fcinfo, EXPANDED_KEY, 0, 0))
+FUNCTION(uca_compact_key, value_by_files(fcinfo, COMPACT_KEY, 0, 0))
+FUNCTION(uca_expand_by_fingerprint, value_by_fingerprint(fcinfo, EXPANDED_KEY, 0, 0))
+FUNCTION(uca_compact_by_fingerprint, value_by_fingerprint(fcinfo, COMPACT_KEY, 0, 0))
 
 /* uca_any_key(text) and uca_any_key(text, fingerprint) return bytea: a byte 0 and the sort key, or a byte 1 and the bytes of a text that is
    rejected. */
@@ -517,16 +714,61 @@ PG_FUNCTION_INFO_V1(uca_any_key_of_text);
 Datum uca_any_key_of_text(PG_FUNCTION_ARGS)
 {
     need_files(fcinfo->flinfo->fn_oid);
-    return any_key_of(fcinfo);
+    return any_key_of(fcinfo, &present);
 }
 
 PG_FUNCTION_INFO_V1(uca_any_key_by_fingerprint);
 Datum uca_any_key_by_fingerprint(PG_FUNCTION_ARGS)
 {
-    need_fingerprint(fcinfo);
+    Edition *edition = named_edition(fcinfo);
+
     if (PG_ARGISNULL(0))
         PG_RETURN_NULL();
-    return any_key_of(fcinfo);
+    return any_key_of(fcinfo, edition);
+}
+
+/* uca_affected(text) returns boolean: whether the key of the text has to be made again for the next edition. uca_rekey(bytea) returns
+   bytea: the next edition's key of the key of another text. The fingerprints of both editions may come after the argument. */
+PG_FUNCTION_INFO_V1(uca_affected_text);
+Datum uca_affected_text(PG_FUNCTION_ARGS)
+{
+    need_files(fcinfo->flinfo->fn_oid);
+    need_upgrade();
+    return affected_of(fcinfo);
+}
+
+PG_FUNCTION_INFO_V1(uca_affected_by_fingerprints);
+Datum uca_affected_by_fingerprints(PG_FUNCTION_ARGS)
+{
+    need_both_editions(fcinfo);
+    if (PG_ARGISNULL(0))
+        PG_RETURN_NULL();
+    return affected_of(fcinfo);
+}
+
+PG_FUNCTION_INFO_V1(uca_rekey_key);
+Datum uca_rekey_key(PG_FUNCTION_ARGS)
+{
+    need_files(fcinfo->flinfo->fn_oid);
+    need_upgrade();
+    return rekeyed_of(fcinfo);
+}
+
+PG_FUNCTION_INFO_V1(uca_rekey_by_fingerprints);
+Datum uca_rekey_by_fingerprints(PG_FUNCTION_ARGS)
+{
+    need_both_editions(fcinfo);
+    if (PG_ARGISNULL(0))
+        PG_RETURN_NULL();
+    return rekeyed_of(fcinfo);
+}
+
+/* uca_next_fingerprint() returns text: that of the next edition, which the server has read and audited. */
+PG_FUNCTION_INFO_V1(uca_fingerprint_of_next_files);
+Datum uca_fingerprint_of_next_files(PG_FUNCTION_ARGS)
+{
+    need_upgrade();
+    PG_RETURN_TEXT_P(cstring_to_text(next.fingerprint));
 }
 
 /* uca_fingerprint() returns text: that of the files and settings that the server has read. */
@@ -534,7 +776,7 @@ PG_FUNCTION_INFO_V1(uca_fingerprint_of_files);
 Datum uca_fingerprint_of_files(PG_FUNCTION_ARGS)
 {
     need_open();
-    PG_RETURN_TEXT_P(cstring_to_text(fingerprint));
+    PG_RETURN_TEXT_P(cstring_to_text(present.fingerprint));
 }
 
 /* uca_need_no_dependents(text) returns boolean: true for NULL. Otherwise it is an error, which shows this list of dependents. */

@@ -1,8 +1,9 @@
 /* Each allocation of SQLite and of the extension fails in turn, alone and with all after it.
 
-     memory EXTENSION TABLE DATA FINGERPRINT BOOK FINGERPRINT
+     memory EXTENSION TABLE DATA FINGERPRINT BOOK FINGERPRINT EDITIONS FINGERPRINT
 
-   The files are those of examples/. The fingerprints are theirs, shifted, without the book and with it. Each statement is right then, or has an error, and the
+   The files are those of examples/. The fingerprints are theirs, shifted, without the book and with it, and that of the table and the data
+   file in the folder EDITIONS. Each statement is right then, or has an error, and the
    connection can be closed. Where one allocation failed, the connection can load all again, and each stored key is right. Where one
    failed in a comparison, no index is damaged, no row is lost, and a later transaction is committed. Prints a line for each check that
    fails, and how many runs there were. The status is 1 if one failed. */
@@ -19,6 +20,7 @@ static long asked, first_failing, last_failing, failed;
 static int is_short;
 static char load[ROOM], table[ROOM], word_index[ROOM], order[ROOM], wrong_keys[ROOM], rows[ROOM];
 static char load_book[ROOM], is_made_again[ROOM], is_found[ROOM], *by_book; /* by_book is a fingerprint */
+static char load_upgrade[ROOM], is_mended[ROOM], *next_edition;             /* and so is next_edition */
 static unsigned char image[64 << 10]; /* of a database with these rows */
 static sqlite3_int64 image_size;
 
@@ -106,6 +108,8 @@ static void use(sqlite3 *database, const char *extension, char *fingerprint)
         sqlite3_exec(database, load_book, is_wanted, by_book, NULL);
         sqlite3_exec(database, is_made_again, is_wanted, "yes", NULL);
         sqlite3_exec(database, is_found, is_wanted, "yes", NULL);
+        sqlite3_exec(database, load_upgrade, is_wanted, next_edition, NULL);
+        sqlite3_exec(database, is_mended, is_wanted, "yes", NULL);
         sqlite3_exec(database, "SELECT uca_load('none', 'none')", is_wanted, "an error", NULL);
         sqlite3_exec(database, "SELECT uca_key('a', '')", is_wanted, "an error", NULL);
     }
@@ -121,6 +125,8 @@ static void use_again(sqlite3 *database, const char *extension, char *fingerprin
     CHECK(sqlite3_exec(database, load_book, is_wanted, by_book, NULL) == SQLITE_OK);
     CHECK(sqlite3_exec(database, is_made_again, is_wanted, "yes", NULL) == SQLITE_OK);
     CHECK(sqlite3_exec(database, is_found, is_wanted, "yes", NULL) == SQLITE_OK);
+    CHECK(sqlite3_exec(database, load_upgrade, is_wanted, next_edition, NULL) == SQLITE_OK);
+    CHECK(sqlite3_exec(database, is_mended, is_wanted, "yes", NULL) == SQLITE_OK);
     CHECK(sqlite3_exec(database, "PRAGMA integrity_check", is_wanted, "ok", NULL) == SQLITE_OK);
 }
 
@@ -197,7 +203,7 @@ static long compare(const char *extension, char *fingerprint, int at, long first
 
 int main(int count, char **words)
 {
-    if (count != 7) {
+    if (count != 9) {
         return 2;
     }
     char *extension = words[1], *used = words[4], *book = by_book = words[6];
@@ -206,6 +212,12 @@ int main(int count, char **words)
              book, book, book, book);
     snprintf(is_found, ROOM, "SELECT iif(uca_key('ab', '%s', 1) = uca_key('A-b', '%s', 1) AND uca_key('ab', '%s') >= uca_prefix_low('A', '%s')"
              " AND uca_key('ab', '%s') < uca_range_high('A-b', '%s', 2), 'yes', 'no')", book, book, book, book, book, book);
+    next_edition = words[8];
+    snprintf(load_upgrade, ROOM, "SELECT uca_load_upgrade('%s', '%s', '%s/table.txt', '%s/data.txt', '%s/changes.txt', '%s/certificate.txt', 'shifted', '', '%s')",
+             words[2], words[3], words[7], words[7], words[7], words[7], used);
+    snprintf(is_mended, ROOM, "SELECT iif(uca_affected('bach', '%s', '%s') AND NOT uca_affected('b', '%s', '%s')"
+             " AND uca_rekey(uca_key('b', '%s'), '%s', '%s') = x'1C6100000020000000020000FFFF', 'yes', 'no')",
+             used, next_edition, book, next_edition, book, book, next_edition);
     snprintf(load, ROOM, "SELECT uca_load('%s', '%s', 'shifted', '', '%s')", words[2], words[3], used);
     snprintf(table, ROOM, "CREATE TABLE IF NOT EXISTS words(word TEXT, key BLOB AS (uca_key(word, '%s')) STORED)", used);
     snprintf(word_index, ROOM, "CREATE INDEX IF NOT EXISTS by_word ON words(word COLLATE uca_%s)", used);

@@ -22,6 +22,20 @@
    Each use says by which files. So an index, a generated column or a CHECK keeps the fingerprint in the schema, and where these
    files are not loaded, it is an error. No name means "the files that are loaded". A connection may load several, and keeps all.
 
+     SELECT uca_load_upgrade('old.txt', 'old_data.txt', 'new.txt', 'new_data.txt', 'changes', 'certificate'
+                             [, weighting [, depth [, fingerprint]]]);
+
+   reads the six files of an upgrade of stored keys for this connection, and audits them. It returns the fingerprint of the new table
+   and data file. The weighting, the depth and the fingerprint are those of the stored keys, so the fingerprint is that of the old
+   table and data file. Say they are e7f5.. and d8c5..:
+
+     uca_affected(text, 'e7f5..', 'd8c5..')   1 where the key has to be made again, by uca_key(text, 'd8c5..'), as for a text that is
+                                              rejected; else 0; NULL for NULL; an error for a blob and for a real number
+     uca_rekey(key, 'e7f5..', 'd8c5..')       the new key of the old key of a text that is not affected; NULL for NULL
+
+   A fingerprint may also be that of compact keys, where uca_load has loaded it. Then uca_rekey takes or makes these. Where no such
+   upgrade is loaded, both are an error. One that is loaded stays: another one of the same fingerprints does not take its place.
+
    A collation cannot return an error. Where memory runs out in a comparison, the statement is interrupted. An INSERT of one row may
    end before that, so hooks reject the commit of a transaction that has written. */
 #define _POSIX_C_SOURCE 200809L
@@ -44,6 +58,9 @@ SQLITE_EXTENSION_INIT1
 #define UNCHECKED "unchecked"
 
 #define KEY_FLAGS (SQLITE_UTF8 | SQLITE_DETERMINISTIC | SQLITE_INNOCUOUS)
+/* What two upgrades of the same fingerprints make of an affected text, or of its key, may differ. So no index and no generated column may
+   have it. */
+#define UPGRADE_FLAGS (SQLITE_UTF8 | SQLITE_INNOCUOUS)
 /* No schema may read files. SQLite lets a DIRECTONLY function into a CHECK, unless it is DETERMINISTIC. */
 #define LOAD_FLAGS (SQLITE_UTF8 | SQLITE_DETERMINISTIC | SQLITE_DIRECTONLY)
 
@@ -51,16 +68,30 @@ SQLITE_EXTENSION_INIT1
 typedef struct loaded {
     uca_collator collator;
     char fingerprint[DIGITS + 1];
+    char whole[DIGITS + 1]; /* that of whole keys, which is another one where there is a book */
     struct connection *connection;
     struct loaded *next;
 } loaded;
 
-/* What a connection has loaded, and memory for a key. Its functions and collations share it, and the last of them frees it. */
+/* An upgrade, and the fingerprints of whole keys from which and to which it goes. */
+typedef struct upgrade {
+    uca_upgrade upgrade;
+    char from[DIGITS + 1], to[DIGITS + 1];
+    struct upgrade *next;
+} upgrade;
+
+/* Memory for a key. */
+typedef struct room {
+    uint8_t *bytes;
+    size_t size, length; /* the length is that of the key */
+} room;
+
+/* What a connection has loaded, and memory for keys. Its functions and collations share it, and the last of them frees it. */
 typedef struct connection {
     sqlite3 *database;
     loaded *first;
-    uint8_t *key;
-    size_t room;
+    upgrade *first_upgrade;
+    room rooms[2];
     int users;
     int is_lost; /* a comparison in the transaction that writes had no memory */
     int has_hooks;
@@ -78,14 +109,29 @@ typedef struct files {
     uint32_t weighting, depth;
 } files;
 
+/* The files of an upgrade, in the order of uca_open_upgrade. */
+enum { UPGRADE_FILES = 6 };
+
 /* What a function makes of its first argument. */
-typedef enum made { KEY, RANGE, COMPACT_KEY, EXPANDED_KEY } made;
+typedef enum made { KEY, RANGE, COMPACT_KEY, EXPANDED_KEY, REKEYED } made;
 
 typedef struct request {
     const char *name; /* of the function */
     made made;
     uint32_t range, end; /* those of uca_range */
 } request;
+
+/* What a key is made by: an upgrade where it is put through one, else a collator. */
+typedef struct maker {
+    loaded *loaded;
+    upgrade *upgrade;
+} maker;
+
+/* How a stored key becomes a new one. The collators are NULL unless they have books. */
+typedef struct way {
+    loaded *from, *to;
+    upgrade *upgrade;
+} way;
 
 static void let_go(void *data)
 {
@@ -99,11 +145,18 @@ static void let_go(void *data)
         uca_close(&it->collator);
         sqlite3_free(it);
     }
+    while (here->first_upgrade) {
+        upgrade *it = here->first_upgrade;
+        here->first_upgrade = it->next;
+        uca_close_upgrade(&it->upgrade);
+        sqlite3_free(it);
+    }
     if (here->has_hooks) {
         sqlite3_commit_hook(here->database, NULL, NULL);
         sqlite3_rollback_hook(here->database, NULL, NULL);
     }
-    sqlite3_free(here->key);
+    sqlite3_free(here->rooms[0].bytes);
+    sqlite3_free(here->rooms[1].bytes);
     sqlite3_free(here);
 }
 
@@ -197,21 +250,26 @@ static void not_loaded_error(sqlite3_context *context, const char *name, const c
     give_error(context, text);
 }
 
-/* What is loaded by this fingerprint, or NULL after an error. */
-static loaded *find_value(sqlite3_context *context, const char *name, sqlite3_value *value)
+/* The text of an argument that has to be a fingerprint, or NULL after an error. `which` names the argument. */
+static const char *fingerprint_of(sqlite3_context *context, const char *name, const char *which, sqlite3_value *value)
 {
-    const connection *here = sqlite3_user_data(context);
     const char *fingerprint = sqlite3_value_type(value) == SQLITE_TEXT ? (const char *)sqlite3_value_text(value) : "";
     if (!fingerprint) {
         sqlite3_result_error_nomem(context);
-        return NULL;
+    } else if (!is_fingerprint(fingerprint, (size_t)sqlite3_value_bytes(value))) {
+        give_error(context, sqlite3_mprintf("%s: the %s argument is no fingerprint of 64 lower-case hexadecimal digits", name, which));
+        fingerprint = NULL;
     }
-    size_t length = (size_t)sqlite3_value_bytes(value);
-    loaded *it = length == DIGITS ? find(here, fingerprint) : NULL;
-    if (!it && is_fingerprint(fingerprint, length)) {
+    return fingerprint;
+}
+
+/* What is loaded by this fingerprint, or NULL after an error. */
+static loaded *find_value(sqlite3_context *context, const char *name, sqlite3_value *value)
+{
+    const char *fingerprint = fingerprint_of(context, name, "second", value);
+    loaded *it = fingerprint ? find(sqlite3_user_data(context), fingerprint) : NULL;
+    if (fingerprint && !it) {
         not_loaded_error(context, name, fingerprint);
-    } else if (!it) {
-        give_error(context, sqlite3_mprintf("%s: the second argument is no fingerprint of 64 lower-case hexadecimal digits", name));
     }
     return it;
 }
@@ -219,8 +277,8 @@ static loaded *find_value(sqlite3_context *context, const char *name, sqlite3_va
 /* Ends a call with the error of a status. */
 static void status_error(sqlite3_context *context, const request *asked, const loaded *it, uint32_t status)
 {
-    static const char *const NAMES[] = {[UCA_UTF8] = "Utf8", [UCA_TOO_LONG] = "TooLong", [UCA_LONG_RUN] = "LongRun"};
-    if (status == UCA_UTF8 || status == UCA_TOO_LONG || status == UCA_LONG_RUN) {
+    static const char *const NAMES[] = {[UCA_UTF8] = "Utf8", [UCA_TOO_LONG] = "TooLong", [UCA_LONG_RUN] = "LongRun", [UCA_NO_IMAGE] = "NoImage"};
+    if (status == UCA_UTF8 || status == UCA_TOO_LONG || status == UCA_LONG_RUN || status == UCA_NO_IMAGE) {
         give_error(context, sqlite3_mprintf("%s: %s", asked->name, NAMES[status]));
     } else if (status == UCA_NO_KEY) {
         give_error(context, sqlite3_mprintf("%s: %s", asked->name, asked->made == EXPANDED_KEY ? "NoCompactKey" : "OtherKey"));
@@ -231,43 +289,43 @@ static void status_error(sqlite3_context *context, const request *asked, const l
     }
 }
 
-static uint32_t try_make(loaded *it, const request *asked, const uint8_t *bytes, size_t length, size_t *needed)
+static uint32_t try_make(connection *here, maker by, const request *asked, const uint8_t *bytes, size_t length, room *out)
 {
-    connection *here = it->connection;
-    uca_collator *collator = &it->collator;
     uint32_t status = UCA_MEMORY;
     pthread_mutex_lock(&here->lock);
     switch (asked->made) {
-    case KEY: status = uca_key(collator, bytes, length, here->key, here->room, needed); break;
-    case RANGE: status = uca_range(collator, bytes, length, asked->range, asked->end, here->key, here->room, needed); break;
-    case COMPACT_KEY: status = uca_compact(collator, bytes, length, here->key, here->room, needed); break;
-    case EXPANDED_KEY: status = uca_expand(collator, bytes, length, here->key, here->room, needed); break;
+    case KEY: status = uca_key(&by.loaded->collator, bytes, length, out->bytes, out->size, &out->length); break;
+    case RANGE:
+        status = uca_range(&by.loaded->collator, bytes, length, asked->range, asked->end, out->bytes, out->size, &out->length);
+        break;
+    case COMPACT_KEY: status = uca_compact(&by.loaded->collator, bytes, length, out->bytes, out->size, &out->length); break;
+    case EXPANDED_KEY: status = uca_expand(&by.loaded->collator, bytes, length, out->bytes, out->size, &out->length); break;
+    case REKEYED: status = uca_rekey(&by.upgrade->upgrade, bytes, length, out->bytes, out->size, &out->length); break;
     }
     pthread_mutex_unlock(&here->lock);
     return status;
 }
 
-/* Returns what a function makes of these bytes. */
-static void make_of_bytes(sqlite3_context *context, loaded *it, const request *asked, const uint8_t *bytes, size_t length)
+/* Makes what is asked for of these bytes, in a room that has to be another one. It returns 0 after an error. */
+static int fill(sqlite3_context *context, maker by, const request *asked, const uint8_t *bytes, size_t length, room *out)
 {
-    connection *here = it->connection;
-    size_t needed;
-    uint32_t status = try_make(it, asked, bytes, length, &needed);
+    connection *here = sqlite3_user_data(context);
+    uint32_t status = try_make(here, by, asked, bytes, length, out);
     if (status == UCA_SMALL) {
-        uint8_t *more = sqlite3_realloc64(here->key, 2 * needed);
+        size_t size = 2 * out->length;
+        uint8_t *more = sqlite3_realloc64(out->bytes, size);
         if (!more) {
             sqlite3_result_error_nomem(context);
-            return;
+            return 0;
         }
-        here->key = more;
-        here->room = 2 * needed;
-        status = try_make(it, asked, bytes, length, &needed);
+        out->bytes = more;
+        out->size = size;
+        status = try_make(here, by, asked, bytes, length, out);
     }
-    if (status == UCA_OK) {
-        sqlite3_result_blob64(context, here->key, needed, SQLITE_TRANSIENT);
-    } else {
-        status_error(context, asked, it, status);
+    if (status != UCA_OK) {
+        status_error(context, asked, by.loaded, status);
     }
+    return status == UCA_OK;
 }
 
 /* What a value of this type is in place of a key, or NULL for a blob. */
@@ -283,26 +341,37 @@ static const char *what_is_no_text(int type)
     return type == SQLITE_BLOB ? "a blob, not a text" : type == SQLITE_FLOAT ? "a real number, not a text" : NULL;
 }
 
+/* The bytes of a text or of a key, and how many. They are NULL after an error, and for NULL. */
+static const uint8_t *bytes_of(sqlite3_context *context, const char *name, sqlite3_value *value, int is_key, size_t *length)
+{
+    int type = sqlite3_value_type(value);
+    const char *what = type == SQLITE_NULL ? NULL : is_key ? what_is_no_key(type) : what_is_no_text(type);
+    if (what) {
+        give_error(context, sqlite3_mprintf("%s: the first argument is %s", name, what));
+    }
+    if (what || type == SQLITE_NULL) {
+        return NULL;
+    }
+    const uint8_t *bytes = is_key ? sqlite3_value_blob(value) : sqlite3_value_text(value);
+    *length = (size_t)sqlite3_value_bytes(value);
+    if (!bytes && (!is_key || *length > 0)) {
+        sqlite3_result_error_nomem(context);
+        return NULL;
+    }
+    return bytes_at(bytes);
+}
+
 /* Returns what a function makes of a value by a fingerprint. */
 static void make(sqlite3_context *context, sqlite3_value *value, sqlite3_value *fingerprint, const request *asked)
 {
-    int takes_key = asked->made == COMPACT_KEY || asked->made == EXPANDED_KEY, type = sqlite3_value_type(value);
-    const char *what = takes_key ? what_is_no_key(type) : what_is_no_text(type);
+    connection *here = sqlite3_user_data(context);
+    room *out = &here->rooms[0];
+    size_t length;
     loaded *it = find_value(context, asked->name, fingerprint);
-    if (!it || type == SQLITE_NULL) {
-        return;
+    const uint8_t *bytes = it ? bytes_of(context, asked->name, value, asked->made == COMPACT_KEY || asked->made == EXPANDED_KEY, &length) : NULL;
+    if (bytes && fill(context, (maker){it, NULL}, asked, bytes, length, out)) {
+        sqlite3_result_blob64(context, out->bytes, out->length, SQLITE_TRANSIENT);
     }
-    if (what) {
-        give_error(context, sqlite3_mprintf("%s: the first argument is %s", asked->name, what));
-        return;
-    }
-    const uint8_t *bytes = takes_key ? sqlite3_value_blob(value) : sqlite3_value_text(value);
-    size_t length = (size_t)sqlite3_value_bytes(value);
-    if (!bytes && (!takes_key || length > 0)) {
-        sqlite3_result_error_nomem(context);
-        return;
-    }
-    make_of_bytes(context, it, asked, bytes_at(bytes), length);
 }
 
 /* Returns an end of the range of keys with the first levels of a text. The last value is how many. */
@@ -361,6 +430,100 @@ static void make_expanded(sqlite3_context *context, int count, sqlite3_value **v
     make(context, values[0], values[1], &(request){"uca_expand", EXPANDED_KEY, 0, 0});
 }
 
+/* What is loaded by this fingerprint, if keys are compact by it. */
+static loaded *with_book(const connection *here, const char *fingerprint)
+{
+    loaded *it = find(here, fingerprint);
+    return it && strcmp(it->fingerprint, it->whole) ? it : NULL;
+}
+
+static upgrade *find_upgrade(const connection *here, const char *from, const char *to)
+{
+    upgrade *it = here->first_upgrade;
+    while (it && (strcmp(it->from, from) || strcmp(it->to, to))) {
+        it = it->next;
+    }
+    return it;
+}
+
+/* The way from the keys of one fingerprint to those of another one, the last two arguments. It returns 0 after an error. */
+static int find_way(sqlite3_context *context, const char *name, sqlite3_value **values, way *found)
+{
+    const connection *here = sqlite3_user_data(context);
+    const char *from = fingerprint_of(context, name, "second", values[1]);
+    const char *to = from ? fingerprint_of(context, name, "third", values[2]) : NULL;
+    if (!to) {
+        return 0;
+    }
+    found->from = with_book(here, from);
+    found->to = with_book(here, to);
+    found->upgrade = find_upgrade(here, found->from ? found->from->whole : from, found->to ? found->to->whole : to);
+    if (!found->upgrade) {
+        char *text = sqlite3_mprintf("%s: no upgrade from the fingerprint %s to %s is loaded; loaded:%s", name, from, to, here->first_upgrade ? "" : " none");
+        for (const upgrade *it = here->first_upgrade; it && text; it = it->next) {
+            text = sqlite3_mprintf("%z %s to %s", text, it->from, it->to);
+        }
+        give_error(context, text);
+    }
+    return found->upgrade != NULL;
+}
+
+/* Returns whether the key of a text has to be made again. A text that is rejected has no key, as uca_key says then. */
+static void make_affected(sqlite3_context *context, int count, sqlite3_value **values)
+{
+    connection *here = sqlite3_user_data(context);
+    way by;
+    size_t length;
+    uint32_t affected;
+    (void)count;
+    const uint8_t *bytes = find_way(context, "uca_affected", values, &by) ? bytes_of(context, "uca_affected", values[0], 0, &length) : NULL;
+    if (!bytes) {
+        return;
+    }
+    pthread_mutex_lock(&here->lock);
+    uint32_t status = uca_affected(&by.upgrade->upgrade, bytes, length, &affected);
+    pthread_mutex_unlock(&here->lock);
+    if (status == UCA_OK) {
+        sqlite3_result_int(context, (int)affected);
+    } else if (status == UCA_UTF8 || status == UCA_TOO_LONG || status == UCA_LONG_RUN) {
+        sqlite3_result_int(context, 1);
+    } else {
+        sqlite3_result_error_nomem(context);
+    }
+}
+
+/* Returns the new key of an old one. A compact key is made whole before, and one of a book is made compact after. */
+static void make_rekeyed(sqlite3_context *context, int count, sqlite3_value **values)
+{
+    static const request FIRST = {"uca_rekey", EXPANDED_KEY, 0, 0}, THEN = {"uca_rekey", REKEYED, 0, 0}, LAST = {"uca_rekey", COMPACT_KEY, 0, 0};
+    connection *here = sqlite3_user_data(context);
+    room *whole = &here->rooms[0], *rekeyed = &here->rooms[1], *out = rekeyed;
+    way by;
+    size_t length;
+    (void)count;
+    const uint8_t *bytes = find_way(context, "uca_rekey", values, &by) ? bytes_of(context, "uca_rekey", values[0], 1, &length) : NULL;
+    if (!bytes) {
+        return;
+    }
+    if (by.from) {
+        if (!fill(context, (maker){by.from, NULL}, &FIRST, bytes, length, whole)) {
+            return;
+        }
+        bytes = whole->bytes;
+        length = whole->length;
+    }
+    if (!fill(context, (maker){NULL, by.upgrade}, &THEN, bytes, length, rekeyed)) {
+        return;
+    }
+    if (by.to) {
+        out = whole;
+        if (!fill(context, (maker){by.to, NULL}, &LAST, rekeyed->bytes, rekeyed->length, out)) {
+            return;
+        }
+    }
+    sqlite3_result_blob64(context, out->bytes, out->length, SQLITE_TRANSIENT);
+}
+
 /* Reads the bytes of an open file of this size, and returns NULL, or why not. There is room for one byte more. */
 static const char *read_bytes(int number, uint8_t *bytes, size_t size)
 {
@@ -373,7 +536,7 @@ static const char *read_bytes(int number, uint8_t *bytes, size_t size)
 }
 
 /* The bytes of a file, which the caller frees, or NULL after an error. A pipe or a device is not read, and nothing waits for it. */
-static file read_file(sqlite3_context *context, const char *role, const char *path)
+static file read_file(sqlite3_context *context, const char *name, const char *role, const char *path)
 {
     file it = {NULL, 0};
     struct stat about;
@@ -395,18 +558,22 @@ static file read_file(sqlite3_context *context, const char *role, const char *pa
     if (why) {
         sqlite3_free(it.bytes);
         it.bytes = NULL;
-        give_error(context, sqlite3_mprintf("uca_load: the %s %!.200Q: %s", role, path, why));
+        give_error(context, sqlite3_mprintf("%s: the %s %!.200Q: %s", name, role, path, why));
     } else if (!it.bytes) {
         sqlite3_result_error_nomem(context);
     }
     return it;
 }
 
+/* The names of uca_kind and of uca_upgrade_file, as docs/FORMATS.md has them. */
+static const char *const KINDS[] = {"", "Line", "Order", "CodePoint", "Weight", "DuplicateKey", "Range", "Limit", "Read", "Memory",
+                                    "Map Empty", "Map NotRising", "Map OutOfRange", "Map Fixed"};
+static const char *const ROLES[] = {"", "old table", "old data file", "new table", "new data file", "file of changes", "certificate"};
+
 static void open_error(sqlite3_context *context, uint32_t status, const uca_error *error)
 {
-    static const char *const KINDS[] = {"", "Line", "Order", "CodePoint", "Weight", "DuplicateKey", "Range", "Limit", "Read"};
     const char *role = status == UCA_TABLE ? "table" : status == UCA_DATA ? "data file" : status == UCA_BOOK ? "book" : NULL;
-    if (role && error->kind < UCA_KIND_MEMORY) {
+    if (role && error->kind != UCA_KIND_MEMORY) {
         give_error(context, sqlite3_mprintf("uca_load: the %s: line %u: %s", role, error->line, KINDS[error->kind]));
     } else {
         sqlite3_result_error_nomem(context);
@@ -424,7 +591,7 @@ static uint32_t open_collator(uca_collator *collator, const files *by, uca_error
 }
 
 /* Adds a collator of the files and its collation. It returns 0 after an error. */
-static int add(sqlite3_context *context, const files *by, const char *fingerprint)
+static int add(sqlite3_context *context, const files *by, const char *fingerprint, const char *whole)
 {
     connection *here = sqlite3_user_data(context);
     char name[sizeof "uca_" + DIGITS];
@@ -434,8 +601,9 @@ static int add(sqlite3_context *context, const files *by, const char *fingerprin
         sqlite3_result_error_nomem(context);
         return 0;
     }
-    *it = (loaded){UCA_CLOSED_COLLATOR, "", here, here->first};
+    *it = (loaded){UCA_CLOSED_COLLATOR, "", "", here, here->first};
     memcpy(it->fingerprint, fingerprint, sizeof it->fingerprint);
+    memcpy(it->whole, whole, sizeof it->whole);
     sqlite3_snprintf(sizeof name, name, "uca_%s", fingerprint);
     uint32_t status = open_collator(&it->collator, by, &error);
     if (status != UCA_OK) {
@@ -452,34 +620,40 @@ static int add(sqlite3_context *context, const files *by, const char *fingerprin
     return 0;
 }
 
-/* Writes the fingerprint of the files and settings, in digits. */
-static uint32_t write_fingerprint(const files *by, char *fingerprint, uca_error *error)
+static void write_digits(const uint8_t *digest, char *digits)
+{
+    for (int i = 0; i < DIGEST; i++) {
+        sqlite3_snprintf(3, digits + 2 * i, "%02x", digest[i]);
+    }
+}
+
+/* Writes the fingerprint of the files and settings, and that of their whole keys, in digits. */
+static uint32_t write_fingerprints(const files *by, char *fingerprint, char *whole, uca_error *error)
 {
     const file *table = &by->table, *data = &by->data;
-    uint8_t whole[DIGEST], compact[DIGEST];
-    uint32_t status = uca_fingerprint(table->bytes, table->length, data->bytes, data->length, by->weighting, by->depth, whole, error);
+    uint8_t digest[DIGEST], compact[DIGEST];
+    uint32_t status = uca_fingerprint(table->bytes, table->length, data->bytes, data->length, by->weighting, by->depth, digest, error);
     if (status != UCA_OK) {
         return status;
     }
     if (by->book.bytes) {
-        uca_compact_fingerprint(whole, by->book.bytes, by->book.length, compact);
+        uca_compact_fingerprint(digest, by->book.bytes, by->book.length, compact);
     }
-    for (int i = 0; i < DIGEST; i++) {
-        sqlite3_snprintf(3, fingerprint + 2 * i, "%02x", by->book.bytes ? compact[i] : whole[i]);
-    }
+    write_digits(digest, whole);
+    write_digits(by->book.bytes ? compact : digest, fingerprint);
     return UCA_OK;
 }
 
 static void load_files(sqlite3_context *context, const files *by, const char *wanted)
 {
-    char fingerprint[DIGITS + 1];
+    char fingerprint[DIGITS + 1], whole[DIGITS + 1];
     uca_error error;
-    uint32_t status = write_fingerprint(by, fingerprint, &error);
+    uint32_t status = write_fingerprints(by, fingerprint, whole, &error);
     if (status != UCA_OK) {
         open_error(context, status, &error);
     } else if (strcmp(wanted, UNCHECKED) && strcmp(wanted, fingerprint)) {
         give_error(context, sqlite3_mprintf("uca_load: the files and settings have the fingerprint %s, and %s is wanted", fingerprint, wanted));
-    } else if (find(sqlite3_user_data(context), fingerprint) || add(context, by, fingerprint)) {
+    } else if (find(sqlite3_user_data(context), fingerprint) || add(context, by, fingerprint, whole)) {
         sqlite3_result_text(context, fingerprint, DIGITS, SQLITE_TRANSIENT);
     }
 }
@@ -487,12 +661,12 @@ static void load_files(sqlite3_context *context, const files *by, const char *wa
 /* Reads the files of these paths, and loads them. The path of no book is empty. */
 static void load_paths(sqlite3_context *context, const char *const *paths, const char *book, files *by, const char *wanted)
 {
-    by->table = read_file(context, "table", paths[0]);
+    by->table = read_file(context, "uca_load", "table", paths[0]);
     if (by->table.bytes) {
-        by->data = read_file(context, "data file", paths[1]);
+        by->data = read_file(context, "uca_load", "data file", paths[1]);
     }
     if (by->data.bytes && *book) {
-        by->book = read_file(context, "book", book);
+        by->book = read_file(context, "uca_load", "book", book);
     }
     if (by->data.bytes && (by->book.bytes || !*book)) {
         load_files(context, by, wanted);
@@ -513,7 +687,7 @@ static uint32_t number_of(const char *name, const char *const *names, uint32_t c
 }
 
 /* The texts of the arguments, "" for NULL. It returns 0 after an error. */
-static int read_arguments(sqlite3_context *context, int count, sqlite3_value **values, const char **texts)
+static int read_arguments(sqlite3_context *context, const char *name, int count, sqlite3_value **values, const char **texts)
 {
     for (int i = 0; i < count; i++) {
         texts[i] = sqlite3_value_type(values[i]) == SQLITE_NULL ? "" : (const char *)sqlite3_value_text(values[i]);
@@ -522,11 +696,29 @@ static int read_arguments(sqlite3_context *context, int count, sqlite3_value **v
             return 0;
         }
         if (strlen(texts[i]) != (size_t)sqlite3_value_bytes(values[i])) {
-            give_error(context, sqlite3_mprintf("uca_load: argument %d has a zero byte", i + 1));
+            give_error(context, sqlite3_mprintf("%s: argument %d has a zero byte", name, i + 1));
             return 0;
         }
     }
     return 1;
+}
+
+/* The numbers of three texts: a weighting, a depth, and a fingerprint, which is argument `which`. It returns 0 after an error. */
+static int read_settings(sqlite3_context *context, const char *name, const char *which, const char *const *texts, uint32_t *weighting, uint32_t *depth)
+{
+    static const char *const WEIGHTINGS[] = {"", "non-ignorable", "shifted"}, *const DEPTHS[] = {"weights", "identical"};
+    *weighting = number_of(texts[0], WEIGHTINGS, 3);
+    *depth = number_of(texts[1], DEPTHS, 2);
+    if (*weighting == 3) {
+        give_error(context, sqlite3_mprintf("%s: the weighting is %!.60Q, not 'shifted' or 'non-ignorable'", name, texts[0]));
+    } else if (*depth == 2) {
+        give_error(context, sqlite3_mprintf("%s: the depth is %!.60Q, not 'weights' or 'identical'", name, texts[1]));
+    } else if (strcmp(texts[2], UNCHECKED) && !is_fingerprint(texts[2], strlen(texts[2]))) {
+        give_error(context, sqlite3_mprintf("%s: the %s argument is no fingerprint of 64 lower-case hexadecimal digits, and not 'unchecked'", name, which));
+    } else {
+        return 1;
+    }
+    return 0;
 }
 
 /* On a shared cache, SQLite compares by bytes for a connection that has not loaded the files. Only the name of a file shows it. */
@@ -538,28 +730,98 @@ static int is_shared(sqlite3 *database)
 
 static void load(sqlite3_context *context, int count, sqlite3_value **values)
 {
-    static const char *const WEIGHTINGS[] = {"", "non-ignorable", "shifted"}, *const DEPTHS[] = {"weights", "identical"};
     const char *texts[] = {"", "", "", "", UNCHECKED, ""};
+    files by = {.weighting = 0};
     if (count < 2 || count > 6) {
         sqlite3_result_error(context, "uca_load: it takes 2 to 6 arguments", -1);
-        return;
-    }
-    if (is_shared(sqlite3_context_db_handle(context))) {
+    } else if (is_shared(sqlite3_context_db_handle(context))) {
         sqlite3_result_error(context, "uca_load: the database has a shared cache, which is no place for a collation", -1);
-        return;
-    }
-    if (!read_arguments(context, count, values, texts)) {
-        return;
-    }
-    files by = {.weighting = number_of(texts[2], WEIGHTINGS, 3), .depth = number_of(texts[3], DEPTHS, 2)};
-    if (by.weighting == 3) {
-        give_error(context, sqlite3_mprintf("uca_load: the weighting is %!.60Q, not 'shifted' or 'non-ignorable'", texts[2]));
-    } else if (by.depth == 2) {
-        give_error(context, sqlite3_mprintf("uca_load: the depth is %!.60Q, not 'weights' or 'identical'", texts[3]));
-    } else if (strcmp(texts[4], UNCHECKED) && !is_fingerprint(texts[4], strlen(texts[4]))) {
-        sqlite3_result_error(context, "uca_load: the fifth argument is no fingerprint of 64 lower-case hexadecimal digits, and not 'unchecked'", -1);
-    } else {
+    } else if (read_arguments(context, "uca_load", count, values, texts) &&
+               read_settings(context, "uca_load", "fifth", &texts[2], &by.weighting, &by.depth)) {
         load_paths(context, texts, texts[5], &by, texts[4]);
+    }
+}
+
+static void upgrade_error(sqlite3_context *context, uint32_t status, const uca_upgrade_error *error)
+{
+    static const char *const CONDITIONS[] = {"", "OldIllFormed", "NewIllFormed", "RangeChanged", "Uncovered",
+                                             "RowChanged", "RowMissing", "RowExtra", "PointChanged", "SettingChanged"};
+    static const char *const PLACES[] = {"", " old row %u", " new row %u", " code point %04X"};
+    if (status == UCA_FILE && error->kind != UCA_KIND_MEMORY) {
+        give_error(context, sqlite3_mprintf("uca_load_upgrade: the %s: line %u: %s", ROLES[error->file], error->line, KINDS[error->kind]));
+    } else if (status == UCA_NOT_MET) {
+        char *place = sqlite3_mprintf(PLACES[error->place], error->number);
+        give_error(context, place ? sqlite3_mprintf("uca_load_upgrade: the audit rejects the files: %s%s", CONDITIONS[error->condition], place) : NULL);
+        sqlite3_free(place);
+    } else {
+        sqlite3_result_error_nomem(context);
+    }
+}
+
+/* Opens an upgrade by the files, and writes its fingerprints. It returns 0 after an error. */
+static int open_upgrade(sqlite3_context *context, upgrade *it, const file *by, uint32_t weighting, uint32_t depth)
+{
+    uint8_t from[DIGEST], to[DIGEST];
+    uca_upgrade_error error;
+    uint32_t status = uca_open_upgrade(&it->upgrade, by[0].bytes, by[0].length, by[1].bytes, by[1].length, by[2].bytes, by[2].length, by[3].bytes,
+                                       by[3].length, by[4].bytes, by[4].length, by[5].bytes, by[5].length, weighting, depth, &error);
+    if (status != UCA_OK) {
+        upgrade_error(context, status, &error);
+        return 0;
+    }
+    uca_upgrade_fingerprints(&it->upgrade, from, to);
+    write_digits(from, it->from);
+    write_digits(to, it->to);
+    return 1;
+}
+
+/* Adds an upgrade by the files, unless there is one of its fingerprints. `wanted` is the fingerprint of the old files. */
+static void add_upgrade(sqlite3_context *context, const file *by, uint32_t weighting, uint32_t depth, const char *wanted)
+{
+    connection *here = sqlite3_user_data(context);
+    upgrade *it = sqlite3_malloc64(sizeof *it);
+    if (!it) {
+        sqlite3_result_error_nomem(context);
+        return;
+    }
+    *it = (upgrade){UCA_CLOSED_UPGRADE, "", "", here->first_upgrade};
+    if (open_upgrade(context, it, by, weighting, depth)) {
+        if (strcmp(wanted, UNCHECKED) && strcmp(wanted, it->from)) {
+            give_error(context, sqlite3_mprintf("uca_load_upgrade: the old files and settings have the fingerprint %s, and %s is wanted", it->from, wanted));
+        } else {
+            sqlite3_result_text(context, it->to, DIGITS, SQLITE_TRANSIENT);
+            if (!find_upgrade(here, it->from, it->to)) {
+                here->first_upgrade = it;
+                return;
+            }
+        }
+    }
+    uca_close_upgrade(&it->upgrade);
+    sqlite3_free(it);
+}
+
+static void load_upgrade(sqlite3_context *context, int count, sqlite3_value **values)
+{
+    const char *texts[] = {"", "", "", "", "", "", "", "", UNCHECKED};
+    file by[UPGRADE_FILES] = {{NULL, 0}};
+    uint32_t weighting, depth;
+    int read = 0;
+    if (count < UPGRADE_FILES || count > 9) {
+        sqlite3_result_error(context, "uca_load_upgrade: it takes 6 to 9 arguments", -1);
+        return;
+    }
+    if (!read_arguments(context, "uca_load_upgrade", count, values, texts) ||
+        !read_settings(context, "uca_load_upgrade", "ninth", &texts[UPGRADE_FILES], &weighting, &depth)) {
+        return;
+    }
+    while (read < UPGRADE_FILES && (by[read] = read_file(context, "uca_load_upgrade", ROLES[read + 1], texts[read])).bytes) {
+        read++;
+    }
+    if (read == UPGRADE_FILES) {
+        add_upgrade(context, by, weighting, depth, texts[8]);
+    }
+    for (int i = 0; i < UPGRADE_FILES; i++) {
+        sqlite3_free(by[i].bytes);
     }
 }
 
@@ -586,6 +848,9 @@ static const struct {
     {"uca_prefix_high", 2, KEY_FLAGS, make_prefix_high},
     {"uca_compact", 2, KEY_FLAGS, make_compact},
     {"uca_expand", 2, KEY_FLAGS, make_expanded},
+    {"uca_affected", 3, UPGRADE_FLAGS, make_affected},
+    {"uca_rekey", 3, UPGRADE_FLAGS, make_rekeyed},
+    {"uca_load_upgrade", -1, LOAD_FLAGS, load_upgrade},
     {"uca_load", -1, LOAD_FLAGS, load},
 };
 
@@ -603,8 +868,12 @@ __attribute__((visibility("default"))) int sqlite3_uca_init(sqlite3 *database, c
     if (!here) {
         return SQLITE_NOMEM;
     }
-    *here = (connection){database, NULL, sqlite3_malloc64(1024), 1024, 1, 0, 0, PTHREAD_MUTEX_INITIALIZER};
-    int failed = here->key ? SQLITE_OK : SQLITE_NOMEM;
+    *here = (connection){.database = database, .users = 1, .lock = PTHREAD_MUTEX_INITIALIZER};
+    int failed = SQLITE_OK;
+    for (int i = 0; i < 2; i++) {
+        here->rooms[i] = (room){sqlite3_malloc64(1024), 1024, 0};
+        failed = here->rooms[i].bytes ? failed : SQLITE_NOMEM;
+    }
     for (size_t i = 0; !failed && i < sizeof FUNCTIONS / sizeof *FUNCTIONS; i++) {
         here->users++; /* where a registration fails, SQLite lets go too */
         failed = sqlite3_create_function_v2(database, FUNCTIONS[i].name, FUNCTIONS[i].count, FUNCTIONS[i].flags, here, FUNCTIONS[i].call, NULL, NULL, let_go);

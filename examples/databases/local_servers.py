@@ -38,7 +38,7 @@ class PostgreSQL:
         if self.owner:
             words = ["runuser", "-u", self.owner, "--", *words]
         with open(f"{self.folder}/log", "a", encoding="utf-8") as log:
-            ran = subprocess.run(words, stdout=log, stderr=log, cwd=self.folder, timeout=120)
+            ran = subprocess.run(words, stdout=log, stderr=log, cwd=self.folder, timeout=660)
         if ran.returncode:
             with open(f"{self.folder}/log", encoding="utf-8") as log:
                 raise OSError(f"{program}: {log.read()[-800:]}")

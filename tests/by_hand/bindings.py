@@ -13,6 +13,7 @@ First prove and build the static library: `tools/build.py uca_c`. Then this scri
 - a program that is compiled by what pkg-config says of a temporary installation, and the programs of docs/BINDINGS.md;
 - the tests of the module for Python, as it is and from a wheel with the library inside, and those of keys, threads, signals and forks under valgrind;
 - statements of SQLite with the extension, over files that are the same or others, and those of docs/BINDINGS.md; also in threads, and where each allocation fails in turn;
+- upgrades from the edition of examples/ to that of examples/editions/, in Python, SQLite and PostgreSQL. upgrades.py does the same with Unicode's tables;
 - statements, dumps and replication of PostgreSQL with its extension, which is installed to a copy of the server's programs in a temporary folder. Each server
   has a folder of its own, listens on a Unix socket there, and is stopped afterwards;
 - all four over Unicode's table, and over that table tailored for Danish: 100,000 words of nine languages have the keys of `uca keys` and the order of `uca sort`.
@@ -238,7 +239,7 @@ def python_valgrind(work):
     # Not of leaks and undefined values, since CPython itself has both when it ends.
     words = ["valgrind", "-q", "--error-exitcode=9", "--leak-check=no", "--undef-value-errors=no", "--fair-sched=yes", sys.executable]
     environment = {**python_environment(), "PYTHONMALLOC": "malloc", "UCA_STRESS_SECONDS": "4"}
-    run([*words, "-m", "unittest", "test_uca.Keys", "test_uca.CompactKeys", "test_uca.Ranges", "test_uca.Values", "test_uca.Sharing", "test_stress"], env=environment, cwd=f"{PYTHON}/tests")
+    run([*words, "-m", "unittest", "test_uca.Keys", "test_uca.CompactKeys", "test_uca.Ranges", "test_uca.Values", "test_uca.Sharing", "test_uca.Upgrades", "test_stress"], env=environment, cwd=f"{PYTHON}/tests")
 
 
 def python_with_wheel():
@@ -279,6 +280,11 @@ TABLE, TAILORED, DATA = (f"{EXAMPLES}/{it}.txt" for it in ("table", "tailored", 
 BOOK = f"{EXAMPLES}/books/general.book"
 USED, OTHER = (fingerprint_of(it, DATA) for it in (TABLE, TAILORED))
 COMPACT = fingerprint_of(TABLE, DATA, book=BOOK)
+# The next edition: `e` is a letter, `ch` is none any more, and each of a to d has a weight more.
+NEW_TABLE, NEW_DATA, CHANGES, CERTIFICATE = (f"{EXAMPLES}/editions/{it}.txt" for it in ("table", "data", "changes", "certificate"))
+EDITIONS = [TABLE, DATA, NEW_TABLE, NEW_DATA, CHANGES, CERTIFICATE]
+NEXT = fingerprint_of(NEW_TABLE, NEW_DATA)
+NEXT_COMPACT = fingerprint_of(NEW_TABLE, NEW_DATA, book=BOOK)
 # The letters a and b have cells of one weight, and so has the space.
 SMALL_BOOK = "@book 1\n1 1C47\n1 1C48\n1 1C60\n1 1C61\n1 2000\n4 0209\n4 020A\n"
 
@@ -322,6 +328,11 @@ def sqlite_fails(work, error, *statements, load=sqlite_load(), database=":memory
     found = sqlite_says(work, *statements, load=load, database=database, fails=True)
     if error not in found:
         raise AssertionError(f"{load} {statements!r:.200}: {found}\n  in place of {error}")
+
+
+def quoted(text):
+    """The text in a statement of SQL."""
+    return "'" + text.replace("'", "''") + "'"
 
 
 SQLITE = [
@@ -549,7 +560,7 @@ def sqlite_lookups(work):
                 raise AssertionError(f"a query without its index: {query}")
 
 
-NEW_TABLE = f"""
+NEW_WORDS = f"""
 DROP INDEX IF EXISTS i;
 CREATE TABLE new_words(word TEXT COLLATE uca_{OTHER}, key BLOB AS (uca_key(word, '{OTHER}')) STORED UNIQUE);
 INSERT INTO new_words(word) SELECT word FROM words;
@@ -574,7 +585,7 @@ def sqlite_schemas(work):
             sqlite_fails(work, error, dump, load=sqlite_load(TAILORED), database=restored)
             os.remove(restored)
         same(sqlite_says(work, dump, IN_ORDER, "PRAGMA integrity_check;", database=restored), "b bh bz\nok\n", f"a dump of {made}")
-        same(sqlite_says(work, NEW_TABLE, load=sqlite_load(TAILORED), database=database), "b bz bh\nok\n", f"{made}: a new table")
+        same(sqlite_says(work, NEW_WORDS, load=sqlite_load(TAILORED), database=database), "b bz bh\nok\n", f"{made}: a new table")
 
 
 def sqlite_restore(work):
@@ -622,10 +633,221 @@ def sqlite_memory(work):
     """Each allocation fails in turn."""
     sqlite_says(work, "SELECT 1;")
     run(["gcc", "-O2", "-std=c11", "-Wall", "-Wextra", "-Werror", "-o", f"{work}/memory", f"{TOP}/bindings/sqlite/memory.c", "-lsqlite3", "-ldl"])
-    run([f"{work}/memory", f"{TOP}/bindings/sqlite/out/uca", TABLE, DATA, USED, BOOK, COMPACT])
+    run([f"{work}/memory", f"{TOP}/bindings/sqlite/out/uca", TABLE, DATA, USED, BOOK, COMPACT, f"{EXAMPLES}/editions", NEXT])
+
+
+# Texts that the next edition does not affect, and their whole keys by both editions, under shifted: hexadecimal digits.
+MENDED = [
+    ("", "000000000000", "000000000000"),
+    ("a", "1C4700000020000000020000FFFF", "1C4800000020000000020000FFFF"),
+    ("Á", "1C470000002000240000000800020000FFFFFFFF", "1C480000002000240000000800020000FFFFFFFF"),
+    ("b a", "1C601C470000002000200000000200020000FFFF0209FFFF", "1C611C480000002000200000000200020000FFFF0209FFFF"),
+    ("hc", "1D181C7A0000002000200000000200020000FFFFFFFF", "1D181C7B0000002000200000000200020000FFFFFFFF"),
+    ("一", "FB40CE0000000020000000020000FFFFFFFF", "FB40CE0000000020000000020000FFFFFFFF"),
+]
+AFFECTED = ["ch", "c-h", "bach", "e", "bed", "é", "\U0001f600", "a\u0324", "\U00021000"]
+
+
+def quoted_list(texts, more=()):
+    """Texts, as arguments of a function of SQL."""
+    return ", ".join([*map(quoted, texts), *more])
+
+
+def sqlite_upgrade(files=EDITIONS, more=()):
+    """Statements that load both editions and the upgrade, and print nothing."""
+    loads = sqlite_load() + sqlite_load(NEW_TABLE, NEW_DATA) + sqlite_load(book=BOOK) + sqlite_load(NEW_TABLE, NEW_DATA, book=BOOK)
+    return f"{loads} SELECT 0 WHERE uca_load_upgrade({quoted_list(files, more)}) IS NULL;"
+
+
+def sqlite_upgrade_loads(work):
+    """uca_load_upgrade returns the new fingerprint, and says what is wrong with its arguments and files."""
+    extension = f".load {TOP}/bindings/sqlite/out/uca"
+    of_settings = [(), ("'shifted'",), ("NULL", "NULL", f"'{USED}'"), ("''", "'weights'", "'unchecked'")]
+    for more in of_settings:
+        same(sqlite_says(work, f"SELECT uca_load_upgrade({quoted_list(EDITIONS, more)});", load=""), f"{NEXT}\n", f"an upgrade by {more}")
+    for setting in SETTINGS[1:]:
+        weighting, depth = setting[0], "identical" if "identical" in setting else "weights"
+        old, new = (fingerprint_of(*it, weighting, depth) for it in ((TABLE, DATA), (NEW_TABLE, NEW_DATA)))
+        more = [quoted(it) for it in (weighting, depth, old)]
+        same(sqlite_says(work, f"SELECT uca_load_upgrade({quoted_list(EDITIONS, more)});", load=""), f"{new}\n", f"an upgrade by {setting}")
+    altered = f"{work}/altered.txt"
+    for at, old, new, error in (
+        (0, b"0061 ; [.1C47", b"0061 ; [.1C4", "the old table: line 7: Weight"),
+        (1, b"@data 1", b"@data 2", "the old data file: line 1: Order"),
+        (2, b"0061 ; [.1C48", b"0061 ; [.1C4", "the new table: line 9: Weight"),
+        (3, b"ccc 0300..0314 230", b"ccc 0300..0314 300", "the new data file: line 2: Weight"),
+        (4, b"text 0065", b"text 0062", "the file of changes: line 3: Order"),
+        (5, b"1 1C60 1C61", b"1 1C60 1C47", "the certificate: line 4: Map NotRising"),
+        (4, b"text 0065\n", b"", "the audit rejects the files: RowExtra new row 9"),
+        (4, b"range 0324..0324\n", b"", "the audit rejects the files: PointChanged code point 0324"),
+        (5, b"1 1C60 1C61", b"1 1C60 1C60", "the audit rejects the files: RowChanged old row 5"),
+        (5, b"3 0008 0008 0001\n", b"", "the audit rejects the files: Uncovered old row 4"),
+        (2, b"@version 2\n", b"@version 2\n@variable non-ignorable\n", "the audit rejects the files: SettingChanged"),
+    ):
+        changed = content(EDITIONS[at]).replace(old, new, 1)
+        with open(altered, "wb") as it:
+            it.write(changed)
+        files = [*EDITIONS[:at], altered, *EDITIONS[at + 1 :]]
+        sqlite_fails(work, f"uca_load_upgrade: {error}", f"SELECT uca_load_upgrade({quoted_list(files)});", load="")
+    roles = ["old table", "old data file", "new table", "new data file", "file of changes", "certificate"]
+    for at, role in enumerate(roles):
+        for path, why in (("none", "it is not found"), ("/dev/zero", "it is not a regular file")):
+            files = [*EDITIONS[:at], path, *EDITIONS[at + 1 :]]
+            sqlite_fails(work, f"uca_load_upgrade: the {role} '{path}': {why}", f"SELECT uca_load_upgrade({quoted_list(files)});", load="")
+    for more, error in (
+        (["'SHIFTED'"], "the weighting is 'SHIFTED', not 'shifted' or 'non-ignorable'"),
+        (["''", "'deep'"], "the depth is 'deep', not 'weights' or 'identical'"),
+        (["''", "''", "''"], f"the ninth argument {NO_FINGERPRINT}, and not 'unchecked'"),
+        (["''", "''", "NULL"], f"the ninth argument {NO_FINGERPRINT}, and not 'unchecked'"),
+        (["''", "''", f"'{NEXT}'"], f"the old files and settings have the fingerprint {USED}, and {NEXT} is wanted"),
+        (["'non-ignorable'", "''", f"'{USED}'"], f"and {USED} is wanted"),
+        (["''", "''", "'unchecked'", "''"], "it takes 6 to 9 arguments"),
+        (["'shifted' || char(0)"], "argument 7 has a zero byte"),
+    ):
+        sqlite_fails(work, f"uca_load_upgrade: {error}" if not error.startswith("and ") else error, f"SELECT uca_load_upgrade({quoted_list(EDITIONS, more)});", load="")
+    for used, error in (("CREATE TABLE t(x CHECK (uca_load_upgrade({}) > '')); INSERT INTO t VALUES (1);", "unsafe use of uca_load_upgrade()"),
+                        ("CREATE TABLE t(x); CREATE INDEX i ON t(uca_load_upgrade({}));", "unsafe use of uca_load_upgrade()"),
+                        ("CREATE VIEW v AS SELECT uca_load_upgrade({}); SELECT * FROM v;", "unsafe use of uca_load_upgrade()")):
+        sqlite_fails(work, error, used.format(quoted_list(EDITIONS)), load="")
+    same(sqlite_says(work, extension, f"SELECT uca_load_upgrade({quoted_list(EDITIONS)});", extension, load=""), f"{NEXT}\n", "the extension twice")
+
+
+def sqlite_upgrades(work):
+    """Which texts are affected, the new keys of the others, and what is an error."""
+    load, named = sqlite_upgrade(), f"'{USED}', '{NEXT}'"
+    statements = [f"SELECT hex(uca_key({quoted(it)}, '{USED}')), uca_affected({quoted(it)}, {named}), hex(uca_rekey(x'{old}', {named})), hex(uca_key({quoted(it)}, '{NEXT}'));" for it, old, _ in MENDED]
+    same(sqlite_says(work, "".join(statements), load=load), "".join(f"{old}|0|{new}|{new}\n" for _, old, new in MENDED), "texts that are not affected")
+    same(sqlite_says(work, "".join(f"SELECT uca_affected({quoted(it)}, {named});" for it in AFFECTED), load=load), "1\n" * len(AFFECTED), "affected texts")
+    rejected = f"SELECT uca_affected(CAST(x'FF' AS TEXT), {named}), uca_affected('a' || replace(hex(zeroblob(33)), '0', char(0x301)), {named}), uca_affected(5, {named});"
+    same(sqlite_says(work, rejected, load=load), "1|1|0\n", "texts that are rejected, and a number")
+    same(sqlite_says(work, f"SELECT uca_affected(NULL, {named}) IS NULL, uca_rekey(NULL, {named}) IS NULL;", load=load), "1|1\n", "NULL")
+    for name, given, other, what in (("uca_affected", "'a'", "x'61'", "a blob, not a text"), ("uca_affected", "'a'", "0.5", "a real number, not a text"),
+                                     ("uca_rekey", "x'00'", "'a'", "no blob, so it is no key"), ("uca_rekey", "x'00'", "1", "no blob, so it is no key")):
+        sqlite_fails(work, f"{name}: the first argument is {what}", f"SELECT {name}({other}, {named});", load=load)
+        for wrong in ("''", "NULL", f"'{USED[:32]}'", f"CAST('{USED}' AS BLOB)"):
+            sqlite_fails(work, f"{name}: the second argument {NO_FINGERPRINT}", f"SELECT {name}({given}, {wrong}, '{NEXT}');", load=load)
+            sqlite_fails(work, f"{name}: the third argument {NO_FINGERPRINT}", f"SELECT {name}({given}, '{USED}', {wrong});", load=load)
+        for old, new in ((NEXT, USED), (USED, USED), (NEXT, NEXT), (OTHER, NEXT), (USED, OTHER)):
+            error = f"{name}: no upgrade from the fingerprint {old} to {new} is loaded; loaded: {USED} to {NEXT}"
+            for it in (given, "NULL"):
+                sqlite_fails(work, error, f"SELECT {name}({it}, '{old}', '{new}');", load=load)
+        sqlite_fails(work, "is loaded; loaded: none", f"SELECT {name}({given}, {named});")
+    for key in (f"uca_key('ch', '{USED}')", "x''", "x'1C'", "x'1C470000'", f"uca_key('b', '{COMPACT}')"):
+        sqlite_fails(work, "uca_rekey: NoImage", f"SELECT uca_rekey({key}, {named});", load=load)
+    for used in (f"CREATE INDEX i ON t(uca_rekey(x, {named}));", f"CREATE INDEX i ON t(uca_affected(x, {named}));"):
+        sqlite_fails(work, "non-deterministic functions prohibited in index expressions", "CREATE TABLE t(x);", used, load=load)
+    with open(f"{work}/more.changes", "wb") as it:
+        it.write(content(CHANGES).replace(b"text 0063 0068\n", b"text 0061\ntext 0063 0068\n"))
+    more = [*EDITIONS[:4], it.name, CERTIFICATE]
+    for first, second, wanted in ((EDITIONS, more, "0"), (more, EDITIONS, "1")):
+        twice = f"SELECT uca_load_upgrade({quoted_list(second)}); SELECT uca_affected('a', {named});"
+        same(sqlite_says(work, twice, load=sqlite_upgrade(first)), f"{NEXT}\n{wanted}\n", "an upgrade of the same fingerprints, which stays")
+
+
+def sqlite_compact_upgrades(work):
+    """Compact keys by the books of both editions, or of one."""
+    load, texts = sqlite_upgrade(), [it for it, _, _ in MENDED]
+    for old, new in ((COMPACT, NEXT_COMPACT), (COMPACT, NEXT), (USED, NEXT_COMPACT), (USED, NEXT)):
+        named = f"'{old}', '{new}'"
+        found = [f"SELECT uca_affected({quoted(it)}, {named}), uca_rekey(uca_key({quoted(it)}, '{old}'), {named}) = uca_key({quoted(it)}, '{new}');" for it in texts]
+        same(sqlite_says(work, "".join(found), load=load), "0|1\n" * len(texts), f"keys from {old} to {new}")
+        sqlite_fails(work, "uca_rekey: NoImage", f"SELECT uca_rekey(uca_key('ch', '{old}'), {named});", load=load)
+    sqlite_fails(work, "uca_rekey: NoCompactKey", f"SELECT uca_rekey(x'', '{COMPACT}', '{NEXT_COMPACT}');", load=load)
+    for old, new in ((NEXT_COMPACT, COMPACT), (COMPACT, COMPACT)):
+        sqlite_fails(work, f"no upgrade from the fingerprint {old} to {new} is loaded", f"SELECT uca_rekey(x'03', '{old}', '{new}');", load=load)
+    without = sqlite_load() + f"SELECT 0 WHERE uca_load_upgrade({quoted_list(EDITIONS)}) IS NULL;"
+    sqlite_fails(work, f"no upgrade from the fingerprint {COMPACT} to {NEXT} is loaded", f"SELECT uca_rekey(x'03', '{COMPACT}', '{NEXT}');", load=without)
+
+
+KEPT_WORDS = "('d'), ('ch'), ('cb'), ('Á'), ('A'), ('a'), ('bach'), ('bz'), ('bh'), ('b'), (NULL)"
+# A table of keys, and the statements that take it to the next edition.
+KEYED = f"""
+CREATE TABLE words(word TEXT, key BLOB); CREATE INDEX by_key ON words(key);
+CREATE TABLE made_by(fingerprint TEXT NOT NULL); INSERT INTO made_by VALUES ('{{0}}');
+INSERT INTO words(word) VALUES {KEPT_WORDS}; UPDATE words SET key = uca_key(word, '{{0}}');
+"""
+MOVE = """
+BEGIN IMMEDIATE;
+UPDATE words SET key = CASE WHEN uca_affected(word, fingerprint, '{0}') THEN uca_key(word, '{0}') ELSE uca_rekey(key, fingerprint, '{0}') END FROM made_by;
+UPDATE made_by SET fingerprint = '{0}';
+COMMIT;
+"""
+STATE = "SELECT count(*), total(key IS NOT uca_key(word, '{0}')), (SELECT group_concat(fingerprint) FROM made_by) FROM words;"
+BY_KEY = "SELECT group_concat(word, ' ') FROM (SELECT word FROM words ORDER BY key);"
+
+
+def sqlite_moves(work):
+    """A table of keys is taken to the next edition in one transaction, or stays as it is."""
+    load = sqlite_upgrade()
+    for old, new in ((USED, NEXT), (COMPACT, NEXT_COMPACT)):
+        database = f"{work}/moves-{old}.db"
+        sqlite_says(work, KEYED.format(old), load=load, database=database)
+        same(sqlite_says(work, STATE.format(old), load=load, database=database), f"11|0.0|{old}\n", "before")
+        with_rejected = MOVE.replace("BEGIN IMMEDIATE;", "BEGIN IMMEDIATE; INSERT INTO words VALUES (CAST(x'61FF' AS TEXT), NULL);")
+        sqlite_fails(work, "uca_key: Utf8", with_rejected.format(new), load=load, database=database)
+        same(sqlite_says(work, STATE.format(old), load=load, database=database), f"11|0.0|{old}\n", "after an error")
+        sqlite_fails(work, "is loaded; loaded: none", MOVE.format(new), load=load.split("SELECT 0 WHERE uca_load_upgrade")[0], database=database)
+        sqlite_says(work, MOVE.format(new), load=load, database=database)
+        same(sqlite_says(work, STATE.format(new), BY_KEY, "PRAGMA integrity_check;", load=load, database=database), f"11|0.0|{new}\na A Á b bach bh bz cb ch d\nok\n", "after")
+        sqlite_fails(work, f"no upgrade from the fingerprint {new} to {new} is loaded", MOVE.format(new), load=load, database=database)
+        same(sqlite_says(work, STATE.format(new), load=load, database=database), f"11|0.0|{new}\n", "a second time")
+
+
+# Tables with indexes that hold texts in the order of the collation.
+TEXT_TABLES = [
+    "CREATE TABLE names(name TEXT COLLATE uca_{0}, note TEXT); CREATE INDEX by_name ON names(name, note);",
+    "CREATE TABLE names(name TEXT, note TEXT); CREATE INDEX by_name ON names(name COLLATE uca_{0} DESC); CREATE INDEX by_note ON names(note, name COLLATE uca_{0});",
+    "CREATE TABLE names(name TEXT COLLATE uca_{0} UNIQUE, note TEXT);",
+]
+TEXTS_MOVE = """
+BEGIN IMMEDIATE;
+CREATE TABLE moved AS SELECT rowid AS number, * FROM names WHERE CASE typeof(name) WHEN 'text' THEN uca_affected(name, '{0}', '{1}') END;
+DELETE FROM names WHERE rowid IN (SELECT number FROM moved);
+PRAGMA writable_schema = on;
+UPDATE sqlite_schema SET sql = replace(sql, 'COLLATE uca_{0}', 'COLLATE uca_{1}') WHERE tbl_name = 'names';
+PRAGMA writable_schema = reset;
+INSERT INTO names(rowid, name, note) SELECT number, name, note FROM moved;
+DROP TABLE moved;
+"""
+# 300 names, of which 'ch' and others are affected; and what is no text or is rejected
+MANY_NAMES = ("WITH RECURSIVE n(i) AS (SELECT 0 UNION ALL SELECT i + 1 FROM n WHERE i < 299) INSERT INTO names SELECT char(97 + i * 7 % 5, 97 + i * 11 % 8, 97 + i / 40) || i, i % 7 FROM n;"
+         "INSERT INTO names VALUES (NULL, 1), (NULL, 2), (5, 3), (x'6368', 4), (CAST(x'6368FF' AS TEXT), 5), (CAST(x'61FF' AS TEXT), 6), ('ch', 7), ('c', 8), ('e', 9), ('', 10);")
+ROWS_AND_SCHEMA = "SELECT rowid, hex(name), note FROM names ORDER BY rowid; SELECT sql FROM sqlite_schema;"
+BY_NAME = "SELECT group_concat(coalesce(hex(name), 'none'), ' ') FROM (SELECT name FROM names ORDER BY {1}name COLLATE uca_{0}, rowid);"
+
+
+def sqlite_texts(work):
+    """Only affected rows leave an index that holds texts, under the old order, and come back under the new one."""
+    load = sqlite_upgrade()
+    for number, made in enumerate(TEXT_TABLES):
+        database = f"{work}/texts{number}.db"
+        sqlite_says(work, made.format(USED), MANY_NAMES, load=load, database=database)
+        wanted = sqlite_says(work, BY_NAME.format(NEXT, "+"), load=load, database=database)
+        before = sqlite_says(work, ROWS_AND_SCHEMA, load=load, database=database)
+        sqlite_says(work, TEXTS_MOVE.format(USED, NEXT), "ROLLBACK;", load=load, database=database)
+        same(sqlite_says(work, ROWS_AND_SCHEMA, load=load, database=database), before, f"{made}: taken back")
+        sqlite_fails(work, NO_FINGERPRINT, TEXTS_MOVE.format(USED, NEXT), "SELECT uca_key('a', '');", load=load, database=database)
+        same(sqlite_says(work, ROWS_AND_SCHEMA, load=load, database=database), before, f"{made}: after an error")
+        other = subprocess.Popen(["sqlite3", database], stdin=subprocess.PIPE, stdout=subprocess.PIPE, stderr=subprocess.STDOUT, text=True, cwd=TOP, bufsize=1)
+        other.stdin.write(f".load {TOP}/bindings/sqlite/out/uca\n{sqlite_load()}\nSELECT count(*) FROM names;\n")
+        same(other.stdout.readline(), "310\n", f"{made}: a connection with the old files alone")
+        sqlite_says(work, TEXTS_MOVE.format(USED, NEXT), "COMMIT;", load=load, database=database)
+        said, _ = other.communicate("INSERT INTO names VALUES ('ch', 1);\n")
+        if f"no such collation sequence: uca_{NEXT}" not in said:
+            raise AssertionError(f"{made}: a row by a connection that has the old files: {said}")
+        found = sqlite_says(work, "PRAGMA integrity_check;", BY_NAME.format(NEXT, ""), BY_NAME.format(NEXT, "+"), "SELECT count(*) FROM names;", load=load, database=database)
+        same(found, f"ok\n{wanted}{wanted}310\n", made)
+        if USED in sqlite_says(work, "SELECT group_concat(sql) FROM sqlite_schema;", load=load, database=database):
+            raise AssertionError(f"{made}: the old fingerprint is in the schema")
+    database, wrong = f"{work}/wrong.db", TEXTS_MOVE.replace("uca_affected(name, '{0}', '{1}')", "name = 'bach'")
+    sqlite_says(work, TEXT_TABLES[0].format(USED), MANY_NAMES, load=load, database=database)
+    sqlite_fails(work, "may not be modified", ".dbconfig defensive on", TEXTS_MOVE.format(USED, NEXT), load=load, database=database)
+    if sqlite_says(work, wrong.format(USED, NEXT), "COMMIT;", "PRAGMA integrity_check;", load=load, database=database) == "ok\n":
+        raise AssertionError("an index in which affected rows stay is found to be in order")
 
 
 SQLITE_PAGE = re.compile(r"^### In SQLite\n(.*?)^### ", re.S | re.M)
+SQLITE_UPGRADE_PAGE = re.compile(r"^### A new edition in SQLite\n(.*?)^### ", re.S | re.M)
 # What the extension was before: a function of one argument and a collation, which name no files.
 MADE_BEFORE = """
 CREATE TABLE words(word TEXT);
@@ -675,6 +897,9 @@ def sqlite_page(work):
     sqlite_fails(work, "wrong number of arguments to function uca_key()", "SELECT word FROM words;", database=f"{work}/before.db")
     page_error(work, "before-error.db", before, "words", "old_names")
     page_statements(work, "before.db", before)
+    upgrade, of_texts = re.findall(r"```sql\n(.*?)```", SQLITE_UPGRADE_PAGE.search(content(f"{TOP}/docs/BINDINGS.md").decode()).group(1), re.S)
+    for it in (upgrade, of_texts):
+        page_statements(work, "upgrade.db", it, load=sqlite_load(NEW_TABLE, NEW_DATA))
     constraint = re.search(r"`(CHECK \(.*?\))`", text).group(1).replace("e7f5..", USED)
     made = f"CREATE TABLE plain(word TEXT, key BLOB {constraint}); INSERT INTO plain VALUES ('a', uca_key('a', '{USED}')), (NULL, NULL);"
     sqlite_says(work, made)
@@ -737,8 +962,9 @@ def postgresql_programs(work):
 
 
 @contextlib.contextmanager
-def postgresql_server(work, table=TABLE, data=DATA, book=None, more=""):
-    """A server with the extension over these files, what runs statements in it, and its settings. The small book is beside the files."""
+def postgresql_server(work, table=TABLE, data=DATA, book=None, more="", editions=None):
+    """A server with the extension over these files, what runs statements in it, and its settings. The small book is beside the files. `editions`
+    are a new table and data file, a file of changes and a certificate: then the server has this next edition too, with the same book."""
     programs = postgresql_programs(work)
     sys.path.insert(0, f"{EXAMPLES}/databases")
     sys.dont_write_bytecode = True
@@ -751,6 +977,11 @@ def postgresql_server(work, table=TABLE, data=DATA, book=None, more=""):
         shutil.copy(file, f"{room}/{name}")
     shutil.copy(small_book(room) if book is None else book, f"{room}/book.txt")
     files = "".join(f"uca.{it}_file = '{room}/{it}.txt'\n" for it in ("table", "data", "book")[: 2 if book is None else 3])
+    its_names = ["next_table", "next_data", "changes", "certificate"] if editions else []
+    for file, name in zip(editions or [], its_names):
+        shutil.copy(file, f"{room}/{name}.txt")
+    files += "".join(f"uca.{it}_file = '{room}/{it}.txt'\n" for it in its_names)
+    files += f"uca.next_book_file = '{room}/book.txt'\n" if editions and book else ""
     settings = f"shared_preload_libraries = 'uca'\n{files}uca.weighting = shifted\n{more}"
     with PostgreSQL(room, settings, programs) as server:
 
@@ -1263,6 +1494,123 @@ def postgresql_books(work):
             raise AssertionError("a role without rights reads uca.book_file")
 
 
+NO_NEXT = "ERROR:  uca: the server has no next edition: name it in uca.next_table_file and the other settings"
+
+
+def postgresql_upgrades(work):
+    """The next edition beside the present one: which texts are affected, the new keys of the others, and what is an error."""
+    for book in (None, BOOK):
+        old, new = (fingerprint_of(*it, book=book) for it in ((TABLE, DATA), (NEW_TABLE, NEW_DATA)))
+        with postgresql_server(work, book=book, editions=EDITIONS[2:]) as (server, says, settings):
+            same(says("SELECT uca_fingerprint(), uca_next_fingerprint(); SELECT fingerprint FROM uca_files;"), f"{old}|{new}\n{old}\n", "the fingerprints")
+            postgresql_mended(says, old, new, book)
+            postgresql_upgrade_errors(says, old, new)
+            expanded = f"SELECT uca_expand(uca_key('a', '{new}'), '{new}') = '\\x{MENDED[1][2]}';"
+            same(says(expanded, fails=not book).strip(), "t" if book else NO_SERVER_BOOK, "a whole key of the next edition")
+            same(says(f"INSERT INTO uca_files VALUES ('{new}'); SELECT uca_rekey('\\x03');", fails=True), OTHER_FILES, "keys of the next edition in the database")
+            same(says("SELECT uca_affected('a');", fails=True), OTHER_FILES, "the same of a text")
+            same(says(f"SELECT uca_affected('ch', '{old}', '{new}'), uca_key('a', '{new}') IS NULL;"), "t|f\n", "calls that name both editions")
+            says(f"DELETE FROM uca_files WHERE fingerprint = '{new}';")
+    with postgresql_server(work) as (_, says, _):
+        for it in ("uca_next_fingerprint()", "uca_affected('a')", "uca_rekey('')", f"uca_affected('a', '{USED}', '{NEXT}')", f"uca_rekey('', '{USED}', '{NEXT}')"):
+            same(says(f"SELECT {it};", fails=True), NO_NEXT, f"{it} without a next edition")
+        same(says(f"SELECT uca_key('a', '{NEXT}');", fails=True), OTHERS_NAMED, "a key of the next edition without one")
+
+
+def postgresql_mended(says, old, new, book):
+    """Texts that are affected, and the keys of others."""
+    named = f"'{old}', '{new}'"
+    for text, old_key, new_key in MENDED:
+        key = f"uca_key({quoted(text)}, '{old}')"
+        whole = f"encode(uca_expand({key}, '{old}'), 'hex'), encode(uca_expand(uca_rekey({key}), '{new}'), 'hex')" if book else f"encode({key}, 'hex'), encode(uca_rekey({key}), 'hex')"
+        statement = (f"SELECT uca_affected({quoted(text)}), uca_affected({quoted(text)}, {named}), {whole},"
+                     f" uca_rekey({key}) = uca_key({quoted(text)}, '{new}'), uca_rekey({key}, {named}) = uca_key({quoted(text)}, '{new}'), {key} = uca_key({quoted(text)});")
+        same(says(statement), f"f|f|{old_key.lower()}|{new_key.lower()}|t|t|t\n", f"the keys of {text!r}")
+    same(says("".join(f"SELECT uca_affected({quoted(it)}), uca_affected({quoted(it)}, {named});" for it in AFFECTED)), "t|t\n" * len(AFFECTED), "affected texts")
+    same(says(f"SELECT uca_affected({RUN_OF_65}), uca_affected({LONG});"), "t|t\n", "texts that are rejected")
+    nulls = [f"{name}(NULL{more}) IS NULL" for name in ("uca_affected", "uca_rekey") for more in ("", f", {named}")]
+    same(says(f"SELECT {', '.join(nulls)};"), "t|t|t|t\n", "NULL")
+
+
+def postgresql_upgrade_errors(says, old, new):
+    for name, given in (("uca_affected", "'a'"), ("uca_rekey", "'\\x00'")):
+        for it in (f"'{new}', '{old}'", f"'{old}', '{old}'", f"'{new}', '{new}'", f"'{OTHER}', '{new}'", f"'{old}', '{OTHER}'", f"'', '{new}'"):
+            for value in (given, "NULL"):
+                same(says(f"SELECT {name}({value}, {it});", fails=True), OTHERS_NAMED, f"{name} by {it}")
+        for it in (f"NULL, '{new}'", f"'{old}', NULL"):
+            same(says(f"SELECT {name}({given}, {it});", fails=True), "ERROR:  uca: the fingerprint is NULL", f"{name} by {it}")
+        its_type = "text" if name == "uca_affected" else "bytea"
+        for call in (f"{name}(x)", f"{name}(x, '{old}', '{new}')"):
+            same(says(f"CREATE TABLE t(x {its_type}); CREATE INDEX ON t({call});", fails=True), "ERROR:  functions in index expression must be marked IMMUTABLE", call)
+            says("DROP TABLE t;")
+    same(says("SELECT uca_rekey(uca_key('ch'));", fails=True), "ERROR:  uca: the bytes are rejected: NoImage", "the key of an affected text")
+    for key in ("''", "'\\x1c'"):
+        found = says(f"SELECT uca_rekey({key});", fails=True)
+        if found not in ("ERROR:  uca: the bytes are rejected: NoImage", "ERROR:  uca: the bytes are rejected: NoCompactKey"):
+            raise AssertionError(f"the new key of {key}: {found}")
+    same(says(f"SELECT uca_key('a', '{OTHER}');", fails=True), OTHERS_NAMED, "a key of neither edition")
+
+
+def postgresql_upgrade_files(work):
+    """A next edition that is rejected does not touch the present one. After the next edition has become the present one, its keys are used."""
+    with postgresql_server(work, editions=EDITIONS[2:]) as (server, says, settings):
+        room = os.path.dirname(server.folder)
+        altered = f"{room}/altered.txt"
+        for name, file, old, new, error in (
+            ("next_table", NEW_TABLE, b"0061 ; [.1C48", b"0061 ; [.1C4", "next table line 9: Weight"),
+            ("next_data", NEW_DATA, b"ccc 0300..0314 230", b"ccc 0300..0314 300", "next data line 2: Weight"),
+            ("changes", CHANGES, b"text 0065", b"text 0062", "changes line 3: Order"),
+            ("certificate", CERTIFICATE, b"1 1C60 1C61", b"1 1C60 1C47", "certificate line 4: Map NotRising"),
+            ("changes", CHANGES, b"text 0065\n", b"", "the audit rejects the next edition: RowExtra new row 9"),
+            ("changes", CHANGES, b"range 0324..0324\n", b"", "the audit rejects the next edition: PointChanged code point 0324"),
+            ("next_table", NEW_TABLE, b"@version 2\n", b"@version 2\n@variable non-ignorable\n", "the audit rejects the next edition: SettingChanged"),
+        ):
+            changed = content(file).replace(old, new, 1)
+            with open(altered, "wb") as it:
+                it.write(changed)
+            os.chmod(altered, 0o644)
+            server.restart(settings.replace(f"/{name}.txt", "/altered.txt"))
+            same(says("SELECT uca_next_fingerprint();", fails=True), f"ERROR:  uca: {error}", f"{name} with {new}")
+            same(says("SELECT uca_affected('a');", fails=True), f"ERROR:  uca: {error}", f"{name} with {new}")
+            same(says(f"SELECT uca_key('a', '{NEXT}');", fails=True), OTHERS_NAMED, "a key of the rejected edition")
+            same(says("SELECT encode(uca_key('a'), 'hex');"), f"{MENDED[1][1].lower()}\n", "a key of the present edition")
+            until(lambda: f"WARNING:  uca: {error}" in content(f"{server.folder}/log").decode(), True, "the log")
+        for name in ("next_table", "next_data", "changes", "certificate"):
+            error = f"ERROR:  uca: the file of uca.{name}_file cannot be read: No such file or directory"
+            for it in (settings.replace(f"/{name}.txt", "/none.txt"), re.sub(f"uca.{name}_file.*\n", "", settings)):
+                server.restart(it)
+                same(says("SELECT uca_next_fingerprint();", fails=True), error, f"without {name}")
+                same(says("SELECT uca_key('a') IS NULL;"), "f\n", f"a key without {name}")
+            role = f"no_rights_{name}"
+            if "pg_read_all_settings" not in says(f"CREATE ROLE {role}; SET ROLE {role}; SHOW uca.{name}_file;", fails=True):
+                raise AssertionError(f"a role without rights reads uca.{name}_file")
+        server.restart(settings.replace("/table.txt", "/none.txt"))
+        same(says("SELECT uca_rekey('');", fails=True), "ERROR:  uca: the file of uca.table_file cannot be read: No such file or directory", "without a present edition")
+        server.restart(settings)
+        says(f"CREATE TABLE words(word text); INSERT INTO words VALUES ('ch'), ('cb'), ('d'); CREATE INDEX by_key ON words(uca_key(word)); CREATE INDEX by_next ON words(uca_key(word, '{NEXT}'));")
+        ordered = "SET enable_seqscan = off; SELECT string_agg(word, ' ') FROM (SELECT word FROM words ORDER BY uca_key(word{})) it;"
+        same(says(ordered.format("") + ordered.format(f", '{NEXT}'")), "cb ch d\ncb ch d\n", "indexes of both editions")
+        without = re.sub("uca.(next_.*|changes|certificate)_file.*\n", "", settings)
+        server.restart(without.replace("/table.txt", "/next_table.txt").replace("/data.txt", "/next_data.txt"))
+        same(says("SELECT uca_key('a');", fails=True), OTHER_FILES, "the next edition as the present one")
+        same(says(f"INSERT INTO words VALUES ('c-h');", fails=True), OTHER_FILES, "a row of an index by the present edition")
+        same(says("SELECT uca_use_files(again => true); INSERT INTO words VALUES ('c-h');" + ordered.format("") + ordered.format(f", '{NEXT}'")), "1\ncb c-h ch d\ncb c-h ch d\n", "files that are used from now on")
+
+
+def postgresql_upgrade_page(work):
+    """The statements of docs/BINDINGS.md for a new edition."""
+    page = re.search(r"^### A new edition in PostgreSQL\n(.*?)^## ", content(f"{TOP}/docs/BINDINGS.md").decode(), re.S | re.M).group(1)
+    blocks = re.findall(r"```sql\n(.*?)```", page, re.S)
+    with postgresql_server(work, editions=EDITIONS[2:]) as (server, says, settings):
+        says("SELECT uca_next_fingerprint();")
+        said = "".join(says(it) for it in blocks)
+        same(said.splitlines(), re.findall(r"^-- (.*)", "".join(blocks), re.M), "the page's statements")
+        same(says(f"SELECT count(*) FROM words WHERE key = uca_key(word, '{NEXT}'); INSERT INTO words VALUES ('e') RETURNING key = uca_key('e', '{NEXT}');"), "5\nt\n", "the page's table")
+        without = re.sub("uca.(next_.*|changes|certificate)_file.*\n", "", settings)
+        server.restart(without.replace("/table.txt", "/next_table.txt").replace("/data.txt", "/next_data.txt"))
+        same(says("SELECT uca_use_files(); INSERT INTO words VALUES ('f') RETURNING key = uca_key('f');"), "0\nt\n", "the page's table afterwards")
+
+
 def postgresql_like(program):
     """Lines ordered by the key and by an index on it are in the order of `uca sort`, and the keys are those of `uca keys`."""
 
@@ -1387,11 +1735,6 @@ def python_words(work, table, data, book, keys, order, lookups):
     same(found, keys + found_lines(lookups), f"keys and lookups over {table} by {book}")
 
 
-def quoted(text):
-    """The text in a statement of SQL."""
-    return "'" + text.replace("'", "''") + "'"
-
-
 def sqlite_words(work, table, data, book, keys, order, lookups):
     load, fingerprint = sqlite_load(table, data, book=book), fingerprint_of(table, data, book=book)
     key, database = f"uca_key(word, '{fingerprint}')", f"{tempfile.mkdtemp(dir=work)}/words.db"
@@ -1441,11 +1784,14 @@ def main():
               ("installation", installed), ("stored run", stored_run), ("docs/BINDINGS.md", page), ("keys", keys_like(program)), ("Python", python), ("Python under valgrind", python_valgrind), ("wheel", wheel), ("sort", sorted_like(program)), ("SQLite", sqlite),
               ("SQLite's loads", sqlite_loads), ("SQLite's files", sqlite_files), ("SQLite's compact keys", sqlite_compact), ("SQLite's arguments", sqlite_arguments),
               ("SQLite's books", sqlite_books), ("SQLite's lookups", sqlite_lookups), ("SQLite's schemas", sqlite_schemas), ("SQLite's restores", sqlite_restore),
-              ("SQLite's attached databases", sqlite_attached), ("SQLite's threads", sqlite_threads), ("SQLite's memory", sqlite_memory), ("SQLite on the page", sqlite_page), ("SQLite's orders", sqlite_like(program)),
+              ("SQLite's attached databases", sqlite_attached), ("SQLite's threads", sqlite_threads), ("SQLite's upgrades", sqlite_upgrades),
+              ("SQLite's loads of upgrades", sqlite_upgrade_loads), ("SQLite's compact keys in upgrades", sqlite_compact_upgrades), ("SQLite's moves", sqlite_moves),
+              ("SQLite's indexes of texts", sqlite_texts), ("SQLite's memory", sqlite_memory), ("SQLite on the page", sqlite_page), ("SQLite's orders", sqlite_like(program)),
               ("PostgreSQL", postgresql), ("PostgreSQL's settings", postgresql_settings), ("PostgreSQL's dumps", postgresql_dumps),
               ("PostgreSQL's replication", postgresql_replication), ("PostgreSQL's changes", postgresql_changes), ("PostgreSQL's roles", postgresql_roles),
               ("PostgreSQL's owners", postgresql_owners), ("PostgreSQL's dependents", postgresql_dependents), ("PostgreSQL's columns", postgresql_columns), ("PostgreSQL's compact keys", postgresql_compact),
-              ("PostgreSQL's books", postgresql_books), ("PostgreSQL's orders", postgresql_like(program))]
+              ("PostgreSQL's books", postgresql_books), ("PostgreSQL's upgrades", postgresql_upgrades), ("PostgreSQL's files of upgrades", postgresql_upgrade_files),
+              ("PostgreSQL's upgrade on the page", postgresql_upgrade_page), ("PostgreSQL's orders", postgresql_like(program))]
     tried = {"C": c_words, "Python": python_words, "SQLite": sqlite_words, "PostgreSQL": postgresql_words}
     checks += [(f"100,000 words in {name}", over_unicode(program, it)) for name, it in tried.items()]
     passed = failed = skipped = 0

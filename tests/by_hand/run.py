@@ -34,6 +34,7 @@ TESTS = {
     "unicode_tables": [],
     "languages": ["--quick"],
     "editions": [],
+    "upgrades": [],
     "changed_files": ["--jobs", str(os.cpu_count())],
     "refusals": [],
 }

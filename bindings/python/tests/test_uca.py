@@ -51,6 +51,20 @@ BOOK = b"""@book 1
 4 020A
 """
 
+#: The next edition: b moves up, and the new letter c has its weight. U+0324 is a new accent of the class 220.
+NEW_TABLE = TABLE.replace(b"@version 1", b"@version 2").replace(b"0062 ; [.1C60", b"0062 ; [.1C61").replace(b"0300 ;", b"0063 ; [.1C60.0020.0002]\n0300 ;")
+NEW_DATA = DATA.replace(b"0323..0323", b"0323..0324")
+CHANGES = b"@changes 1\ntext 0063\nrange 0324..0324\n"
+CERTIFICATE = b"""1 0209 0209 0001
+1 1C47 1C47 0001
+1 1C60 1C61 0001
+2 0020 0020 0001
+2 0024 0024 0002
+2 002C 002C 0001
+3 0002 0002 0001
+3 0008 0008 0001
+"""
+EDITIONS = (TABLE, DATA, NEW_TABLE, NEW_DATA, CHANGES, CERTIFICATE)
 
 #: The beginning of a program that stands for a Python without the interpreter's lock: the module is told so, and its calls of the library let
 #: other threads run meanwhile.
@@ -344,6 +358,220 @@ class Ranges(unittest.TestCase):
                 for levels in ("1", 1.0, b"1"):
                     self.assertRaises(TypeError, call, "a", levels)
             self.assertRaises(TypeError, collator.range, "a", None)
+
+
+class Upgrades(unittest.TestCase):
+    """From TABLE and DATA to NEW_TABLE and NEW_DATA. The letter b is the only one whose weight moves."""
+
+    KEYS = [
+        ("", "0000 0000", "0000 0000"),
+        ("a", "1C47 0000 0020 0000 0002", "1C47 0000 0020 0000 0002"),
+        ("b", "1C60 0000 0020 0000 0002", "1C61 0000 0020 0000 0002"),
+        ("\u00e1b", "1C47 1C60 0000 0020 0024 0020 0000 0002 0002 0002", "1C47 1C61 0000 0020 0024 0020 0000 0002 0002 0002"),
+        ("\u4e00", "FB40 CE00 0000 0020 0000 0002", "FB40 CE00 0000 0020 0000 0002"),
+    ]
+
+    def setUp(self):
+        self.upgrade = uca.Upgrade(*EDITIONS, weighting="non-ignorable")
+        self.addCleanup(self.upgrade.close)
+
+    def test_keys(self):
+        for text, old, new in self.KEYS:
+            with self.subTest(text=text):
+                self.assertIs(self.upgrade.affected(text), False)
+                self.assertEqual(self.upgrade.rekey(hexadecimal(old)), hexadecimal(new))
+
+    def test_keys_are_those_of_collators(self):
+        texts = ["", "a", "b", "A b", "\u00e1b", "b" * 5000, "ba\u0323\u0301", "\u4e00", "\U00020000", "d"]
+        for weighting, identical in itertools.product((None, "shifted", "non-ignorable"), (False, True)):
+            settings = {"weighting": weighting, "identical": identical}
+            with uca.Collator(TABLE, DATA, **settings) as old, uca.Collator(NEW_TABLE, NEW_DATA, **settings) as new:
+                with uca.Upgrade(*EDITIONS, **settings, fingerprint=old.fingerprint) as upgrade:
+                    self.assertEqual([upgrade.affected(it) for it in texts], [False] * len(texts))
+                    self.assertEqual([upgrade.rekey(old.key(it)) for it in texts], [new.key(it) for it in texts])
+                    self.assertEqual((upgrade.old_fingerprint, upgrade.new_fingerprint), (old.fingerprint, new.fingerprint))
+
+    def test_affected(self):
+        for text, affected in [("c", True), ("acb", True), (b"c", True), ("a\u0324", True), ("C", False), ("d", False), ("\u00e7", True), ("", False)]:
+            with self.subTest(text=text):
+                self.assertIs(self.upgrade.affected(text), affected)
+
+    def test_compact_keys(self):
+        texts = ["a", "b", "\u00e1b", "A b", "\u4e00"]
+        with uca.Collator(TABLE, DATA, book=BOOK) as old, uca.Collator(NEW_TABLE, NEW_DATA, book=BOOK) as new, uca.Upgrade(*EDITIONS) as upgrade:
+            self.assertEqual([new.compact(upgrade.rekey(old.expand(old.key(it)))) for it in texts], [new.key(it) for it in texts])
+
+    def test_rejected_texts(self):
+        for text, kind in [(b"\xff", "Utf8"), ("a" * (2**20 + 1), "TooLong"), ("a" + "\u0301" * 65, "LongRun"), ("\ud800", "Utf8")]:
+            with self.subTest(kind=kind):
+                with self.assertRaises(uca.TextError) as caught:
+                    self.upgrade.affected(text)
+                self.assertEqual(caught.exception.kind, kind)
+
+    def test_bytes_that_are_no_keys(self):
+        for key in (b"", b"\x1c", hexadecimal("1C47 0000 0020"), hexadecimal("1C50 0000 0020 0000 0002"), hexadecimal("1C47 0000 0021 0000 0002")):
+            with self.subTest(key=key):
+                with self.assertRaises(uca.StoredKeyError) as caught:
+                    self.upgrade.rekey(key)
+                self.assertEqual(caught.exception.kind, "NoImage")
+
+    def test_values(self):
+        key = hexadecimal("1C60 0000 0020 0000 0002")
+        for it in (bytearray(key), memoryview(key), array.array("B", key)):
+            self.assertEqual(self.upgrade.rekey(it), hexadecimal("1C61 0000 0020 0000 0002"))
+        for it in ("b", 5, None, array.array("H", [1])):
+            self.assertRaises(TypeError, self.upgrade.rekey, it)
+        for it in (5, None, ["c"]):
+            self.assertRaises(TypeError, self.upgrade.affected, it)
+
+    def test_rejected_files(self):
+        for at, content, role, line, kind in [
+            (0, b"@version 1\n0061 ; [.1C", "old table", 2, "Weight"),
+            (1, b"", "old data", 1, "Order"),
+            (2, b"", "new table", 1, "Order"),
+            (3, b"@data 1\n\nccc 0300..0314 300\n", "new data", 3, "Weight"),
+            (4, b"@changes 1\ntext 0063\ntext 0062\n", "changes", 3, "Order"),
+            (5, CERTIFICATE.replace(b"1C61", b"1C46"), "certificate", 3, "Map NotRising"),
+            (5, CERTIFICATE.replace(b"1C61", b"8000"), "certificate", 3, "Map OutOfRange"),
+            (5, CERTIFICATE.replace(b"1C61 0001", b"1C61 0000"), "certificate", 3, "Map Empty"),
+            (5, b"", "certificate", 1, "Map Fixed"),
+            (5, CERTIFICATE[:-1], "certificate", 8, "Line"),
+        ]:
+            with self.subTest(role=role, kind=kind):
+                with self.assertRaises(uca.FileError) as caught:
+                    uca.Upgrade(*EDITIONS[:at], content, *EDITIONS[at + 1 :])
+                error = caught.exception
+                self.assertEqual((error.role, error.line, error.kind), (role, line, kind))
+
+    def test_first_rejected_file(self):
+        for at in range(6):
+            with self.assertRaises(uca.FileError) as caught:
+                uca.Upgrade(*EDITIONS[:at], *[b"x"] * (6 - at))
+            self.assertEqual(caught.exception.role, ["old table", "old data", "new table", "new data", "changes", "certificate"][at])
+
+    def test_audit(self):
+        for at, old, new, found, said in [
+            (4, b"text 0063\n", b"", ("RowExtra", "new row", 5), "RowExtra new row 5"),
+            (4, b"range 0324..0324\n", b"", ("PointChanged", "code point", 0x324), "PointChanged code point 0324"),
+            (5, b"1 1C60 1C61", b"1 1C60 1C62", ("RowChanged", "old row", 4), "RowChanged old row 4"),
+            (5, b"3 0008 0008 0001\n", b"", ("Uncovered", "old row", 3), "Uncovered old row 3"),
+            (2, b"@version 2\n", b"@version 2\n@variable non-ignorable\n", ("SettingChanged", "", 0), "SettingChanged"),
+            (2, b"0063 ; [.1C60.0020", b"0063 ; [.1C60.0000", ("NewIllFormed", "new row", 5), "NewIllFormed new row 5"),
+        ]:
+            with self.subTest(said=said):
+                with self.assertRaises(uca.AuditError) as caught:
+                    uca.Upgrade(*EDITIONS[:at], EDITIONS[at].replace(old, new), *EDITIONS[at + 1 :])
+                error = caught.exception
+                self.assertEqual((error.condition, error.place, error.number), found)
+                self.assertEqual(str(error), said)
+
+    def test_fingerprints(self):
+        old, new = (fingerprint_of(*it, "shifted", "weights") for it in ((TABLE, DATA), (NEW_TABLE, NEW_DATA)))
+        with uca.Upgrade(*EDITIONS, fingerprint=old) as upgrade:
+            self.assertEqual((upgrade.old_fingerprint, upgrade.new_fingerprint), (old, new))
+        self.assertEqual((upgrade.old_fingerprint, upgrade.new_fingerprint), (old, new))
+        for more, wanted in [({}, new), ({"identical": True}, old), ({"weighting": "non-ignorable"}, old), ({}, "0" * 64)]:
+            with self.assertRaises(uca.FingerprintError) as caught:
+                uca.Upgrade(*EDITIONS, **more, fingerprint=wanted)
+            self.assertEqual(caught.exception.wanted, wanted)
+        self.assertRaises(TypeError, uca.Upgrade, *EDITIONS, fingerprint=None)
+        self.assertRaises(ValueError, uca.Upgrade, *EDITIONS, fingerprint="")
+        self.assertRaises(ValueError, uca.Upgrade, *EDITIONS, weighting="blanked")
+        self.assertRaises(TypeError, uca.Upgrade, *EDITIONS, identical=1)
+
+    def test_paths(self):
+        with tempfile.TemporaryDirectory() as folder:
+            paths = [os.path.join(folder, str(it)) for it in range(6)]
+            for path, content in zip(paths, EDITIONS):
+                write(path, content)
+            with uca.Upgrade(*paths, weighting="non-ignorable") as upgrade:
+                self.assertEqual(upgrade.rekey(hexadecimal("1C60 0000 0020 0000 0002")), hexadecimal("1C61 0000 0020 0000 0002"))
+            os.remove(paths[4])
+            self.assertRaises(FileNotFoundError, uca.Upgrade, *paths)
+
+    def test_closed(self):
+        with uca.Upgrade(*EDITIONS) as upgrade:
+            self.assertTrue(upgrade.is_open)
+        self.assertFalse(upgrade.is_open)
+        upgrade.close()
+        self.assertRaises(uca.ClosedError, upgrade.affected, "a")
+        self.assertRaises(uca.ClosedError, upgrade.rekey, b"")
+        never = uca.Upgrade.__new__(uca.Upgrade)
+        never.close()
+        self.assertRaises(uca.ClosedError, never.affected, "a")
+        self.assertRaises(uca.ClosedError, lambda: never.old_fingerprint)
+
+    def test_opened_once(self):
+        self.assertRaises(RuntimeError, self.upgrade.__init__, *EDITIONS)
+        self.assertEqual(self.upgrade.rekey(hexadecimal("1C60 0000 0020 0000 0002")), hexadecimal("1C61 0000 0020 0000 0002"))
+
+    def test_memory_is_given_back(self):
+        closed = []
+        close = uca._Upgrade.close_unused
+        self.addCleanup(setattr, uca._Upgrade, "close_unused", close)
+        uca._Upgrade.close_unused = staticmethod(lambda it: (closed.append(it.is_open), close(it)))
+        upgrade = uca.Upgrade(*EDITIONS)
+        self.assertRaises(uca.FileError, uca.Upgrade, *EDITIONS[:5], b"x")
+        self.assertRaises(uca.FingerprintError, uca.Upgrade, *EDITIONS, fingerprint="0" * 64)
+        gc.collect()
+        self.assertEqual(closed, [False, True])
+        del upgrade
+        gc.collect()
+        self.assertEqual(closed, [False, True, True])
+
+    def test_not_copied(self):
+        for it in (pickle.dumps, copy.copy, copy.deepcopy):
+            self.assertRaises(TypeError, it, self.upgrade)
+
+    def test_threads(self):
+        found = []
+
+        def work(old, new, text, affected):
+            for _ in range(1000):
+                found.append(self.upgrade.rekey(old) == new and self.upgrade.affected(text) is affected)
+
+        keys = [(hexadecimal(old), hexadecimal(new), text, False) for text, old, new in self.KEYS[1:3]]
+        keys.append((hexadecimal("1C60" * 500 + "0000 0000"), hexadecimal("1C61" * 500 + "0000 0000"), "c" * 500, True))
+        threads = [threading.Thread(target=work, args=it) for it in keys]
+        for it in threads:
+            it.start()
+        for it in threads:
+            it.join()
+        self.assertEqual((len(found), all(found)), (3000, True))
+
+    def test_without_the_interpreters_lock(self):
+        program = """
+import threading
+from test_uca import EDITIONS
+
+upgrade, wrong = uca.Upgrade(*EDITIONS, weighting="non-ignorable"), []
+
+def work(letter, old, new):
+    for length in range(1, 1500):
+        key, wanted = (bytes.fromhex(it * length + "00000000") for it in (old, new))
+        if upgrade.rekey(key) != wanted or upgrade.affected(letter * length):
+            wrong.append(length)
+
+threads = [threading.Thread(target=work, args=it) for it in (("a", "1C47", "1C47"), ("b", "1C60", "1C61"))]
+for it in threads:
+    it.start()
+for it in threads:
+    it.join()
+print(wrong)
+"""
+        run = ran(WITHOUT_LOCK + program)
+        self.assertEqual((run.stdout.decode(), run.stderr.decode()), ("[]\n", ""))
+
+    def test_end_of_the_interpreter(self):
+        program = """
+import builtins, sys
+import uca
+from test_uca import EDITIONS
+
+builtins.kept, sys.kept, kept = (uca.Upgrade(*EDITIONS) for _ in range(3))
+"""
+        run = ran(program)
+        self.assertEqual((run.returncode, run.stdout, run.stderr), (0, b"", b""))
 
 
 class Values(unittest.TestCase):
@@ -921,6 +1149,7 @@ class Errors(unittest.TestCase):
     def test_pickled(self):
         other_files = uca.FingerprintError("0" * 64, "1" * 64)
         errors = [uca.FileError("table", 3, "Line"), uca.TextError("Utf8"), uca.StoredKeyError("OtherKey"), uca.NoBookError(), uca.ClosedError()]
+        errors.append(uca.AuditError("RowExtra", "new row", 5))
         for error in [*errors, other_files, uca.UcaError("x")]:
             for protocol in range(pickle.HIGHEST_PROTOCOL + 1):
                 for found in (pickle.loads(pickle.dumps(error, protocol)), copy.copy(error), copy.deepcopy(error)):
@@ -930,7 +1159,7 @@ class Errors(unittest.TestCase):
     def test_messages(self):
         self.assertEqual(str(uca.FileError("table", 3, "Line")), "table: line 3: Line")
         self.assertEqual(str(uca.TextError("Utf8")), "text: Utf8")
-        self.assertEqual(str(uca.ClosedError()), "the collator is closed")
+        self.assertEqual(str(uca.ClosedError()), "the collator or the upgrade is closed")
 
     def test_errors_of_other_processes(self):
         with files() as paths, concurrent.futures.ProcessPoolExecutor(1, mp_context=multiprocessing.get_context("spawn")) as pool:
@@ -989,8 +1218,9 @@ class Library(unittest.TestCase):
 
     def test_older(self):
         first = ["uca_abi", "uca_version", "uca_collator_size", "uca_open", "uca_key", "uca_compare", "uca_compare_keys", "uca_close"]
-        compact = ["uca_open_compact", "uca_compact_fingerprint", "uca_compact", "uca_expand", "uca_range"]
-        for calls, missing in [(first + compact, "uca_fingerprint"), *((["uca_fingerprint", *first, *compact[:it]], compact[it]) for it in range(5))]:
+        later = ["uca_open_compact", "uca_compact_fingerprint", "uca_compact", "uca_expand", "uca_range"]
+        later += ["uca_upgrade_size", "uca_open_upgrade", "uca_affected", "uca_rekey", "uca_upgrade_fingerprints", "uca_close_upgrade"]
+        for calls, missing in [(first + later, "uca_fingerprint"), *((["uca_fingerprint", *first, *later[:it]], later[it]) for it in range(len(later)))]:
             with self.assertRaises(ImportError) as caught:
                 uca._declare(types.SimpleNamespace(**{it: lambda: None for it in calls}), "/old/libuca.so.1")
             for it in ("/old/libuca.so.1", missing, "older", "install"):
@@ -1004,8 +1234,9 @@ class Module(unittest.TestCase):
 
     @unittest.skipIf(sys.version_info < (3, 9), "os.PathLike has no items")
     def test_hints(self):
-        members = [it for it in vars(uca.Collator).values() if callable(it)]
-        for it in [uca.compare_keys, uca.Comparison, uca.Collator.fingerprint.fget, uca.Collator.is_open.fget, *members]:
+        members = [it for kind in (uca.Collator, uca.Upgrade) for it in vars(kind).values() if callable(it)]
+        properties = [it.fget for kind in (uca.Collator, uca.Upgrade) for it in vars(kind).values() if isinstance(it, property)]
+        for it in [uca.compare_keys, uca.Comparison, *properties, *members]:
             self.assertTrue(typing.get_type_hints(it))
 
     def test_docstrings(self):

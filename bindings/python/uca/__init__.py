@@ -3,7 +3,8 @@
     with uca.Collator("allkeys.txt", "data.txt") as collator:
         words.sort(key=collator.key)
 
-With a book, keys are compact: Collator("allkeys.txt", "data.txt", book="general.book").
+With a book, keys are compact: Collator("allkeys.txt", "data.txt", book="general.book"). After a new edition of the table, an Upgrade
+says which stored keys have to be made again, and mends the others.
 
 The work is done by libuca.so.1, whose contracts are proved. Nothing is proved of this module. The library is the file that
 the environment's UCA_LIBRARY names, or else the one beside this module, or else the one that the system finds.
@@ -22,6 +23,7 @@ import types
 from typing import Any, Callable, Dict, List, NamedTuple, Optional, Set, Tuple, Type, TypeVar, Union
 
 __all__ = [
+    "AuditError",
     "Collator",
     "Comparison",
     "ClosedError",
@@ -32,6 +34,7 @@ __all__ = [
     "StoredKeyError",
     "TextError",
     "UcaError",
+    "Upgrade",
     "compare_keys",
     "library_version",
 ]
@@ -42,10 +45,16 @@ __version__ = "0.1.0"
 _ABI = 1
 
 _OK, _CLOSED, _TABLE, _DATA, _MEMORY, _SMALL, _BOOK, _NO_BOOK, _NO_KEY = 0, 1, 4, 5, 6, 10, 11, 12, 13
+_FILE, _NO_IMAGE = 14, 16
 _ROLES = {_TABLE: "table", _DATA: "data", _BOOK: "book"}
 _TEXT_ERRORS = {7: "Utf8", 8: "TooLong", 9: "LongRun"}
-_STORED_KEY_ERRORS = {"uca_compact": "OtherKey", "uca_expand": "NoCompactKey"}
+_STORED_KEY_ERRORS = {"uca_compact": "OtherKey", "uca_expand": "NoCompactKey", "uca_rekey": "NoImage"}
 _KINDS = ["", "Line", "Order", "CodePoint", "Weight", "DuplicateKey", "Range", "Limit", "Read", "Memory"]
+_KINDS += ["Map Empty", "Map NotRising", "Map OutOfRange", "Map Fixed"]
+#: the files of an upgrade, and the conditions of its audit, by their numbers from 1 on
+_UPGRADE_ROLES = ["", "old table", "old data", "new table", "new data", "changes", "certificate"]
+_CONDITIONS = ["", "OldIllFormed", "NewIllFormed", "RangeChanged", "Uncovered", "RowChanged", "RowMissing", "RowExtra", "PointChanged", "SettingChanged"]
+_PLACES = ["", "old row", "new row", "code point"]
 _WEIGHTINGS = {None: 0, "non-ignorable": 1, "shifted": 2}
 _MEMORY_KIND = 9
 #: the range of keys whose level 1 begins with some letters; that of as many first levels has their number
@@ -61,6 +70,7 @@ Bytes = Union[bytes, bytearray, memoryview]
 File = Union[Bytes, str, "os.PathLike[Any]"]
 Text = Union[str, Bytes]
 _Self = TypeVar("_Self", bound="Collator")
+_Upgraded = TypeVar("_Upgraded", bound="Upgrade")
 
 
 class UcaError(Exception):
@@ -68,14 +78,14 @@ class UcaError(Exception):
 
 
 class FileError(UcaError, ValueError):
-    """The table, the data file or the book is rejected."""
+    """A file is rejected."""
 
     def __init__(self, role: str, line: int, kind: str) -> None:
-        #: "table", "data" or "book"
+        #: "table", "data" or "book"; of an upgrade "old table", "old data", "new table", "new data", "changes" or "certificate"
         self.role = role
         #: the line, counted from 1
         self.line = line
-        #: why, as docs/FORMATS.md names it: "Line", "Order", "CodePoint", "Weight", "DuplicateKey", "Range" or "Limit"
+        #: why, as docs/FORMATS.md names it: "Line", "Order", "CodePoint", "Weight", "DuplicateKey", "Range", "Limit", or "Map NotRising"
         self.kind = kind
         super().__init__(role, line, kind)
 
@@ -97,6 +107,23 @@ class FingerprintError(UcaError, ValueError):
         return f"the files and settings have the fingerprint {self.found}, and {self.wanted} is wanted"
 
 
+class AuditError(UcaError, ValueError):
+    """The files of an upgrade are read, and the audit rejects them, as ``uca audit-changes`` does."""
+
+    def __init__(self, condition: str, place: str, number: int) -> None:
+        #: the first condition that is not met, as docs/FORMATS.md names it: "RowChanged"
+        self.condition = condition
+        #: what the number counts: "old row", "new row" or "code point"; "" if there is no position
+        self.place = place
+        #: the first position where it is not met: a row from 1 on, or a code point; 0 if there is none
+        self.number = number
+        super().__init__(condition, place, number)
+
+    def __str__(self) -> str:
+        number = f"{self.number:04X}" if self.place == "code point" else str(self.number)
+        return f"{self.condition} {self.place} {number}" if self.place else self.condition
+
+
 class TextError(UcaError, ValueError):
     """A text is rejected."""
 
@@ -110,10 +137,10 @@ class TextError(UcaError, ValueError):
 
 
 class ClosedError(UcaError, ValueError):
-    """The collator is closed."""
+    """The collator or the upgrade is closed."""
 
     def __str__(self) -> str:
-        return "the collator is closed"
+        return "the collator or the upgrade is closed"
 
 
 class NoBookError(UcaError, ValueError):
@@ -127,7 +154,8 @@ class StoredKeyError(UcaError, ValueError):
     """The bytes are no key."""
 
     def __init__(self, kind: str) -> None:
-        #: "OtherKey": no whole key of the weighting and the depth; "NoCompactKey": no whole key has this compact key by the book
+        #: "OtherKey": no whole key of the weighting and the depth; "NoCompactKey": no whole key has this compact key by the book;
+        #: "NoImage": a weight of the key has no image under the upgrade, or it is no key of its weighting and depth
         self.kind = kind
         super().__init__(kind)
 
@@ -182,8 +210,30 @@ class _Collator(ctypes.Structure):
         return copy.copy(self.error)
 
 
+class _Upgrade(ctypes.Structure):
+    """An upgrade of the library. It is closed when nothing uses it any more."""
+
+    _fields_ = [("handle", _Handle), ("is_open", ctypes.c_bool)]
+
+    #: the fingerprints of the old keys and of the new ones, or "" if it was never open
+    fingerprints: Tuple[str, str] = ("", "")
+    #: uca_close_upgrade, which takes no lock, as that of a collator
+    close_unused: Callable[[_Upgrade], None]
+
+    def __del__(self) -> None:
+        self.close_unused(self)
+
+    def new_error(self) -> Exception:
+        """The error of one use while it is not open."""
+        return ClosedError()
+
+
 class _Error(ctypes.Structure):
     _fields_ = [("line", ctypes.c_uint32), ("kind", ctypes.c_uint32)]
+
+
+class _UpgradeError(ctypes.Structure):
+    _fields_ = [(it, ctypes.c_uint32) for it in ("file", "line", "kind", "condition", "place", "number")]
 
 
 class _Comparison(ctypes.Structure):
@@ -205,6 +255,7 @@ def _declare(library: ctypes.PyDLL, path: str) -> None:
     data, size, number, out = ctypes.c_char_p, ctypes.c_size_t, ctypes.c_uint32, ctypes.c_void_p
     collator, comparison, error = ctypes.POINTER(_Collator), ctypes.POINTER(_Comparison), ctypes.POINTER(_Error)
     files, settings, written = [data, size, data, size], [number, number], [out, size, ctypes.POINTER(size)]
+    upgrade, upgrade_error = ctypes.POINTER(_Upgrade), ctypes.POINTER(_UpgradeError)
     calls = {
         "uca_abi": ([], number),
         "uca_version": ([], number),
@@ -220,6 +271,12 @@ def _declare(library: ctypes.PyDLL, path: str) -> None:
         "uca_compare": ([collator, data, size, data, size, comparison], number),
         "uca_compare_keys": ([data, size, data, size, ctypes.c_uint8, comparison], None),
         "uca_close": ([collator], None),
+        "uca_upgrade_size": ([], size),
+        "uca_open_upgrade": ([upgrade, *files, *files, *files, *settings, upgrade_error], number),
+        "uca_affected": ([upgrade, data, size, ctypes.POINTER(number)], number),
+        "uca_rekey": ([upgrade, data, size, *written], number),
+        "uca_upgrade_fingerprints": ([upgrade, out, out], number),
+        "uca_close_upgrade": ([upgrade], None),
     }
     for name, (arguments, result) in calls.items():
         try:
@@ -229,6 +286,11 @@ def _declare(library: ctypes.PyDLL, path: str) -> None:
                 f"{path} has no {name}, so it is older than this module, or no library of uca: install one of this version, or name it in UCA_LIBRARY"
             ) from None
         call.argtypes, call.restype = arguments, result
+
+
+#: the calls that take a collator or an upgrade
+_CALLS_IN_TURN = ["uca_open", "uca_open_compact", "uca_key", "uca_compact", "uca_expand", "uca_range", "uca_compare", "uca_close"]
+_CALLS_IN_TURN += ["uca_open_upgrade", "uca_affected", "uca_rekey", "uca_upgrade_fingerprints", "uca_close_upgrade"]
 
 
 def _in_turn(call: Callable[..., Any], lock: Any) -> Callable[..., Any]:
@@ -242,14 +304,14 @@ def _in_turn(call: Callable[..., Any], lock: Any) -> Callable[..., Any]:
 
 
 def _take_turns(library: ctypes.PyDLL) -> None:
-    """Lets one thread at a time into the calls that take a collator, as the interpreter's lock does where there is one.
+    """Lets one thread at a time into the calls that take a collator or an upgrade, as the interpreter's lock does where there is one.
 
     A handler of a signal may make a key while its thread holds the lock, so a thread may take it again. A process that is forked
     holds it, so that no other thread is in a call then.
     """
     lock = threading.RLock()
     os.register_at_fork(before=lock.acquire, after_in_parent=lock.release, after_in_child=lock.release)
-    for name in ("uca_open", "uca_open_compact", "uca_key", "uca_compact", "uca_expand", "uca_range", "uca_compare", "uca_close"):
+    for name in _CALLS_IN_TURN:
         setattr(library, name, _in_turn(getattr(library, name), lock))
 
 
@@ -259,9 +321,11 @@ def _load() -> ctypes.PyDLL:
     path = os.environ.get("UCA_LIBRARY") or (beside if os.path.exists(beside) else "libuca.so.1")
     library = _loaded(path)
     _declare(library, path)
-    if library.uca_abi() != _ABI or library.uca_collator_size() != ctypes.sizeof(_Collator):
+    sizes = [library.uca_collator_size(), library.uca_upgrade_size()]
+    if library.uca_abi() != _ABI or sizes != [ctypes.sizeof(_Collator), ctypes.sizeof(_Upgrade)]:
         raise ImportError(f"{path} has another interface than this module")
     _Collator.close_unused = library.uca_close
+    _Upgrade.close_unused = library.uca_close_upgrade
     if not _HAS_INTERPRETER_LOCK:
         _take_turns(library)
     return library
@@ -273,8 +337,8 @@ _library = _load()
 library_version = (_library.uca_version() // 1000000, _library.uca_version() // 1000 % 1000, _library.uca_version() % 1000)
 
 
-#: what a collator is before it is opened
-_CLOSED_COLLATOR = _Collator()
+#: what a collator or an upgrade is before it is opened
+_CLOSED_COLLATOR, _CLOSED_UPGRADE = _Collator(), _Upgrade()
 
 #: the types of rooms for keys, each of twice as many bytes as the one before
 _ROOMS = [ctypes.c_char * (1 << it) for it in range(21)]
@@ -349,17 +413,46 @@ def _slots(kind: type) -> Set[str]:
     return {name for it in kind.__mro__ for name, member in vars(it).items() if isinstance(member, types.MemberDescriptorType)}
 
 
-def _raise(status: int, collator: _Collator, name: str) -> None:
+def _opened_upgrade(files: List[bytes], settings: Tuple[int, int]) -> _Upgrade:
+    """An upgrade by its six files. It has its fingerprints."""
+    error, upgrade = _UpgradeError(), _Upgrade()
+    status = _library.uca_open_upgrade(upgrade, *(it for file in files for it in (file, len(file))), *settings, error)
+    if status == _MEMORY or error.kind == _MEMORY_KIND:
+        raise MemoryError
+    if status == _FILE:
+        raise FileError(_UPGRADE_ROLES[error.file], error.line, _KINDS[error.kind])
+    if status != _OK:
+        raise AuditError(_CONDITIONS[error.condition], _PLACES[error.place], error.number)
+    old, new = (ctypes.c_char * 32)(), (ctypes.c_char * 32)()
+    _library.uca_upgrade_fingerprints(upgrade, old, new)
+    upgrade.fingerprints = (old.raw.hex(), new.raw.hex())
+    return upgrade
+
+
+def _raise(status: int, opened: Union[_Collator, _Upgrade], name: str) -> None:
     """Raises the error of a status of the call of this name with texts or keys."""
     if status == _CLOSED:
-        raise collator.new_error()
+        raise opened.new_error()
     if status == _MEMORY:
         raise MemoryError
     if status == _NO_BOOK:
         raise NoBookError
-    if status == _NO_KEY:
+    if status in (_NO_KEY, _NO_IMAGE):
         raise StoredKeyError(_STORED_KEY_ERRORS[name])
     raise TextError(_TEXT_ERRORS[status])
+
+
+def _made(opened: Union[_Collator, _Upgrade], name: str, given: bytes, *numbers: int) -> bytes:
+    """What the call of this name writes for these bytes and numbers."""
+    # The room is of this call alone: between any two steps another thread, or a handler of a signal, may make a key.
+    call, out, needed = getattr(_library, name), _room_for(len(given)), ctypes.c_size_t()
+    status = call(opened, given, len(given), *numbers, out, len(out), needed)
+    if status == _SMALL:
+        out = ctypes.create_string_buffer(needed.value)
+        status = call(opened, given, len(given), *numbers, out, len(out), needed)
+    if status != _OK:
+        _raise(status, opened, name)
+    return out[: needed.value]
 
 
 def _checked_levels(levels: int) -> int:
@@ -459,18 +552,6 @@ class Collator:
             elif name != "_collator":
                 vars(self)[name] = it
 
-    def _made(self, name: str, given: bytes, *numbers: int) -> bytes:
-        """What the call of this name writes for these bytes and numbers."""
-        # The room is of this call alone: between any two steps another thread, or a handler of a signal, may make a key.
-        call, out, needed = getattr(_library, name), _room_for(len(given)), ctypes.c_size_t()
-        status = call(self._collator, given, len(given), *numbers, out, len(out), needed)
-        if status == _SMALL:
-            out = ctypes.create_string_buffer(needed.value)
-            status = call(self._collator, given, len(given), *numbers, out, len(out), needed)
-        if status != _OK:
-            _raise(status, self._collator, name)
-        return out[: needed.value]
-
     def key(self, text: Text, levels: Optional[int] = None) -> bytes:
         """The sort key of a text, which is compact if there is a book. Keys of one collator compare as bytes as their texts do.
 
@@ -480,8 +561,8 @@ class Collator:
         Raises :class:`TextError`, :class:`ClosedError` and MemoryError.
         """
         if levels is None:
-            return self._made("uca_key", _encoded(text))
-        return self._made("uca_range", _encoded(text), _checked_levels(levels), _LOW)
+            return _made(self._collator, "uca_key", _encoded(text))
+        return _made(self._collator, "uca_range", _encoded(text), _checked_levels(levels), _LOW)
 
     def range(self, text: Text, levels: int = 1) -> KeyRange:
         """The range that has exactly the keys with the same letters as this text (1), or the same letters and accents (2).
@@ -500,7 +581,7 @@ class Collator:
         return self._ends(_encoded(text), _BEGINS)
 
     def _ends(self, encoded: bytes, of: int) -> KeyRange:
-        return KeyRange(self._made("uca_range", encoded, of, _LOW), self._made("uca_range", encoded, of, _HIGH))
+        return KeyRange(_made(self._collator, "uca_range", encoded, of, _LOW), _made(self._collator, "uca_range", encoded, of, _HIGH))
 
     def compact(self, key: Bytes) -> bytes:
         """The compact key of a whole key, by the book.
@@ -508,14 +589,14 @@ class Collator:
         Raises :class:`StoredKeyError` if the bytes are no whole key of the weighting and the depth; :class:`NoBookError`;
         :class:`ClosedError`; MemoryError.
         """
-        return self._made("uca_compact", _bytes_of(key))
+        return _made(self._collator, "uca_compact", _bytes_of(key))
 
     def expand(self, key: Bytes) -> bytes:
         """The whole key of a compact key, by the book.
 
         Raises :class:`StoredKeyError` if no whole key has this compact key; :class:`NoBookError`; :class:`ClosedError`; MemoryError.
         """
-        return self._made("uca_expand", _bytes_of(key))
+        return _made(self._collator, "uca_expand", _bytes_of(key))
 
     def compare(self, left: Text, right: Text) -> Comparison:
         """How two texts compare, without keys.
@@ -538,6 +619,99 @@ class Collator:
         return self._collator.is_open
 
     def __enter__(self: _Self) -> _Self:
+        return self
+
+    def __exit__(self, kind: Optional[Type[BaseException]], error: Optional[BaseException], trace: object) -> None:
+        self.close()
+
+
+class Upgrade:
+    """The step from an old table and its data file to new ones, for stored keys.
+
+    It is opened only if the audit accepts the step, as ``uca audit-changes`` does. It has memory of its own until it is closed: by
+    :meth:`close`, at the end of a ``with``, or when it is collected. Threads may share it, as they may share a collator.
+    """
+
+    _upgrade = _CLOSED_UPGRADE
+
+    def __init__(
+        self,
+        old_table: File,
+        old_data: File,
+        new_table: File,
+        new_data: File,
+        changes: File,
+        certificate: File,
+        weighting: Optional[str] = None,
+        identical: bool = False,
+        *,
+        fingerprint: str = _UNCHECKED,
+    ) -> None:
+        """Reads the six files, which are bytes, or paths of files. ``uca changes`` makes the last two of the others.
+
+        The weighting and ``identical`` are those that the stored keys were made with. ``fingerprint`` is that of these keys, or
+        "unchecked". It has to be :attr:`old_fingerprint`.
+
+        Raises :class:`FileError` for the first file that is rejected; :class:`AuditError` if the audit rejects the step;
+        :class:`FingerprintError` if the stored keys were made by other files or settings; MemoryError.
+        """
+        _check_settings(weighting, identical, fingerprint)
+        files = [_read(it)[0] for it in (old_table, old_data, new_table, new_data, changes, certificate)]
+        upgrade = _opened_upgrade(files, (_WEIGHTINGS[weighting], int(identical)))
+        if fingerprint not in (upgrade.fingerprints[0], _UNCHECKED):
+            raise FingerprintError(fingerprint, upgrade.fingerprints[0])
+        if vars(self).setdefault("_upgrade", upgrade) is not upgrade:
+            raise RuntimeError("an Upgrade is opened once")
+
+    @property
+    def old_fingerprint(self) -> str:
+        """The fingerprint of the keys that :meth:`rekey` takes: that of a collator of the old files, without a book."""
+        return self._fingerprint(0)
+
+    @property
+    def new_fingerprint(self) -> str:
+        """The fingerprint of the keys that :meth:`rekey` makes: that of a collator of the new files, without a book."""
+        return self._fingerprint(1)
+
+    def _fingerprint(self, at: int) -> str:
+        if not self._upgrade.fingerprints[at]:
+            raise self._upgrade.new_error()
+        return self._upgrade.fingerprints[at]
+
+    def __reduce__(self) -> str:
+        raise TypeError("an Upgrade cannot be pickled or copied: open it again")
+
+    def affected(self, text: Text) -> bool:
+        """Whether the key of a text has to be made again, by a collator of the new files.
+
+        Raises :class:`TextError`, :class:`ClosedError` and MemoryError.
+        """
+        encoded, found = _encoded(text), ctypes.c_uint32()
+        status = _library.uca_affected(self._upgrade, encoded, len(encoded), found)
+        if status != _OK:
+            _raise(status, self._upgrade, "uca_affected")
+        return bool(found.value)
+
+    def rekey(self, key: Bytes) -> bytes:
+        """The new key of the old key of a text that is not :meth:`affected`.
+
+        Give it whole keys of :attr:`old_fingerprint` alone. That of an affected text becomes other bytes here, or has no image.
+        Between collators with books, it is ``new.compact(upgrade.rekey(old.expand(key)))``.
+
+        Raises :class:`StoredKeyError`, :class:`ClosedError` and MemoryError.
+        """
+        return _made(self._upgrade, "uca_rekey", _bytes_of(key))
+
+    def close(self) -> None:
+        """Gives back all memory. An upgrade that is closed stays so."""
+        _library.uca_close_upgrade(self._upgrade)
+
+    @property
+    def is_open(self) -> bool:
+        """Whether it can be used."""
+        return self._upgrade.is_open
+
+    def __enter__(self: _Upgraded) -> _Upgraded:
         return self
 
     def __exit__(self, kind: Optional[Type[BaseException]], error: Optional[BaseException], trace: object) -> None:
