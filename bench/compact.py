@@ -12,8 +12,8 @@ time, user and system, the least of the runs, without the start: the same comman
 Where the program has no option `--compact` of `uca keys`, this is left out, and a line says so. It needs what key_bytes.py needs, but no ICU4C. Run it where
 nothing else runs, and compare figures of one output alone.
 
-With --instructions it counts over the first 20,000 lines of the latin file, or of each file that is given. It runs `keys`, `keys --compact`, and `compact`
-and `expand` of what `keys --lines` prints, all with the start. Other work on the machine does not matter then. It needs Debian's valgrind.
+With --instructions it counts over the first 20,000 lines of the latin file, or of each file that is given. It counts `keys`, `keys --compact`, and `compact` and
+`expand` of what `keys --lines` prints. All counts have the start. Other work on the machine does not matter then. It needs Debian's valgrind.
 """
 import argparse
 import itertools
