@@ -5,9 +5,9 @@ use crate::sizes::{MOST, sizes};
 use std::alloc::{AllocError, Global};
 use std::fmt::Write;
 use std::test::Fail;
-use test_kit::{DATA, data_of, holds, table_of};
+use test_kit::{DATA, holds};
 use uca_owned::{OwnedCollator, fingerprint_of};
-use uca_weights::{Depth, Source};
+use uca_weights::Depth;
 
 /// The first lines of a table.
 const HEAD: &str = "@version 1\n";
@@ -61,16 +61,6 @@ fn check_letters(
     Ok(())
 }
 
-/// A table and a data file that were read make a collator.
-fn check_made(alloc: Global, table: &[u8], data: &[u8], case: &str) -> Result<(), Fail> {
-    let table = table_of(alloc, &mut Source::new(table))?;
-    let data = data_of(alloc, &mut Source::new(data))?;
-    holds(
-        OwnedCollator::new(alloc, table, data, None, Depth::Weights).is_ok(),
-        case,
-    )
-}
-
 /// A collator of a table has the keys of its letters.
 fn check_opened(
     alloc: Global,
@@ -90,8 +80,7 @@ fn check_rows(alloc: Global, longest: &[u8], data: &[u8], count: usize) -> Resul
     let table = longest.get(..length).ok_or("the table is too short")?;
     check_opened(alloc, table, data, count, &case)?;
     let found = fingerprint_of(alloc, table, data, None, Depth::Weights);
-    holds(found.is_ok(), &case)?;
-    check_made(alloc, table, data, &case)
+    holds(found.is_ok(), &case)
 }
 
 /// All numbers of rows.
