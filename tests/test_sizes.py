@@ -1,7 +1,6 @@
 """Sizes on both sides of each power of two and of ten. There is memory to spare, so no run may say that it is short of memory.
 
-Lengths of texts and numbers of rows are also round, such as 70,000, and random. `crates/test_sizes` and `bindings/c/sizes.c` do the same with the calls of
-the library.
+Lengths of texts and numbers of rows are also round, such as 70,000, and random. `bindings/c/sizes.c` does the same with the calls of the library.
 """
 import random
 
