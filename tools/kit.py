@@ -24,6 +24,9 @@ TOP = os.path.dirname(os.path.dirname(os.path.realpath(__file__)))
 # The flag by which `rt ci` takes nothing of what was proved on this machine before.
 ANEW = "--anew"
 
+# The processor that static libraries are compiled for: any of x86-64. A library does not test its processor, as a program does when it starts.
+LIBRARY_PROCESSOR = "x86-64"
+
 # The memory that a check may take, in bytes.
 CHECK_MEMORY = 4_000_000_000
 
@@ -304,8 +307,8 @@ class Crate:
         return [f"{self.kit.rtlib.KIT}/WHAT", *self.kit.files_of(self.folder)]
 
     def settings(self):
-        """What crates.txt and the files beside src/ say of it."""
-        return repr(self.made.said)
+        """What crates.txt and the files beside src/ say of it, and how it is compiled."""
+        return repr(self.made.said) + (LIBRARY_PROCESSOR if self.made.is_static else "")
 
     def is_library(self):
         return self.made.makes_rlib()
@@ -330,7 +333,7 @@ class Crate:
         to = f"out/{os.path.basename(self.product())}"
         words = [*made.words(jobs, keeps=False), "--toolchain", self.toolchain, "--backend", "llvm"]
         if made.is_static:
-            return made.prove(["build", *words, "-o", to])
+            return made.prove(["build", *words, "--cpu", LIBRARY_PROCESSOR, "-o", to])
         return made.prove(["build", *words, "-o", f"{to}.o"]) or made.link(f"{to}.o", to)
 
     def check(self, flags, tests=False):

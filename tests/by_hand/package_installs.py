@@ -168,6 +168,23 @@ def one_version(tests):
     same(len({*found.values()}), 1, f"versions {found}")
 
 
+# Instructions that came after the first processors of x86-64: SSE3 to SSE4.2, and those whose names begin with v.
+LATER = re.compile(
+    r"addsub|h(add|sub)p|movddup|movs[hl]dup|lddqu|pabs|palignr|ph(add|sub|min)|pmaddubsw|pmulhrsw|pshufb|psign|blend|dpp|extractps|insertps|movntdqa|mpsadbw|packusdw|"
+    r"pblend|pcmp([ei]str|eqq|gtq)|p(extr|insr)[bdq]|pmaxs[bd]|pmaxu[wd]|pmins[bd]|pminu[wd]|pmov[sz]x|pmul(dq|ld)|ptest|round[ps][sd]|crc32|popcnt|lzcnt|v"
+)
+
+
+def any_processor(tests):
+    """The library has instructions of all processors of x86-64 alone."""
+    with zipfile.ZipFile(tests.file("uca-*.whl")) as whole:
+        library = whole.extract("uca/libuca.so.1", tests.work)
+    lines = run(["objdump", "-d", "--no-show-raw-insn", library]).decode().splitlines()
+    names = {line.split("\t")[1].split()[0] for line in lines if "\t" in line}
+    holds(len(names) > 50, f"instructions: {sorted(names)}")
+    same(sorted(it for it in names if LATER.match(it)), [], "instructions of later processors")
+
+
 def lintian(tests):
     if not shutil.which("lintian"):
         raise NotHere("there is no lintian (Debian's lintian)")
@@ -180,6 +197,7 @@ def release(tests):
     tests.check("one version", one_version, tests)
     tests.check("the same bytes elsewhere", same_bytes, tests)
     tests.check("no other files are replaced", replaced_release, tests)
+    tests.check("any processor", any_processor, tests)
     tests.check("lintian", lintian, tests)
 
 

@@ -26,8 +26,7 @@
 //! text, its calls do what `uca.h` says. Nothing is proved of this crate, which is a small layer over these calls.
 //! Its tests are `tests/keys.rs`, and `tests/header.rs` in the repository.
 //!
-//! **Processors and systems.** The library is made for `x86_64-unknown-linux-gnu`, and for processors with SSE4.2
-//! (x86-64-v2, since 2009). It does not test the processor.
+//! **Processors and systems.** The library is made for `x86_64-unknown-linux-gnu`, and for any processor of x86-64.
 mod calls;
 mod collator;
 mod errors;
