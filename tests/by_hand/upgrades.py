@@ -35,6 +35,8 @@ import packages
 NEEDS = ["gcc", "make", "sqlite3", "libsqlite3-dev", "postgresql", "postgresql-server-dev-15", "unicode-data", "perl-modules-5.36"]
 WANTS = []
 ROWS, MORE_ROWS, KILLS, SEED = 100_000, 20_000, 8, 20_261_128
+# The lines that `uca sort` and `uca keys` take.
+MOST_LINES = 1_000_000
 FILES = ["old.txt", "old_data.txt", "new.txt", "new_data.txt", "changes.txt", "certificate.txt"]
 PAGE = f"{bindings.TOP}/docs/BINDINGS.md"
 see = editions.see
@@ -64,10 +66,12 @@ class Given:
 
     def check(self, what, rows):
         """The rows are pairs of a text and the digits of its key, in the order of the keys."""
-        lines = [word for word, _ in rows]
-        see(f"{what}: the order is that of uca sort", editions.as_input(lines) == self.printed("sort", lines), f"{len(lines):,} rows")
-        keys = "".join(f"{key}\n" for _, key in rows).encode()
-        see(f"{what}: the keys are those of uca keys", keys == self.printed("keys", lines).replace(b" ", b""), f"{len(lines):,} keys")
+        # each part begins with the last line of the one before it
+        parts = [rows[at : at + MOST_LINES] for at in range(0, max(len(rows) - 1, 1), MOST_LINES - 1)]
+        lines = [[word for word, _ in part] for part in parts]
+        see(f"{what}: the order is that of uca sort", all(editions.as_input(it) == self.printed("sort", it) for it in lines), f"{len(rows):,} rows")
+        keys = ["".join(f"{key}\n" for _, key in part).encode() for part in parts]
+        see(f"{what}: the keys are those of uca keys", all(one == self.printed("keys", it).replace(b" ", b"") for one, it in zip(keys, lines)), f"{len(rows):,} keys")
 
 
 def statements(heading, given):
