@@ -1507,12 +1507,14 @@ def postgresql_upgrades(work):
             postgresql_upgrade_errors(says, old, new)
             expanded = f"SELECT uca_expand(uca_key('a', '{new}'), '{new}') = '\\x{MENDED[1][2]}';"
             same(says(expanded, fails=not book).strip(), "t" if book else NO_SERVER_BOOK, "a whole key of the next edition")
-            same(says(f"INSERT INTO uca_files VALUES ('{new}'); SELECT uca_rekey('\\x03');", fails=True), OTHER_FILES, "keys of the next edition in the database")
-            same(says("SELECT uca_affected('a');", fails=True), OTHER_FILES, "the same of a text")
+            for it in ("uca_affected('a'::text)", "uca_rekey('\\x03'::bytea)"):
+                if "does not exist" not in says(f"SELECT {it};", fails=True):
+                    raise AssertionError(f"{it} is called, and does not say by which files the key was made")
+            same(says(f"INSERT INTO uca_files VALUES ('{new}'); SELECT uca_key('a');", fails=True), OTHER_FILES, "keys of the next edition in the database")
             same(says(f"SELECT uca_affected('ch', '{old}', '{new}'), uca_key('a', '{new}') IS NULL;"), "t|f\n", "calls that name both editions")
             says(f"DELETE FROM uca_files WHERE fingerprint = '{new}';")
     with postgresql_server(work) as (_, says, _):
-        for it in ("uca_next_fingerprint()", "uca_affected('a')", "uca_rekey('')", f"uca_affected('a', '{USED}', '{NEXT}')", f"uca_rekey('', '{USED}', '{NEXT}')"):
+        for it in ("uca_next_fingerprint()", f"uca_affected('a', '{USED}', '{NEXT}')", f"uca_rekey('', '{USED}', '{NEXT}')"):
             same(says(f"SELECT {it};", fails=True), NO_NEXT, f"{it} without a next edition")
         same(says(f"SELECT uca_key('a', '{NEXT}');", fails=True), OTHERS_NAMED, "a key of the next edition without one")
 
@@ -1522,14 +1524,13 @@ def postgresql_mended(says, old, new, book):
     named = f"'{old}', '{new}'"
     for text, old_key, new_key in MENDED:
         key = f"uca_key({quoted(text)}, '{old}')"
-        whole = f"encode(uca_expand({key}, '{old}'), 'hex'), encode(uca_expand(uca_rekey({key}), '{new}'), 'hex')" if book else f"encode({key}, 'hex'), encode(uca_rekey({key}), 'hex')"
-        statement = (f"SELECT uca_affected({quoted(text)}), uca_affected({quoted(text)}, {named}), {whole},"
-                     f" uca_rekey({key}) = uca_key({quoted(text)}, '{new}'), uca_rekey({key}, {named}) = uca_key({quoted(text)}, '{new}'), {key} = uca_key({quoted(text)});")
-        same(says(statement), f"f|f|{old_key.lower()}|{new_key.lower()}|t|t|t\n", f"the keys of {text!r}")
-    same(says("".join(f"SELECT uca_affected({quoted(it)}), uca_affected({quoted(it)}, {named});" for it in AFFECTED)), "t|t\n" * len(AFFECTED), "affected texts")
-    same(says(f"SELECT uca_affected({RUN_OF_65}), uca_affected({LONG});"), "t|t\n", "texts that are rejected")
-    nulls = [f"{name}(NULL{more}) IS NULL" for name in ("uca_affected", "uca_rekey") for more in ("", f", {named}")]
-    same(says(f"SELECT {', '.join(nulls)};"), "t|t|t|t\n", "NULL")
+        whole = f"encode(uca_expand({key}, '{old}'), 'hex'), encode(uca_expand(uca_rekey({key}, {named}), '{new}'), 'hex')" if book else f"encode({key}, 'hex'), encode(uca_rekey({key}, {named}), 'hex')"
+        statement = (f"SELECT uca_affected({quoted(text)}, {named}), {whole},"
+                     f" uca_rekey({key}, {named}) = uca_key({quoted(text)}, '{new}'), {key} = uca_key({quoted(text)});")
+        same(says(statement), f"f|{old_key.lower()}|{new_key.lower()}|t|t\n", f"the keys of {text!r}")
+    same(says("".join(f"SELECT uca_affected({quoted(it)}, {named});" for it in AFFECTED)), "t\n" * len(AFFECTED), "affected texts")
+    same(says(f"SELECT uca_affected({RUN_OF_65}, {named}), uca_affected({LONG}, {named});"), "t|t\n", "texts that are rejected")
+    same(says(f"SELECT uca_affected(NULL, {named}) IS NULL, uca_rekey(NULL, {named}) IS NULL;"), "t|t\n", "NULL")
 
 
 def postgresql_upgrade_errors(says, old, new):
@@ -1540,12 +1541,12 @@ def postgresql_upgrade_errors(says, old, new):
         for it in (f"NULL, '{new}'", f"'{old}', NULL"):
             same(says(f"SELECT {name}({given}, {it});", fails=True), "ERROR:  uca: the fingerprint is NULL", f"{name} by {it}")
         its_type = "text" if name == "uca_affected" else "bytea"
-        for call in (f"{name}(x)", f"{name}(x, '{old}', '{new}')"):
-            same(says(f"CREATE TABLE t(x {its_type}); CREATE INDEX ON t({call});", fails=True), "ERROR:  functions in index expression must be marked IMMUTABLE", call)
-            says("DROP TABLE t;")
-    same(says("SELECT uca_rekey(uca_key('ch'));", fails=True), "ERROR:  uca: the bytes are rejected: NoImage", "the key of an affected text")
+        call = f"{name}(x, '{old}', '{new}')"
+        same(says(f"CREATE TABLE t(x {its_type}); CREATE INDEX ON t({call});", fails=True), "ERROR:  functions in index expression must be marked IMMUTABLE", call)
+        says("DROP TABLE t;")
+    same(says(f"SELECT uca_rekey(uca_key('ch'), '{old}', '{new}');", fails=True), "ERROR:  uca: the bytes are rejected: NoImage", "the key of an affected text")
     for key in ("''", "'\\x1c'"):
-        found = says(f"SELECT uca_rekey({key});", fails=True)
+        found = says(f"SELECT uca_rekey({key}, '{old}', '{new}');", fails=True)
         if found not in ("ERROR:  uca: the bytes are rejected: NoImage", "ERROR:  uca: the bytes are rejected: NoCompactKey"):
             raise AssertionError(f"the new key of {key}: {found}")
     same(says(f"SELECT uca_key('a', '{OTHER}');", fails=True), OTHERS_NAMED, "a key of neither edition")
@@ -1571,7 +1572,7 @@ def postgresql_upgrade_files(work):
             os.chmod(altered, 0o644)
             server.restart(settings.replace(f"/{name}.txt", "/altered.txt"))
             same(says("SELECT uca_next_fingerprint();", fails=True), f"ERROR:  uca: {error}", f"{name} with {new}")
-            same(says("SELECT uca_affected('a');", fails=True), f"ERROR:  uca: {error}", f"{name} with {new}")
+            same(says(f"SELECT uca_affected('a', '{USED}', '{NEXT}');", fails=True), f"ERROR:  uca: {error}", f"{name} with {new}")
             same(says(f"SELECT uca_key('a', '{NEXT}');", fails=True), OTHERS_NAMED, "a key of the rejected edition")
             same(says("SELECT encode(uca_key('a'), 'hex');"), f"{MENDED[1][1].lower()}\n", "a key of the present edition")
             until(lambda: f"WARNING:  uca: {error}" in content(f"{server.folder}/log").decode(), True, "the log")
@@ -1585,7 +1586,7 @@ def postgresql_upgrade_files(work):
             if "pg_read_all_settings" not in says(f"CREATE ROLE {role}; SET ROLE {role}; SHOW uca.{name}_file;", fails=True):
                 raise AssertionError(f"a role without rights reads uca.{name}_file")
         server.restart(settings.replace("/table.txt", "/none.txt"))
-        same(says("SELECT uca_rekey('');", fails=True), "ERROR:  uca: the file of uca.table_file cannot be read: No such file or directory", "without a present edition")
+        same(says(f"SELECT uca_rekey('', '{USED}', '{NEXT}');", fails=True), "ERROR:  uca: the file of uca.table_file cannot be read: No such file or directory", "without a present edition")
         server.restart(settings)
         says(f"CREATE TABLE words(word text); INSERT INTO words VALUES ('ch'), ('cb'), ('d'); CREATE INDEX by_key ON words(uca_key(word)); CREATE INDEX by_next ON words(uca_key(word, '{NEXT}'));")
         ordered = "SET enable_seqscan = off; SELECT string_agg(word, ' ') FROM (SELECT word FROM words ORDER BY uca_key(word{})) it;"
