@@ -109,7 +109,7 @@ class Sqlite:
         return said, time.perf_counter() - start
 
     def fill(self, table):
-        """A new database with a table of the lines."""
+        """A new database with a table of the lines, which are its first column."""
         for it in (self.path, f"{self.path}-wal", f"{self.path}-shm", f"{self.path}-journal"):
             if os.path.exists(it):
                 os.remove(it)
@@ -254,9 +254,10 @@ def sqlite_texts(work, given):
     see("SQLite: a query reads that index", "by_name" in plan, plan.splitlines()[-1])
     given.check("SQLite: an index of texts", rows)
     _, again = database.run(f"DROP INDEX by_name; CREATE INDEX by_name ON names(name COLLATE uca_{given.new});")
-    _, tested = database.run("SELECT integrity_check FROM pragma_integrity_check('names');")
-    _, nothing = database.run("SELECT 1;")
-    print(f"     to make this index again takes {again:.1f} s, to test it {tested:.1f} s, and to load the files {nothing:.1f} s, which is a part of both")
+    with open(database.path, "wb") as file:
+        file.write(kept)
+    less = database.seconds_inside(re.sub(r"CREATE TABLE tested.*DROP TABLE tested;\n", "", move, flags=re.S))
+    print(f"     to make this index again takes {again:.1f} s, and the move without the test of the index {less:.1f} s")
     with open(database.path, "wb") as file:
         file.write(kept)
     state = lambda: database.run(ok(given.new if given.new in database.run("SELECT sql FROM sqlite_schema WHERE name = 'by_name';")[0] else given.old))[0]
