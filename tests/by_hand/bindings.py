@@ -951,6 +951,12 @@ def sqlite_upgrade_page(work):
     for key in (f"uca_key('e', '{NEXT}')", "NULL", "x'1C47'"):
         sqlite_fails(work, OTHER_KEY, f"INSERT INTO words VALUES ('e', {key});", load=load, database=database)
         sqlite_fails(work, OTHER_KEY, f"UPDATE words SET key = {key} WHERE word = 'd';", load=load, database=database)
+    for it in ("INSERT OR REPLACE INTO made_by VALUES (1, '{}');", "DELETE FROM made_by; INSERT INTO made_by VALUES (1, '{}');"):
+        sqlite_fails(work, "there are keys already: use UPDATE", "BEGIN;", it.format(NEXT), load=load, database=database)
+    restored = f"{work}/restored.db"
+    dumped = sqlite_says(work, ".dump", load="", database=database)
+    ran = subprocess.run(["sqlite3", "-bail", restored], input=dumped, capture_output=True, text=True, cwd=TOP)
+    same(ran.stderr + sqlite_says(work, state, load=load, database=restored), f"{USED}|5\n", "the page's tables after a dump")
     page_statements(work, "upgrade.db", move, load=new_only)
     same(sqlite_says(work, state, load=load, database=database), f"{NEXT}|5\n", "the page's keys")
     for statement in ("INSERT INTO words VALUES ('e', uca_key('e', '{0}'));", "UPDATE words SET key = uca_key(word, '{0}') WHERE word = 'd';", "UPDATE words SET word = 'e' WHERE word = 'd';"):
