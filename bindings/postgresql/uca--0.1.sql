@@ -55,11 +55,9 @@ CREATE FUNCTION uca_expand(bytea) RETURNS bytea AS 'MODULE_PATHNAME', 'uca_expan
 CREATE FUNCTION uca_compact(bytea) RETURNS bytea AS 'MODULE_PATHNAME', 'uca_compact_key' LANGUAGE C IMMUTABLE STRICT PARALLEL SAFE COST 20;
 
 -- Whether the key of a text has to be made again for the next edition, as for a text that is rejected; and the next edition's key of the key
--- of another text. They are not for indexes: what they make of an affected text, or of its key, depends on the file of changes.
-CREATE FUNCTION uca_affected(text) RETURNS boolean AS 'MODULE_PATHNAME', 'uca_affected_text' LANGUAGE C STABLE STRICT PARALLEL SAFE COST 20;
-CREATE FUNCTION uca_rekey(bytea) RETURNS bytea AS 'MODULE_PATHNAME', 'uca_rekey_key' LANGUAGE C STABLE STRICT PARALLEL SAFE COST 20;
-
--- The same by the fingerprints of both editions. The call is an error where the server has others, whatever uca_files has.
+-- of another text. Both fingerprints are named, since only who has the key knows by which files it was made. The call is an error where the
+-- server has others, whatever uca_files has. They are not for indexes: what they make of an affected text, or of its key, depends on the file
+-- of changes.
 CREATE FUNCTION uca_affected(text, fingerprint text, next_fingerprint text) RETURNS boolean AS 'MODULE_PATHNAME', 'uca_affected_by_fingerprints'
 LANGUAGE C STABLE PARALLEL SAFE COST 20;
 CREATE FUNCTION uca_rekey(bytea, fingerprint text, next_fingerprint text) RETURNS bytea AS 'MODULE_PATHNAME', 'uca_rekey_by_fingerprints'

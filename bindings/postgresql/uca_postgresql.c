@@ -8,8 +8,8 @@
 
    The server may have the next edition of these files beside them: uca.next_table_file and uca.next_data_file, and what `uca changes`
    made of the four, uca.changes_file and uca.certificate_file. They are read and audited when it starts. Then uca_key(text, fingerprint)
-   takes the fingerprint of either edition, uca_affected(text) says whether a key has to be made again, and uca_rekey(bytea) makes the
-   next edition's key of another one. All that names no fingerprint stays with the present edition. */
+   takes the fingerprint of either edition, uca_affected says whether a key has to be made again, and uca_rekey makes the next
+   edition's key of another one. Both take the fingerprints of both editions. All that names no fingerprint stays with the present edition. */
 #include "postgres.h"
 
 #include <fcntl.h>
@@ -727,16 +727,8 @@ Datum uca_any_key_by_fingerprint(PG_FUNCTION_ARGS)
     return any_key_of(fcinfo, edition);
 }
 
-/* uca_affected(text) returns boolean: whether the key of the text has to be made again for the next edition. uca_rekey(bytea) returns
-   bytea: the next edition's key of the key of another text. The fingerprints of both editions may come after the argument. */
-PG_FUNCTION_INFO_V1(uca_affected_text);
-Datum uca_affected_text(PG_FUNCTION_ARGS)
-{
-    need_files(fcinfo->flinfo->fn_oid);
-    need_upgrade();
-    return affected_of(fcinfo);
-}
-
+/* uca_affected(text, fingerprint, next_fingerprint) returns boolean: whether the key of the text has to be made again for the next edition.
+   uca_rekey(bytea, fingerprint, next_fingerprint) returns bytea: the next edition's key of the key of another text. */
 PG_FUNCTION_INFO_V1(uca_affected_by_fingerprints);
 Datum uca_affected_by_fingerprints(PG_FUNCTION_ARGS)
 {
@@ -744,14 +736,6 @@ Datum uca_affected_by_fingerprints(PG_FUNCTION_ARGS)
     if (PG_ARGISNULL(0))
         PG_RETURN_NULL();
     return affected_of(fcinfo);
-}
-
-PG_FUNCTION_INFO_V1(uca_rekey_key);
-Datum uca_rekey_key(PG_FUNCTION_ARGS)
-{
-    need_files(fcinfo->flinfo->fn_oid);
-    need_upgrade();
-    return rekeyed_of(fcinfo);
 }
 
 PG_FUNCTION_INFO_V1(uca_rekey_by_fingerprints);

@@ -763,29 +763,30 @@ KEPT_WORDS = "('d'), ('ch'), ('cb'), ('Á'), ('A'), ('a'), ('bach'), ('bz'), ('b
 # A table of keys, and the statements that take it to the next edition.
 KEYED = f"""
 CREATE TABLE words(word TEXT, key BLOB); CREATE INDEX by_key ON words(key);
-CREATE TABLE made_by(fingerprint TEXT NOT NULL); INSERT INTO made_by VALUES ('{{0}}');
+CREATE TABLE made_by(number INTEGER PRIMARY KEY CHECK (number = 1), fingerprint TEXT NOT NULL); INSERT INTO made_by VALUES (1, '{{0}}');
 INSERT INTO words(word) VALUES {KEPT_WORDS}; UPDATE words SET key = uca_key(word, '{{0}}');
+CREATE TRIGGER moves_keys AFTER UPDATE ON made_by BEGIN
+    UPDATE words SET key = CASE uca_affected(word, OLD.fingerprint, NEW.fingerprint)
+        WHEN 1 THEN uca_key(word, NEW.fingerprint)
+        WHEN 0 THEN uca_rekey(key, OLD.fingerprint, NEW.fingerprint) END;
+END;
 """
-MOVE = """
-BEGIN IMMEDIATE;
-UPDATE words SET key = CASE WHEN uca_affected(word, fingerprint, '{0}') THEN uca_key(word, '{0}') ELSE uca_rekey(key, fingerprint, '{0}') END FROM made_by;
-UPDATE made_by SET fingerprint = '{0}';
-COMMIT;
-"""
+MOVE = "UPDATE made_by SET fingerprint = '{0}';"
 STATE = "SELECT count(*), total(key IS NOT uca_key(word, '{0}')), (SELECT group_concat(fingerprint) FROM made_by) FROM words;"
 BY_KEY = "SELECT group_concat(word, ' ') FROM (SELECT word FROM words ORDER BY key);"
 
 
 def sqlite_moves(work):
-    """A table of keys is taken to the next edition in one transaction, or stays as it is."""
-    load = sqlite_upgrade()
+    """A table of keys is taken to the next edition by one statement, or stays as it is."""
+    load, rejected = sqlite_upgrade(), "INSERT INTO words VALUES (CAST(x'61FF' AS TEXT), NULL);"
     for old, new in ((USED, NEXT), (COMPACT, NEXT_COMPACT)):
         database = f"{work}/moves-{old}.db"
         sqlite_says(work, KEYED.format(old), load=load, database=database)
         same(sqlite_says(work, STATE.format(old), load=load, database=database), f"11|0.0|{old}\n", "before")
-        with_rejected = MOVE.replace("BEGIN IMMEDIATE;", "BEGIN IMMEDIATE; INSERT INTO words VALUES (CAST(x'61FF' AS TEXT), NULL);")
-        sqlite_fails(work, "uca_key: Utf8", with_rejected.format(new), load=load, database=database)
+        sqlite_fails(work, "uca_key: Utf8", "BEGIN;", rejected, MOVE.format(new), load=load, database=database)
         same(sqlite_says(work, STATE.format(old), load=load, database=database), f"11|0.0|{old}\n", "after an error")
+        # a key without a text, which cannot be told to be affected
+        sqlite_says(work, f"UPDATE words SET key = uca_key('ch', '{old}') WHERE word IS NULL;", load=load, database=database)
         sqlite_fails(work, "is loaded; loaded: none", MOVE.format(new), load=load.split("SELECT 0 WHERE uca_load_upgrade")[0], database=database)
         sqlite_says(work, MOVE.format(new), load=load, database=database)
         same(sqlite_says(work, STATE.format(new), BY_KEY, "PRAGMA integrity_check;", load=load, database=database), f"11|0.0|{new}\na A Á b bach bh bz cb ch d\nok\n", "after")
@@ -799,6 +800,7 @@ TEXT_TABLES = [
     "CREATE TABLE names(name TEXT, note TEXT); CREATE INDEX by_name ON names(name COLLATE uca_{0} DESC); CREATE INDEX by_note ON names(note, name COLLATE uca_{0});",
     "CREATE TABLE names(name TEXT COLLATE uca_{0} UNIQUE, note TEXT);",
 ]
+# They take the affected rows out, change the name of the collation, put the rows back, and test the index.
 TEXTS_MOVE = """
 BEGIN IMMEDIATE;
 CREATE TABLE moved AS SELECT rowid AS number, * FROM names WHERE CASE typeof(name) WHEN 'text' THEN uca_affected(name, '{0}', '{1}') END;
@@ -808,6 +810,9 @@ UPDATE sqlite_schema SET sql = replace(sql, 'COLLATE uca_{0}', 'COLLATE uca_{1}'
 PRAGMA writable_schema = reset;
 INSERT INTO names(rowid, name, note) SELECT number, name, note FROM moved;
 DROP TABLE moved;
+CREATE TABLE tested(result TEXT CHECK (result = 'ok'));
+INSERT INTO tested SELECT integrity_check FROM pragma_integrity_check('names');
+DROP TABLE tested;
 """
 # 300 names, of which 'ch' and others are affected; and what is no text or is rejected
 MANY_NAMES = ("WITH RECURSIVE n(i) AS (SELECT 0 UNION ALL SELECT i + 1 FROM n WHERE i < 299) INSERT INTO names SELECT char(97 + i * 7 % 5, 97 + i * 11 % 8, 97 + i / 40) || i, i % 7 FROM n;"
@@ -842,8 +847,24 @@ def sqlite_texts(work):
     database, wrong = f"{work}/wrong.db", TEXTS_MOVE.replace("uca_affected(name, '{0}', '{1}')", "name = 'bach'")
     sqlite_says(work, TEXT_TABLES[0].format(USED), MANY_NAMES, load=load, database=database)
     sqlite_fails(work, "may not be modified", ".dbconfig defensive on", TEXTS_MOVE.format(USED, NEXT), load=load, database=database)
-    if sqlite_says(work, wrong.format(USED, NEXT), "COMMIT;", "PRAGMA integrity_check;", load=load, database=database) == "ok\n":
-        raise AssertionError("an index in which affected rows stay is found to be in order")
+    before = sqlite_says(work, ROWS_AND_SCHEMA, load=load, database=database)
+    sqlite_fails(work, "CHECK constraint failed: result = 'ok'", wrong.format(USED, NEXT), "COMMIT;", load=load, database=database)
+    same(sqlite_says(work, ROWS_AND_SCHEMA, "PRAGMA integrity_check;", load=load, database=database), f"{before}ok\n", "an index in which affected rows would stay")
+    sqlite_two_columns(work, load)
+
+
+def sqlite_two_columns(work, load):
+    """Two columns have the collation. Where the rows of one of them stay, the integrity check is an error."""
+    made = TEXT_TABLES[0].format(USED).replace("note TEXT", f"note TEXT COLLATE uca_{USED}") + f"CREATE INDEX by_note ON names(note);"
+    rows = MANY_NAMES + "UPDATE names SET name = 'a', note = name;"
+    of_both = TEXTS_MOVE.replace("'{1}') END;", "'{1}') END OR CASE typeof(note) WHEN 'text' THEN uca_affected(note, '{0}', '{1}') END;")
+    database = f"{work}/two.db"
+    sqlite_says(work, made, rows, load=load, database=database)
+    sqlite_fails(work, "CHECK constraint failed: result = 'ok'", TEXTS_MOVE.format(USED, NEXT), "COMMIT;", load=load, database=database)
+    by_note = BY_NAME.replace("names", "{2}").replace("name", "note").replace("{2}", "names")
+    wanted = sqlite_says(work, by_note.format(NEXT, "+"), load=load, database=database)
+    found = sqlite_says(work, of_both.format(USED, NEXT), "COMMIT;", "PRAGMA integrity_check;", by_note.format(NEXT, ""), load=load, database=database)
+    same(found, f"ok\n{wanted}", "two columns of the collation")
 
 
 SQLITE_PAGE = re.compile(r"^### In SQLite\n(.*?)^### ", re.S | re.M)
@@ -897,14 +918,53 @@ def sqlite_page(work):
     sqlite_fails(work, "wrong number of arguments to function uca_key()", "SELECT word FROM words;", database=f"{work}/before.db")
     page_error(work, "before-error.db", before, "words", "old_names")
     page_statements(work, "before.db", before)
-    upgrade, of_texts = re.findall(r"```sql\n(.*?)```", SQLITE_UPGRADE_PAGE.search(content(f"{TOP}/docs/BINDINGS.md").decode()).group(1), re.S)
-    for it in (upgrade, of_texts):
-        page_statements(work, "upgrade.db", it, load=sqlite_load(NEW_TABLE, NEW_DATA))
+    sqlite_upgrade_page(work)
     constraint = re.search(r"`(CHECK \(.*?\))`", text).group(1).replace("e7f5..", USED)
     made = f"CREATE TABLE plain(word TEXT, key BLOB {constraint}); INSERT INTO plain VALUES ('a', uca_key('a', '{USED}')), (NULL, NULL);"
     sqlite_says(work, made)
     for key in ("NULL", "''", "x'1C47'"):
         sqlite_fails(work, "CHECK constraint failed", made, f"INSERT INTO plain VALUES ('a', {key});")
+
+
+OTHER_KEY = "the key is not by the files of made_by"
+
+
+def sqlite_upgrade_page(work):
+    """The statements of docs/BINDINGS.md for a new edition. Pasted without .bail they leave the old edition, if a row is rejected. Their triggers reject
+    keys of another edition."""
+    made, move, of_texts = re.findall(r"```sql\n(.*?)```", SQLITE_UPGRADE_PAGE.search(content(f"{TOP}/docs/BINDINGS.md").decode()).group(1), re.S)
+    load, state = sqlite_upgrade(), "SELECT fingerprint, (SELECT count(*) FROM words WHERE key IS uca_key(word, fingerprint)) FROM made_by;"
+    old_only, new_only = sqlite_load(), sqlite_load(NEW_TABLE, NEW_DATA)
+    page_statements(work, "upgrade.db", made, load="")
+    bad = f"{work}/bad.db"
+    with open(bad, "wb") as it:
+        it.write(content(f"{work}/upgrade.db"))
+    # a row from the time before the triggers
+    trigger = re.search(r"CREATE TRIGGER tests_new_rows.*?END;", made, re.S).group()
+    sqlite_says(work, "DROP TRIGGER tests_new_rows; INSERT INTO words VALUES (CAST(x'61FF' AS TEXT), x'00');", trigger, database=bad)
+    ran = subprocess.run(["sqlite3", bad], input=move.replace(".bail on\n", ""), capture_output=True, text=True, errors="replace", cwd=TOP)
+    if "uca_key: Utf8" not in ran.stderr or "bach" not in ran.stdout:
+        raise AssertionError(f"pasted statements with a rejected row: {ran.stdout}{ran.stderr}")
+    counted = state.replace("FROM words WHERE", "FROM words WHERE hex(word) <> '61FF' AND")
+    same(sqlite_says(work, counted, load=load, database=bad), f"{USED}|5\n", "the fingerprint and the keys after a rejected row")
+    database = f"{work}/upgrade.db"
+    for key in (f"uca_key('e', '{NEXT}')", "NULL", "x'1C47'"):
+        sqlite_fails(work, OTHER_KEY, f"INSERT INTO words VALUES ('e', {key});", load=load, database=database)
+        sqlite_fails(work, OTHER_KEY, f"UPDATE words SET key = {key} WHERE word = 'd';", load=load, database=database)
+    for it in ("INSERT OR REPLACE INTO made_by VALUES (1, '{}');", "DELETE FROM made_by; INSERT INTO made_by VALUES (1, '{}');"):
+        sqlite_fails(work, "there are keys already: use UPDATE", "BEGIN;", it.format(NEXT), load=load, database=database)
+    restored = f"{work}/restored.db"
+    dumped = sqlite_says(work, ".dump", load="", database=database)
+    ran = subprocess.run(["sqlite3", "-bail", restored], input=dumped, capture_output=True, text=True, cwd=TOP)
+    same(ran.stderr + sqlite_says(work, state, load=load, database=restored), f"{USED}|5\n", "the page's tables after a dump")
+    page_statements(work, "upgrade.db", move, load=new_only)
+    same(sqlite_says(work, state, load=load, database=database), f"{NEXT}|5\n", "the page's keys")
+    for statement in ("INSERT INTO words VALUES ('e', uca_key('e', '{0}'));", "UPDATE words SET key = uca_key(word, '{0}') WHERE word = 'd';", "UPDATE words SET word = 'e' WHERE word = 'd';"):
+        sqlite_fails(work, OTHER_KEY, statement.format(USED), load=load, database=database)
+        sqlite_fails(work, NEXT, statement.format(USED), load=old_only, database=database)
+    bounds = "SELECT group_concat(word, ' ') FROM words, made_by WHERE key >= uca_range_low('bach', fingerprint, 1) AND key < uca_range_high('bach', fingerprint, 1);"
+    same(sqlite_says(work, "INSERT INTO words VALUES ('e', uca_key('e', '{0}')), (NULL, NULL);".format(NEXT), state, bounds, load=load, database=database), f"{NEXT}|7\nbach\n", "rows of the new edition")
+    page_statements(work, "texts.db", of_texts, load=new_only)
 
 
 def compacted(program, keys, book):
@@ -1507,12 +1567,14 @@ def postgresql_upgrades(work):
             postgresql_upgrade_errors(says, old, new)
             expanded = f"SELECT uca_expand(uca_key('a', '{new}'), '{new}') = '\\x{MENDED[1][2]}';"
             same(says(expanded, fails=not book).strip(), "t" if book else NO_SERVER_BOOK, "a whole key of the next edition")
-            same(says(f"INSERT INTO uca_files VALUES ('{new}'); SELECT uca_rekey('\\x03');", fails=True), OTHER_FILES, "keys of the next edition in the database")
-            same(says("SELECT uca_affected('a');", fails=True), OTHER_FILES, "the same of a text")
+            for it in ("uca_affected('a'::text)", "uca_rekey('\\x03'::bytea)"):
+                if "does not exist" not in says(f"SELECT {it};", fails=True):
+                    raise AssertionError(f"{it} is called, and does not say by which files the key was made")
+            same(says(f"INSERT INTO uca_files VALUES ('{new}'); SELECT uca_key('a');", fails=True), OTHER_FILES, "keys of the next edition in the database")
             same(says(f"SELECT uca_affected('ch', '{old}', '{new}'), uca_key('a', '{new}') IS NULL;"), "t|f\n", "calls that name both editions")
             says(f"DELETE FROM uca_files WHERE fingerprint = '{new}';")
     with postgresql_server(work) as (_, says, _):
-        for it in ("uca_next_fingerprint()", "uca_affected('a')", "uca_rekey('')", f"uca_affected('a', '{USED}', '{NEXT}')", f"uca_rekey('', '{USED}', '{NEXT}')"):
+        for it in ("uca_next_fingerprint()", f"uca_affected('a', '{USED}', '{NEXT}')", f"uca_rekey('', '{USED}', '{NEXT}')"):
             same(says(f"SELECT {it};", fails=True), NO_NEXT, f"{it} without a next edition")
         same(says(f"SELECT uca_key('a', '{NEXT}');", fails=True), OTHERS_NAMED, "a key of the next edition without one")
 
@@ -1522,14 +1584,13 @@ def postgresql_mended(says, old, new, book):
     named = f"'{old}', '{new}'"
     for text, old_key, new_key in MENDED:
         key = f"uca_key({quoted(text)}, '{old}')"
-        whole = f"encode(uca_expand({key}, '{old}'), 'hex'), encode(uca_expand(uca_rekey({key}), '{new}'), 'hex')" if book else f"encode({key}, 'hex'), encode(uca_rekey({key}), 'hex')"
-        statement = (f"SELECT uca_affected({quoted(text)}), uca_affected({quoted(text)}, {named}), {whole},"
-                     f" uca_rekey({key}) = uca_key({quoted(text)}, '{new}'), uca_rekey({key}, {named}) = uca_key({quoted(text)}, '{new}'), {key} = uca_key({quoted(text)});")
-        same(says(statement), f"f|f|{old_key.lower()}|{new_key.lower()}|t|t|t\n", f"the keys of {text!r}")
-    same(says("".join(f"SELECT uca_affected({quoted(it)}), uca_affected({quoted(it)}, {named});" for it in AFFECTED)), "t|t\n" * len(AFFECTED), "affected texts")
-    same(says(f"SELECT uca_affected({RUN_OF_65}), uca_affected({LONG});"), "t|t\n", "texts that are rejected")
-    nulls = [f"{name}(NULL{more}) IS NULL" for name in ("uca_affected", "uca_rekey") for more in ("", f", {named}")]
-    same(says(f"SELECT {', '.join(nulls)};"), "t|t|t|t\n", "NULL")
+        whole = f"encode(uca_expand({key}, '{old}'), 'hex'), encode(uca_expand(uca_rekey({key}, {named}), '{new}'), 'hex')" if book else f"encode({key}, 'hex'), encode(uca_rekey({key}, {named}), 'hex')"
+        statement = (f"SELECT uca_affected({quoted(text)}, {named}), {whole},"
+                     f" uca_rekey({key}, {named}) = uca_key({quoted(text)}, '{new}'), {key} = uca_key({quoted(text)});")
+        same(says(statement), f"f|{old_key.lower()}|{new_key.lower()}|t|t\n", f"the keys of {text!r}")
+    same(says("".join(f"SELECT uca_affected({quoted(it)}, {named});" for it in AFFECTED)), "t\n" * len(AFFECTED), "affected texts")
+    same(says(f"SELECT uca_affected({RUN_OF_65}, {named}), uca_affected({LONG}, {named});"), "t|t\n", "texts that are rejected")
+    same(says(f"SELECT uca_affected(NULL, {named}) IS NULL, uca_rekey(NULL, {named}) IS NULL;"), "t|t\n", "NULL")
 
 
 def postgresql_upgrade_errors(says, old, new):
@@ -1540,12 +1601,12 @@ def postgresql_upgrade_errors(says, old, new):
         for it in (f"NULL, '{new}'", f"'{old}', NULL"):
             same(says(f"SELECT {name}({given}, {it});", fails=True), "ERROR:  uca: the fingerprint is NULL", f"{name} by {it}")
         its_type = "text" if name == "uca_affected" else "bytea"
-        for call in (f"{name}(x)", f"{name}(x, '{old}', '{new}')"):
-            same(says(f"CREATE TABLE t(x {its_type}); CREATE INDEX ON t({call});", fails=True), "ERROR:  functions in index expression must be marked IMMUTABLE", call)
-            says("DROP TABLE t;")
-    same(says("SELECT uca_rekey(uca_key('ch'));", fails=True), "ERROR:  uca: the bytes are rejected: NoImage", "the key of an affected text")
+        call = f"{name}(x, '{old}', '{new}')"
+        same(says(f"CREATE TABLE t(x {its_type}); CREATE INDEX ON t({call});", fails=True), "ERROR:  functions in index expression must be marked IMMUTABLE", call)
+        says("DROP TABLE t;")
+    same(says(f"SELECT uca_rekey(uca_key('ch'), '{old}', '{new}');", fails=True), "ERROR:  uca: the bytes are rejected: NoImage", "the key of an affected text")
     for key in ("''", "'\\x1c'"):
-        found = says(f"SELECT uca_rekey({key});", fails=True)
+        found = says(f"SELECT uca_rekey({key}, '{old}', '{new}');", fails=True)
         if found not in ("ERROR:  uca: the bytes are rejected: NoImage", "ERROR:  uca: the bytes are rejected: NoCompactKey"):
             raise AssertionError(f"the new key of {key}: {found}")
     same(says(f"SELECT uca_key('a', '{OTHER}');", fails=True), OTHERS_NAMED, "a key of neither edition")
@@ -1571,7 +1632,7 @@ def postgresql_upgrade_files(work):
             os.chmod(altered, 0o644)
             server.restart(settings.replace(f"/{name}.txt", "/altered.txt"))
             same(says("SELECT uca_next_fingerprint();", fails=True), f"ERROR:  uca: {error}", f"{name} with {new}")
-            same(says("SELECT uca_affected('a');", fails=True), f"ERROR:  uca: {error}", f"{name} with {new}")
+            same(says(f"SELECT uca_affected('a', '{USED}', '{NEXT}');", fails=True), f"ERROR:  uca: {error}", f"{name} with {new}")
             same(says(f"SELECT uca_key('a', '{NEXT}');", fails=True), OTHERS_NAMED, "a key of the rejected edition")
             same(says("SELECT encode(uca_key('a'), 'hex');"), f"{MENDED[1][1].lower()}\n", "a key of the present edition")
             until(lambda: f"WARNING:  uca: {error}" in content(f"{server.folder}/log").decode(), True, "the log")
@@ -1585,7 +1646,7 @@ def postgresql_upgrade_files(work):
             if "pg_read_all_settings" not in says(f"CREATE ROLE {role}; SET ROLE {role}; SHOW uca.{name}_file;", fails=True):
                 raise AssertionError(f"a role without rights reads uca.{name}_file")
         server.restart(settings.replace("/table.txt", "/none.txt"))
-        same(says("SELECT uca_rekey('');", fails=True), "ERROR:  uca: the file of uca.table_file cannot be read: No such file or directory", "without a present edition")
+        same(says(f"SELECT uca_rekey('', '{USED}', '{NEXT}');", fails=True), "ERROR:  uca: the file of uca.table_file cannot be read: No such file or directory", "without a present edition")
         server.restart(settings)
         says(f"CREATE TABLE words(word text); INSERT INTO words VALUES ('ch'), ('cb'), ('d'); CREATE INDEX by_key ON words(uca_key(word)); CREATE INDEX by_next ON words(uca_key(word, '{NEXT}'));")
         ordered = "SET enable_seqscan = off; SELECT string_agg(word, ' ') FROM (SELECT word FROM words ORDER BY uca_key(word{})) it;"
@@ -1603,12 +1664,26 @@ def postgresql_upgrade_page(work):
     blocks = re.findall(r"```sql\n(.*?)```", page, re.S)
     with postgresql_server(work, editions=EDITIONS[2:]) as (server, says, settings):
         says("SELECT uca_next_fingerprint();")
-        said = "".join(says(it) for it in blocks)
+        said = "".join(says(it) for it in blocks[:2])
+        # a key without a text, which cannot be told to be affected; a trigger makes keys where the text changes
+        says(f"INSERT INTO words VALUES (NULL); UPDATE words SET key_e7f5 = uca_key('ch', '{USED}') WHERE word IS NULL; UPDATE words SET key_d8c5 = NULL;")
+        said += says(blocks[2])
+        mended = f"SELECT count(*), count(key_d8c5), count(*) FILTER (WHERE key_d8c5 = uca_key(word, '{NEXT}')) FROM words;"
+        same(says(mended), "6|5|5\n", "the keys after step 2, one without a text")
+        says("DELETE FROM words WHERE word IS NULL;")
+        said += says(blocks[3])
+        wrong = says(f"UPDATE words SET key_d8c5 = uca_key(word, '{USED}');", fails=True)
+        if "violates check constraint" not in wrong:
+            raise AssertionError(f"an old key in the new column: {wrong}")
+        query = f"SELECT word FROM words WHERE key_e7f5 = uca_key('ch', '{USED}');"
+        same(says(query), "ch\n", "a query of the old keys before step 4")
+        said += says(blocks[4])
+        same(says(query, fails=True), 'ERROR:  column "key_e7f5" does not exist', "a query of the old keys after step 4")
         same(said.splitlines(), re.findall(r"^-- (.*)", "".join(blocks), re.M), "the page's statements")
-        same(says(f"SELECT count(*) FROM words WHERE key = uca_key(word, '{NEXT}'); INSERT INTO words VALUES ('e') RETURNING key = uca_key('e', '{NEXT}');"), "5\nt\n", "the page's table")
+        same(says(f"SELECT count(*) FROM words WHERE key_d8c5 = uca_key(word, '{NEXT}'); INSERT INTO words VALUES ('e') RETURNING key_d8c5 = uca_key('e', '{NEXT}');"), "5\nt\n", "the page's table")
         without = re.sub("uca.(next_.*|changes|certificate)_file.*\n", "", settings)
         server.restart(without.replace("/table.txt", "/next_table.txt").replace("/data.txt", "/next_data.txt"))
-        same(says("SELECT uca_use_files(); INSERT INTO words VALUES ('f') RETURNING key = uca_key('f');"), "0\nt\n", "the page's table afterwards")
+        same(says("SELECT uca_use_files(); INSERT INTO words VALUES ('f') RETURNING key_d8c5 = uca_key('f');"), "0\nt\n", "the page's table afterwards")
 
 
 def postgresql_like(program):

@@ -9,7 +9,7 @@ The files are those of tests/by_hand/editions.py, and the lines too: 100,000, un
 installed. In each database
 
 - the keys of the lines are made by the old edition, and then taken to the new one by the statements of docs/BINDINGS.md;
-- the move is killed at several moments, eight as a rule, and each row has to be as it was, or as it will be;
+- the move is killed at several moments inside of its transaction, eight as a rule, and each row has to be as it was, or as it will be;
 - other connections add, change and delete rows meanwhile;
 - then each key has to be the one that `uca keys` prints under the new edition, and the order that of `uca sort`.
 
@@ -109,14 +109,13 @@ class Sqlite:
         return said, time.perf_counter() - start
 
     def fill(self, table):
-        """A new database with a table of the lines."""
+        """A new database with a table of the lines, which are its first column."""
         for it in (self.path, f"{self.path}-wal", f"{self.path}-shm", f"{self.path}-journal"):
             if os.path.exists(it):
                 os.remove(it)
         with sqlite3.connect(self.path) as made:
             made.execute(f"CREATE TABLE {table}")
-            name = table.partition("(")[0]
-            made.executemany(f"INSERT INTO {name} VALUES (?)" if name == "names" else f"INSERT INTO {name}(word) VALUES (?)", ((it,) for it in self.given.lines))
+            made.executemany(f"INSERT INTO {table.partition(' ')[0]}) VALUES (?)", ((it,) for it in self.given.lines))
         made.close()
 
     def rows(self, table="words", column="word", by="key"):
@@ -125,61 +124,129 @@ class Sqlite:
         said, _ = self.run(f"SELECT hex(CAST({column} AS BLOB)), {key} FROM {table} ORDER BY {by}, rowid;")
         return [(bytes.fromhex(word).decode(), digits) for word, digits in (it.split("\t") for it in said.splitlines())]
 
+    def is_inside(self):
+        """Whether a transaction has begun to write and has not ended: it has a journal."""
+        return os.path.exists(f"{self.path}-journal")
+
+    def start_inside(self, script):
+        """A process that runs the script, whose transaction has begun to write."""
+        process = self.start(script)
+        while not self.is_inside():
+            if process.poll() is not None:
+                raise AssertionError(f"no transaction was seen: {process.stdout.read().decode()[-300:]}")
+            time.sleep(0.0005)
+        return process
+
+    def seconds_inside(self, script):
+        """How many seconds the transaction of the script takes from its first write on."""
+        process = self.start_inside(script)
+        start = time.perf_counter()
+        while self.is_inside():
+            time.sleep(0.0005)
+        end = time.perf_counter()
+        said = process.stdout.read().decode()
+        if process.wait():
+            raise AssertionError(f"sqlite3: {said[-300:]}")
+        return end - start
+
     def is_killed(self, what, script, seconds, state, states):
-        """The script is killed at several moments of its time. Each time the state is one of two, and the file is kept as it was before."""
-        kept, found = f"{self.path}.kept", []
+        """The script is killed at several moments of its transaction. Each time the state is one of two, and the file is kept as it was before. The
+        journal that a killed process leaves shows that its transaction had not ended."""
+        kept, found, inside = f"{self.path}.kept", [], 0
         shutil.copy(self.path, kept)
-        for at in range(1, self.given.kills + 1):
-            process = self.start(script)
-            time.sleep(seconds * at / (self.given.kills + 1))
+        for at in range(self.given.kills):
+            process = self.start_inside(script)
+            time.sleep(seconds * at / self.given.kills)
             process.send_signal(signal.SIGKILL)
             process.wait()
+            inside += self.is_inside()
             its_state = state()
             found.append(states.index(its_state) if its_state in states else 2)
             for it in (f"{self.path}-wal", f"{self.path}-shm", f"{self.path}-journal"):
                 if os.path.exists(it):
                     os.remove(it)
             shutil.copy(kept, self.path)
-        see(f"{what}: killed in the middle, it leaves a whole state", 2 not in found and 2 * found.count(0) >= self.given.kills, f"{found.count(0)} times the old one, {found.count(1)} times the new one")
+        see(f"{what}: it is killed inside of its transaction", 2 * inside >= self.given.kills > 0, f"{inside} of {self.given.kills} times")
+        see(f"{what}: killed in the middle, it leaves a whole state", 2 not in found and found.count(0) >= inside, f"{found.count(0)} times the old one, {found.count(1)} times the new one")
+
+
+class Writer:
+    """A connection that adds rows all the time. It knows the fingerprint of each key, and when it wrote."""
+
+    def __init__(self, database, texts):
+        self.database, self.texts, self.stops = database, texts, threading.Event()
+        self.batches, self.error = [], None
+        self.thread = threading.Thread(target=self.write, daemon=True)
+        self.thread.start()
+
+    def write(self):
+        insert = "INSERT INTO words SELECT {0}, uca_key({0}, fingerprint) FROM made_by RETURNING (SELECT fingerprint FROM made_by);\n"
+        for at in range(0, len(self.texts), 20):
+            if self.stops.is_set():
+                return
+            start = time.perf_counter()
+            try:
+                said, _ = self.database.run("".join(insert.format(bindings.quoted(it)) for it in self.texts[at : at + 20]))
+            except AssertionError as error:
+                self.error = error
+                return
+            self.batches.append((start, time.perf_counter(), said.split()))
+
+    def wait_for(self, fingerprint):
+        """Waits until it has added rows by this fingerprint."""
+        while self.thread.is_alive() and not any(fingerprint in it for _, _, it in self.batches):
+            time.sleep(0.01)
+
+    def stop(self):
+        self.stops.set()
+        self.thread.join()
+        return self.batches
 
 
 def sqlite_keys(work, given):
     """The keys of a table are taken to the new edition, while another connection adds rows."""
     database = Sqlite(work, given)
     database.fill("words(word TEXT, key BLOB)")
-    database.run(f"CREATE TABLE made_by(fingerprint TEXT NOT NULL); INSERT INTO made_by VALUES ('{given.old}');"
-                 "UPDATE words SET key = uca_key(word, fingerprint) FROM made_by; CREATE INDEX by_key ON words(key);")
-    page = statements("A new edition in SQLite", given)[0]
-    move = page[page.index("BEGIN IMMEDIATE;") : page.index("COMMIT;") + len("COMMIT;")]
+    made, page, _ = statements("A new edition in SQLite", given)
+    of_made_by = made[made.index("CREATE TABLE made_by") : made.index("CREATE TABLE words")]
+    triggers = made[made.index("CREATE TRIGGER") : made.index("INSERT INTO words")]
+    database.run(f"{of_made_by} UPDATE words SET key = uca_key(word, fingerprint) FROM made_by; CREATE INDEX by_key ON words(key);\n{triggers}")
+    move = re.search(r"^UPDATE made_by .*;$", page, re.M).group()
     affected, seconds = database.run(f"SELECT count(*) FROM words WHERE uca_affected(word, '{given.old}', '{given.new}');")
     see("SQLite: there are affected lines, and others", 100 < int(affected) < len(given.lines), f"{int(affected):,} of {len(given.lines):,}, found in {seconds:.1f} s")
     count = f"SELECT fingerprint, (SELECT count(*) FROM words WHERE key = uca_key(word, fingerprint)) FROM made_by;"
     states = [f"{it}\t{len(given.lines)}\n" for it in (given.old, given.new)]
     kept = bindings.content(database.path)
-    _, seconds = database.run(move)
+    seconds = database.seconds_inside(move)
     with open(database.path, "wb") as file:
         file.write(kept)
     database.is_killed("SQLite: a table of keys", move, seconds, lambda: database.run(count)[0], states)
-    others = given.others[:300]
-    writer = database.start("".join(f"INSERT INTO words SELECT {bindings.quoted(it)}, uca_key({bindings.quoted(it)}, fingerprint) FROM made_by;\n" for it in others))
+    writer = Writer(database, given.others)
+    writer.wait_for(given.old)
+    start = time.perf_counter()
     _, seconds = database.run(move)
-    said = writer.stdout.read().decode()
-    see("SQLite: rows that come in meanwhile", writer.wait() == 0, said or f"{len(others)} rows; the move took {seconds:.1f} s")
-    see("SQLite: no key is another one", database.run(count)[0] == f"{given.new}\t{len(given.lines) + len(others)}\n", "by uca_key")
+    end = time.perf_counter()
+    writer.wait_for(given.new)
+    batches = writer.stop()
+    meanwhile = sum(len(it) for begin, last, it in batches if begin < end and last > start)
+    by_old, by_new = (sum(it.count(one) for _, _, it in batches) for one in (given.old, given.new))
+    see("SQLite: rows come in while the move runs", writer.error is None and meanwhile > 0, writer.error or f"{meanwhile} rows; the move took {seconds:.1f} s")
+    see("SQLite: rows come in by both editions", by_old > 0 and by_new > 0, f"{by_old} by the old one, {by_new} by the new one")
+    see("SQLite: no key is another one", database.run(count)[0] == f"{given.new}\t{len(given.lines) + by_old + by_new}\n", "by uca_key")
     given.check("SQLite", database.rows())
 
 
 def sqlite_texts(work, given):
     """An index that holds texts: only affected rows are taken out and put back."""
     database = Sqlite(work, given)
-    database.fill("names(name TEXT)")
+    database.fill("names(name TEXT, note TEXT)")
     database.run(f"CREATE INDEX by_name ON names(name COLLATE uca_{given.old});")
-    page = statements("A new edition in SQLite", given)[1]
+    page = statements("A new edition in SQLite", given)[2]
     move = page[page.index("BEGIN IMMEDIATE;") : page.index("COMMIT;") + len("COMMIT;")]
     ok = lambda fingerprint: f"SELECT integrity_check FROM pragma_integrity_check LIMIT 1; SELECT count(*) FROM names WHERE name > '' COLLATE uca_{fingerprint}; SELECT sql FROM sqlite_schema WHERE name = 'by_name';"
     states = [database.run(ok(given.old))[0]]
     kept = bindings.content(database.path)
-    _, seconds = database.run(move)
+    seconds = database.seconds_inside(move)
     states.append(database.run(ok(given.new))[0])
     see("SQLite: an index of texts is in order", states[1].startswith("ok\n") and given.new in states[1] and given.old not in states[1], f"the move took {seconds:.1f} s")
     rows = database.rows("names", "name", f"name COLLATE uca_{given.new}")
@@ -187,7 +254,10 @@ def sqlite_texts(work, given):
     see("SQLite: a query reads that index", "by_name" in plan, plan.splitlines()[-1])
     given.check("SQLite: an index of texts", rows)
     _, again = database.run(f"DROP INDEX by_name; CREATE INDEX by_name ON names(name COLLATE uca_{given.new});")
-    print(f"     to make this index again takes {again:.1f} s")
+    with open(database.path, "wb") as file:
+        file.write(kept)
+    less = database.seconds_inside(re.sub(r"CREATE TABLE tested.*DROP TABLE tested;\n", "", move, flags=re.S))
+    print(f"     to make this index again takes {again:.1f} s, and the move without the test of the index {less:.1f} s")
     with open(database.path, "wb") as file:
         file.write(kept)
     state = lambda: database.run(ok(given.new if given.new in database.run("SELECT sql FROM sqlite_schema WHERE name = 'by_name';")[0] else given.old))[0]
@@ -264,7 +334,7 @@ def escaped(text):
 
 def postgresql_is_killed(store, update, seconds, given):
     """The UPDATE is killed at several moments, the last time with the server. The rows that were there before have no new key then."""
-    waiting = f"SELECT count(*) FROM words WHERE next_key IS NULL; SELECT count(*) FROM words WHERE next_key IS DISTINCT FROM uca_key(word, '{given.new}') AND next_key IS NOT NULL;"
+    waiting = f"SELECT count(*) FROM words WHERE key_d8c5 IS NULL; SELECT count(*) FROM words WHERE key_d8c5 IS DISTINCT FROM uca_key(word, '{given.new}') AND key_d8c5 IS NOT NULL;"
     found = []
     for at in range(1, given.kills + 1):
         before = int(store.run(waiting)[0].split()[0])
@@ -274,7 +344,7 @@ def postgresql_is_killed(store, update, seconds, given):
             store.server.call("pg_ctl", "-w", "-m", "immediate", "stop")
             store.server.start(store.settings)
         else:
-            store.run("SELECT pg_terminate_backend(pid) FROM pg_stat_activity WHERE query LIKE 'UPDATE words SET next_key%' AND pid <> pg_backend_pid();")
+            store.run("SELECT pg_terminate_backend(pid) FROM pg_stat_activity WHERE query LIKE 'UPDATE words SET key_d8c5%' AND pid <> pg_backend_pid();")
         errors = process.stderr.read().decode()
         process.wait()
         after, wrong = map(int, store.run(waiting)[0].split())
@@ -297,7 +367,7 @@ def postgresql_keys(work, given):
         lines = "".join(f"{escaped(it)}\n" for it in given.lines)
         _, seconds = store.run(f"COPY words(word) FROM STDIN;\n{lines}\\.\n")
         print(f"     {len(given.lines):,} rows come in, with their keys: {seconds:.1f} s")
-        store.run("CREATE INDEX by_id ON words (id); CREATE INDEX by_key ON words (key); ANALYZE words;")
+        store.run("CREATE INDEX by_id ON words (id); CREATE INDEX by_key ON words (key_e7f5); ANALYZE words;")
         writers = Writers(store, given)
         time.sleep(1)
         _, seconds = store.run(step1)
@@ -319,9 +389,9 @@ def postgresql_keys(work, given):
         numbers = sorted(number for _, number in added)
         there = sum(int(store.run(f"SELECT count(*) FROM words WHERE id IN ({', '.join(map(str, numbers[at : at + 5000]))});")[0]) for at in range(0, len(numbers), 5000))
         see("PostgreSQL: each row that came in is there", 0 < len(numbers) == there, f"{len(numbers):,} rows")
-        wrong, _ = store.run(f"SELECT count(*) FROM words WHERE key IS DISTINCT FROM uca_key(word, '{given.new}');")
+        wrong, _ = store.run(f"SELECT count(*) FROM words WHERE key_d8c5 IS DISTINCT FROM uca_key(word, '{given.new}');")
         see("PostgreSQL: no key is another one", wrong == "0\n", wrong.strip())
-        said, _ = store.run("SET enable_seqscan = off; SELECT encode(convert_to(word, 'UTF8'), 'hex'), upper(encode(key, 'hex')) FROM words ORDER BY key, id;")
+        said, _ = store.run("SET enable_seqscan = off; SELECT encode(convert_to(word, 'UTF8'), 'hex'), upper(encode(key_d8c5, 'hex')) FROM words ORDER BY key_d8c5, id;")
         given.check("PostgreSQL", [(bytes.fromhex(word).decode(), key) for word, key in (it.split("|") for it in said.splitlines())])
 
 
