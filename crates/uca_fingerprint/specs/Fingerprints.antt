@@ -5,6 +5,8 @@ use Rattle.hex.specs.Hex.{encode_lower}
 use Rattle.sha2.specs.Sha256.{sha256}
 use Rattle.uca_weights.specs.declared.Depth.{Depth}
 use Rattle.uca_weights.specs.declared.Depth.TheVariants.{Weights, Identical}
+use Rattle.uca_weights.specs.declared.Numbers.{Numbers}
+use Rattle.uca_weights.specs.declared.Numbers.TheVariants.{AsText, ByValue}
 use Rattle.uca_weights.specs.declared.Settings.{Settings}
 use Rattle.uca_weights.specs.WeightingText.{weighting_text}
 
@@ -25,13 +27,19 @@ depth_text Identical = codes "identical"
 abbrev pub value_line : List ℕ → List ℕ → List ℕ
 value_line name value = name ++ (value ++ 10 ∷ [])
 
--- what keys are made by, in six lines; files are named by the SHA-256 of their bytes
+-- numbers by value have a line more
+abbrev pub numbers_line : Numbers → List ℕ
+numbers_line AsText = []
+numbers_line ByValue = value_line (codes "numbers ") (codes "by value")
+
+-- what keys are made by, in six lines or seven; files are named by the SHA-256 of their bytes
 unfoldable pub fingerprint_text : Settings → List ℕ → List ℕ → List ℕ
 fingerprint_text settings table_sum data_sum =
     value_line (codes "uca keys ") (codes "1")
     ++ value_line (codes "unicode ") edition
     ++ value_line (codes "weighting ") (weighting_text settings.weighting)
     ++ value_line (codes "depth ") (depth_text settings.depth)
+    ++ numbers_line settings.numbers
     ++ value_line (codes "table ") (encode_lower table_sum)
     ++ value_line (codes "data ") (encode_lower data_sum)
 

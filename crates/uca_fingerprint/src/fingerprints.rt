@@ -9,13 +9,14 @@ ghost use Rattle.uca_fingerprint.specs.Fingerprints.{
   compact_fingerprint_text,
   fingerprint,
   fingerprint_text,
+  numbers_line,
   value_line,
 };
 
 use crate::texts::{depth_name, edition};
 use hex::encode_to_slice;
 use sha2::{Digest, Sha256};
-use uca_weights::Settings;
+use uca_weights::{Numbers, Settings};
 
 /// The SHA-256 of the bytes of a file (FIPS 180-4).
 pub fn sum(bytes: &[u8]) -> [u8; 32]
@@ -42,13 +43,25 @@ fn add_line(hasher: &mut Sha256, name: &str, value: &[u8])
     hasher.update(b"\n");
 }
 
-/// The fingerprint of settings and two files, these by the SHA-256 of each: the SHA-256 of a text in six lines.
+// Adds the line of numbers by value, if they are.
+fn add_numbers(hasher: &mut Sha256, numbers: Numbers)
+    ensures { (text : List ℕ) → Holds256 hasher.old text → Holds256 hasher.new (text ++ numbers_line numbers) }
+{
+    match numbers {
+        Numbers::AsText => {}
+        Numbers::ByValue => add_line(hasher, "numbers ", b"by value"),
+    }
+}
+
+/// The fingerprint of settings and two files, these by the SHA-256 of each: the SHA-256 of a text in six lines. Where
+/// numbers are ordered by value, a seventh line comes after that of the depth.
 ///
 /// ```text
 /// uca keys 1
 /// unicode 18.0.0
 /// weighting shifted
 /// depth weights
+/// numbers by value
 /// table 64 lower-case hexadecimal digits
 /// data 64 lower-case hexadecimal digits
 /// ```
@@ -64,6 +77,7 @@ pub fn fingerprint_of_sums(settings: Settings, table: &[u8; 32], data_file: &[u8
         settings.weighting.name().as_bytes(),
     );
     add_line(&mut hasher, "depth ", depth_name(settings.depth).as_bytes());
+    add_numbers(&mut hasher, settings.numbers);
     add_line(&mut hasher, "table ", &digits(table));
     add_line(&mut hasher, "data ", &digits(data_file));
     hasher.finalize()

@@ -3,19 +3,18 @@ use Rattle.std.specs.Prelude.{◌≡◌, ◌≢◌, ℕ, List, ◌++◌, false}
 use Rattle.std.specs.Ordering.{nat_cmp, ordering_then}
 use Rattle.unicode_normalization.specs.Forms.{nfd}
 use Rattle.uca_weights.specs.declared.Depth.{Depth}
-use Rattle.uca_weights.specs.declared.Depth.TheVariants.{Weights, Identical}
-use Rattle.uca_weights.specs.declared.Settings.{Settings}
+use Rattle.uca_weights.specs.declared.Depth.TheVariants.{Weights}
+use Rattle.uca_weights.specs.declared.Numbers.TheVariants.{AsText, ByValue}
 use Rattle.uca_weights.specs.declared.Weighting.{Weighting}
 use Rattle.uca_values.specs.Content.{Properties}
 use Rattle.uca_text.specs.Texts.{AreCanonicallyEquivalent}
 use Rattle.uca_elements.specs.Collations.{Collation}
 use Rattle.uca_order.specs.Levels.{lexicographic}
-use Rattle.uca_order.specs.Depths.{levels_at, compared_at, key_at, text_key}
-use Rattle.uca_order.specs.StoredKeys.{stored_level}
+use Rattle.uca_order.specs.Depths.{compared_at, key_at, read_points, text_key, written_text}
 use Rattle.uca_numbers.specs.Numbers.{value}
 use Rattle.uca_numbers.specs.Texts.{by_value, has_digit, IsNumberBetween}
 use Rattle.uca_number_keys.specs.Tables.{OrdersNumbers}
-use Rattle.uca_number_keys.specs.Keys.{read_by_value, first_level, numeric_text, read_numeric, numeric_key, numeric_texts_compared}
+use Rattle.uca_number_keys.specs.Keys.{read_by_value, first_level}
 
 -- Two texts in Normalization Form D, each with a number in it. What comes before these does not differ at level 1.
 pub record HaveNumbers (c : Collation) (weighting : Weighting) (front a rest other b more : List ℕ) : Type 0 where
@@ -49,30 +48,18 @@ LeadingZerosMeanNothing = (c : Collation) (front a b rest : List ℕ) → IsNumb
 
 -- What such a text is read as by value is what its Normalization Form D is read as by value. So the laws above speak of it too.
 abbrev pub NumericTextsReadByValue : Type 0
-NumericTextsReadByValue = (c : Collation) (points : List ℕ) → read_numeric c points ≡ read_by_value c (nfd points)
+NumericTextsReadByValue = (c : Collation) (points : List ℕ) → read_points c ByValue points ≡ read_by_value c (nfd points)
 
--- Canonically equivalent texts have the same limits and one key, and with an identical level no other texts have this key.
-pub record EquivalentTextsHaveOneNumericKey : Type 0 where
-  pub limits : (properties : Properties) (left right : List ℕ) → AreCanonicallyEquivalent left right →
-      numeric_text properties left ≡ numeric_text properties right
-  pub keys : (c : Collation) (settings : Settings) (left right : List ℕ) → AreCanonicallyEquivalent left right →
-      numeric_key c settings left ≡ numeric_key c settings right
-  pub no_others : (c : Collation) (weighting : Weighting) (left right : List ℕ) →
-      let settings : Settings = record { weighting = weighting; depth = Identical } in
-      numeric_key c settings left ≡ numeric_key c settings right → AreCanonicallyEquivalent left right
-
--- The bytes of two keys give the order of the texts and the level at which they differ.
-pub record NumericKeysCompareAsTexts : Type 0 where
-  pub order : (c : Collation) (settings : Settings) (left right : List ℕ) →
-      lexicographic (numeric_key c settings left) (numeric_key c settings right) ≡ (numeric_texts_compared c settings left right).order
-  pub level : (c : Collation) (settings : Settings) (left right : List ℕ) →
-      stored_level (levels_at settings.depth settings.weighting) (numeric_key c settings left) (numeric_key c settings right)
-      ≡ (numeric_texts_compared c settings left right).level
+-- Canonically equivalent texts have the same limits.
+abbrev pub EquivalentTextsHaveTheSameLimits : Type 0
+EquivalentTextsHaveTheSameLimits = (properties : Properties) (left right : List ℕ) → AreCanonicallyEquivalent left right →
+    written_text ByValue properties left ≡ written_text ByValue properties right
 
 -- Without an identical level the key is that of the text by value. A text without digits has the key that it has as a text.
 pub record NumericKeysAreOfTextsByValue : Type 0 where
   pub weights : (c : Collation) (weighting : Weighting) (points : List ℕ) →
-      let settings : Settings = record { weighting = weighting; depth = Weights } in
-      numeric_key c settings points ≡ text_key c settings (by_value points)
-  pub without_digits : (c : Collation) (settings : Settings) (points : List ℕ) → has_digit points ≡ false →
-      numeric_key c settings points ≡ text_key c settings points
+      text_key c (record { weighting = weighting; depth = Weights; numbers = ByValue }) points
+      ≡ text_key c (record { weighting = weighting; depth = Weights; numbers = AsText }) (by_value points)
+  pub without_digits : (c : Collation) (weighting : Weighting) (depth : Depth) (points : List ℕ) → has_digit points ≡ false →
+      text_key c (record { weighting = weighting; depth = depth; numbers = ByValue }) points
+      ≡ text_key c (record { weighting = weighting; depth = depth; numbers = AsText }) points

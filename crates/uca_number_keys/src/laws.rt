@@ -1,6 +1,6 @@
 //! What is true of texts with numbers. The functions do nothing: their contracts are the laws.
 
-ghost use Rattle.uca_number_keys.specs.Laws.{NumbersOrderTexts, LeadingZerosMeanNothing, NumericTextsReadByValue, EquivalentTextsHaveOneNumericKey, NumericKeysCompareAsTexts, NumericKeysAreOfTextsByValue};
+ghost use Rattle.uca_number_keys.specs.Laws.{NumbersOrderTexts, LeadingZerosMeanNothing, NumericTextsReadByValue, EquivalentTextsHaveTheSameLimits, NumericKeysAreOfTextsByValue};
 
 /// Two texts that do not differ at level 1 before a number are ordered by the values of these numbers: `file 9` comes
 /// before `File 10`. This holds at either depth, under either weighting, and of the bytes of keys. If the values are
@@ -21,15 +21,9 @@ pub fn numeric_texts_read_by_value()
     ensures { NumericTextsReadByValue }
 {}
 
-/// Canonically equivalent texts (UAX #15) have the same limits and equal keys. With an identical level other texts have
-/// other keys.
-pub fn equivalent_texts_have_one_numeric_key()
-    ensures { EquivalentTextsHaveOneNumericKey }
-{}
-
-/// Two keys give the order of their texts and the level at which they differ, by their bytes alone.
-pub fn numeric_keys_compare_as_texts()
-    ensures { NumericKeysCompareAsTexts }
+/// Canonically equivalent texts (UAX #15) have the same limits, which are those of the text by value.
+pub fn equivalent_texts_have_the_same_limits()
+    ensures { EquivalentTextsHaveTheSameLimits }
 {}
 
 /// Without an identical level, the key of `a10` is that of the text `a210`. A text without digits has the key that it has if

@@ -6,3 +6,4 @@ pub mod Rewriting
 pub mod Bytes
 pub mod CodeDigits
 pub mod Written
+pub mod Strings

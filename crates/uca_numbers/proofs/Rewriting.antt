@@ -1,5 +1,6 @@
 -- Each number of a text becomes its code, and nothing else changes.
-use Rattle.std.proofs.Common.{◌≡◌, ℕ, ◌≤◌, List, [], ◌∷◌, ◌++◌, true, false, cond, refl, sym, ap, ◌∙◌, arith, append_assoc, append-nil, inl, inr}
+use Rattle.std.proofs.Common.{◌≡◌, ℕ, ◌≤◌, List, [], ◌∷◌, ◌++◌, Bool, true, false, not, cond, refl, sym, ap, ◌∙◌, arith, append_assoc, append-nil, inl, inr}
+use Rattle.std.specs.Bool.{OnTrue}
 use Rattle.std.specs.List.{AllByRecursion}
 use Rattle.std.proofs.lemmas.Bool.Decides.{nat_tests}
 use Rattle.std.proofs.lemmas.Bool.{cases_Bool}
@@ -91,3 +92,8 @@ codes_stand = record {
       ∙ ap (λ l. by_value front ++ l) (through_digits [] number rest (number_digits number between.is_number) ∙ number_ends number rest between.begins);
   other = no_digits_stay;
 }
+
+-- a text without digits stays as it is
+pub without_digits : (has : Bool) (points : List ℕ) → has ≡ has_digit points → OnTrue (not has) (by_value points ≡ points)
+without_digits true points is = tt
+without_digits false points is = codes_stand.other points (sym is)

@@ -10,9 +10,8 @@ use Rattle.uca_weights.specs.declared.Depth.{Depth}
 use Rattle.uca_weights.specs.declared.Depth.TheVariants.{Weights, Identical}
 use Rattle.uca_weights.specs.declared.Weighting.{Weighting}
 use Rattle.uca_weights.specs.declared.Weighting.TheVariants.{NonIgnorable, Shifted}
-use Rattle.uca_text.specs.Texts.{nfd_text}
 use Rattle.uca_order.specs.Levels.{Comparison, level_list, level_lists_from, weighted, lexicographic, decided, compare_from, weight_bytes, level_bytes, levels_bytes}
-use Rattle.uca_order.specs.Depths.{ReadText, read_text, levels_at, lists_at, compared_at, points_bytes, key_at}
+use Rattle.uca_order.specs.Depths.{ReadText, read_points, levels_at, lists_at, compared_at, points_bytes, key_at}
 use Rattle.uca_order.specs.StoredKeys.{shared_separators, stored_level}
 use Rattle.uca_order.specs.Laws.{KeysCompareAsTexts, StoredKeysCompareAsTexts, IdenticalKeysAreOfEquivalentTexts}
 use Rattle.uca_order.proofs.KeyOrder.{cmp_less, cmp_greater, then_assoc, then_equal, bytes_order, lexicographic_itself, same_from_lexicographic, AreNonZero, AreLevels, AreLevels-from, order-decided}
@@ -309,8 +308,8 @@ keys_compare_as_texts = record { order = depth_order; level = depth_level; equal
 
 pub stored_texts_compare : StoredKeysCompareAsTexts
 stored_texts_compare c settings left right =
-    let one = read_text c (nfd_text c.properties left) in
-    let other = read_text c (nfd_text c.properties right) in
+    let one = read_points c settings.numbers left in
+    let other = read_points c settings.numbers right in
     (depth_order settings.depth settings.weighting one other, depth_level settings.depth settings.weighting one other)
 
 -- the last of two orders that are equal together
@@ -338,7 +337,7 @@ identical_points Shifted left right same =
     points_equal (level_list 1 vs) (level_list 1 ws) (level_lists_from 2 3 vs) (level_lists_from 2 3 ws) left.points right.points (AreLevels-from 1 4 vs ws) same
 
 pub identical_texts : IdenticalKeysAreOfEquivalentTexts
-identical_texts c weighting left right same = identical_points weighting (read_text c (nfd_text c.properties left)) (read_text c (nfd_text c.properties right)) same
+identical_texts c weighting numbers left right same = identical_points weighting (read_points c numbers left) (read_points c numbers right) same
 
 -- ---- How many levels a comparison can name
 

@@ -2,13 +2,18 @@
 -- one more level comes after the levels of the weights: the code points of the text in Normalization Form D (UTS #10,
 -- section 1.1).
 use Rattle.std.specs.Prelude.{ℕ, suc, ◌/◌, ◌%◌, List, [], ◌∷◌, ◌++◌, flat_map}
+use Rattle.unicode_normalization.specs.Forms.{nfd}
 use Rattle.uca_weights.specs.declared.Depth.{Depth}
 use Rattle.uca_weights.specs.declared.Depth.TheVariants.{Weights, Identical}
 use Rattle.uca_weights.specs.declared.Element.{Element}
+use Rattle.uca_weights.specs.declared.Numbers.{Numbers}
+use Rattle.uca_weights.specs.declared.Numbers.TheVariants.{AsText, ByValue}
 use Rattle.uca_weights.specs.declared.Settings.{Settings}
 use Rattle.uca_weights.specs.declared.Weighting.{Weighting}
+use Rattle.uca_values.specs.Content.{Properties}
 use Rattle.uca_text.specs.Texts.{NfdText, nfd_text}
 use Rattle.uca_elements.specs.Collations.{Collation, elements_of}
+use Rattle.uca_numbers.specs.Texts.{by_value}
 use Rattle.uca_order.specs.Levels.{Comparison, level_lists, level_count, compare_from, key_bytes}
 
 -- what a text is compared by: its collation elements, and its code points in Normalization Form D
@@ -46,11 +51,24 @@ key_at Identical weighting t = key_bytes weighting t.elements ++ (0 ∷ 0 ∷ po
 
 -- ---- Texts that are given as their code points before normalization
 
+-- the text that is read: itself, or with the code of each number in place of it
+abbrev pub written : Numbers → List ℕ → List ℕ
+written AsText points = points
+written ByValue points = by_value points
+
+-- the same in Normalization Form D; the limits of a text are those of this one
+abbrev pub written_text : Numbers → Properties → List ℕ → NfdText
+written_text numbers properties points = nfd_text properties (written numbers points)
+
+-- What such a text is compared by. Its elements are those of what is read; at an identical level it is itself.
+abbrev pub read_points : Collation → Numbers → List ℕ → ReadText
+read_points c numbers points = record { elements = elements_of c (written_text numbers c.properties points); points = nfd points }
+
 -- the sort key of such a text
 abbrev pub text_key : Collation → Settings → List ℕ → List ℕ
-text_key c settings points = key_at settings.depth settings.weighting (read_text c (nfd_text c.properties points))
+text_key c settings points = key_at settings.depth settings.weighting (read_points c settings.numbers points)
 
 -- how two of them compare
 abbrev pub texts_compared : Collation → Settings → List ℕ → List ℕ → Comparison
 texts_compared c settings left right =
-    compared_at settings.depth settings.weighting (read_text c (nfd_text c.properties left)) (read_text c (nfd_text c.properties right))
+    compared_at settings.depth settings.weighting (read_points c settings.numbers left) (read_points c settings.numbers right)

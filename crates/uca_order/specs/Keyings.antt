@@ -1,6 +1,8 @@
 -- What keys go by: what texts are read by, and settings. And the keys of texts by it.
 use Rattle.std.specs.Prelude.{ℕ, List, Option, chars, unwrap_or}
+use Rattle.uca_weights.specs.declared.Asked.{Asked}
 use Rattle.uca_weights.specs.declared.Depth.{Depth}
+use Rattle.uca_weights.specs.declared.Numbers.TheVariants.{AsText}
 use Rattle.uca_weights.specs.declared.Settings.{Settings}
 use Rattle.uca_weights.specs.declared.Weighting.{Weighting}
 use Rattle.uca_weights.specs.declared.Weighting.TheVariants.{Shifted}
@@ -10,7 +12,7 @@ use Rattle.uca_elements.specs.Rows.{Rows, rows_of}
 use Rattle.uca_elements.specs.Collations.{Collation, collation_of, collation_over}
 use Rattle.uca_elements.specs.declared.collator.Collator.{Collator}
 use Rattle.uca_order.specs.Levels.{Comparison}
-use Rattle.uca_order.specs.Depths.{read_text, compared_at, key_at, text_key, texts_compared}
+use Rattle.uca_order.specs.Depths.{written_text, text_key, texts_compared}
 
 -- what keys go by
 pub record Keying : Type 0 where
@@ -31,29 +33,29 @@ keying_of content collator chosen = keying_by (collation_of content collator) ch
 abbrev pub weighting_by : Option Weighting → Option Weighting → Weighting
 weighting_by asked setting = unwrap_or asked (unwrap_or setting Shifted)
 
--- the settings with it
-abbrev pub settings_by : Option Weighting → Option Weighting → Depth → Settings
-settings_by asked setting depth = record { weighting = weighting_by asked setting; depth = depth }
+-- what is asked for where numbers compare as any other text
+abbrev pub as_text : Option Weighting → Depth → Asked
+as_text weighting depth = record { weighting = weighting; depth = depth; numbers = AsText }
+
+-- the settings of what is asked for, with that weighting
+abbrev pub settings_by : Asked → Option Weighting → Settings
+settings_by asked setting = record { weighting = weighting_by asked.weighting setting; depth = asked.depth; numbers = asked.numbers }
 
 -- what keys go by with these rows, the header of a table, and the properties of a data file
-abbrev pub keying_over : Rows → HeaderContent → Option Weighting → Depth → Properties → Keying
-keying_over rows header asked depth properties = keying_by (collation_over rows header properties) (settings_by asked header.setting depth)
+abbrev pub keying_over : Rows → HeaderContent → Asked → Properties → Keying
+keying_over rows header asked properties = keying_by (collation_over rows header properties) (settings_by asked header.setting)
 
 -- what they go by under a table and the properties of a data file
-abbrev pub keying : Option Weighting → Depth → TableContent → Properties → Keying
-keying asked depth table properties = keying_over (rows_of table.rows) table.header asked depth properties
+abbrev pub keying : Asked → TableContent → Properties → Keying
+keying asked table properties = keying_over (rows_of table.rows) table.header asked properties
 
--- ---- Keys and comparisons by it
+-- ---- Texts that are given as bytes of UTF-8
 
--- the sort key of a text in Normalization Form D
-abbrev pub key_of_text : Keying → NfdText → List ℕ
-key_of_text k text = key_at k.settings.depth k.settings.weighting (read_text k.collation text)
+-- what is read of such a text, in Normalization Form D
+abbrev pub text_of : Keying → List ℕ → NfdText
+text_of k bytes = written_text k.settings.numbers k.collation.properties (chars bytes)
 
--- how two such texts compare
-abbrev pub compared_by : Keying → NfdText → NfdText → Comparison
-compared_by k left right = compared_at k.settings.depth k.settings.weighting (read_text k.collation left) (read_text k.collation right)
-
--- the sort key of a text that is given as bytes of UTF-8
+-- its sort key
 abbrev pub key_of_bytes : Keying → List ℕ → List ℕ
 key_of_bytes k bytes = text_key k.collation k.settings (chars bytes)
 

@@ -4,6 +4,7 @@ use Rattle.uca_weights.specs.declared.Element.{Element}
 use Rattle.uca_weights.specs.declared.Weighting.{Weighting}
 use Rattle.uca_weights.specs.declared.Depth.{Depth}
 use Rattle.uca_weights.specs.declared.Depth.TheVariants.{Identical}
+use Rattle.uca_weights.specs.declared.Numbers.{Numbers}
 use Rattle.uca_weights.specs.declared.Settings.{Settings}
 use Rattle.uca_weights.specs.Kinds.{IsCompletelyIgnorable}
 use Rattle.uca_values.specs.Content.{Entry, AreRows}
@@ -55,8 +56,8 @@ CanonicallyEquivalentTextsHaveEqualKeys = (c : Collation) (settings : Settings) 
 
 -- With an identical level texts that are not canonically equivalent have different keys.
 abbrev pub IdenticalKeysAreOfEquivalentTexts : Type 0
-IdenticalKeysAreOfEquivalentTexts = (c : Collation) (weighting : Weighting) (left right : List ℕ) →
-    let settings : Settings = record { weighting = weighting; depth = Identical } in
+IdenticalKeysAreOfEquivalentTexts = (c : Collation) (weighting : Weighting) (numbers : Numbers) (left right : List ℕ) →
+    let settings : Settings = record { weighting = weighting; depth = Identical; numbers = numbers } in
     text_key c settings left ≡ text_key c settings right → AreCanonicallyEquivalent left right
 
 -- The key of every accepted text is short, under rows as those of a table.

@@ -9,6 +9,7 @@ mod laws;
 mod normal_text;
 mod normalize;
 
+pub use decompositions::decompose;
 pub use in_order::occurs_in_order;
 pub use laws::canonically_equivalent_texts_are_normalized_alike;
 pub use normal_text::Normal;

@@ -1,6 +1,6 @@
 pub mod Lists
 pub mod Tests
-pub mod Numbers
+pub mod NumberLemmas
 pub mod WriteLemmas
 pub mod PerLevel
 pub mod RunMaps

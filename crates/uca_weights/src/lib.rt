@@ -74,6 +74,15 @@ pub enum Depth {
     Identical,
 }
 
+/// How the numbers of texts compare. A number is a row of digits U+0030 to U+0039.
+#[derive(Clone, Copy, Debug, PartialEq, Eq)]
+pub enum Numbers {
+    /// As any other text, digit by digit: `file 10` comes before `file 9`.
+    AsText,
+    /// By their values: `file 9` comes before `file 10`. The digits of a table have to rise for that.
+    ByValue,
+}
+
 /// What decides how texts compare, beside a table and a data file. Keys give the order of their texts only among keys of
 /// the same settings, the same table and the same data file, so store the settings with the keys.
 #[derive(Clone, Copy, Debug, PartialEq, Eq)]
@@ -84,6 +93,20 @@ pub struct Settings {
     /// How far texts are compared. `Weights`: by these levels alone, so that some different texts are equal.
     /// `Identical`: by one more level, that of the code points, so that only canonically equivalent texts are equal.
     pub depth: Depth,
+    /// How their numbers compare. `AsText`: digit by digit. `ByValue`: as numbers. Leading zeros count at the depth
+    /// `Identical` alone then.
+    pub numbers: Numbers,
+}
+
+/// Settings that are asked for. They become [`Settings`] by a table, which may have a weighting of its own.
+#[derive(Clone, Copy, Debug, PartialEq, Eq)]
+pub struct Asked {
+    /// The weighting. `None` stands for that of the table's `@variable`, or else for `Shifted`.
+    pub weighting: Option<Weighting>,
+    /// How far texts are compared.
+    pub depth: Depth,
+    /// How their numbers compare.
+    pub numbers: Numbers,
 }
 
 impl Weighting {

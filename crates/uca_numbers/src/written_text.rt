@@ -1,42 +1,50 @@
-//! Memory for a text by value, and the code points of a text.
+//! `WrittenText`: memory for texts by value.
 
 ghost use Rattle.std.specs.Prelude.{◌≡◌, chars, OnOk};
 ghost use Rattle.std.specs.Bool.{OnTrue};
 ghost use Rattle.std.specs.String.{string_bytes};
-ghost use Rattle.unicode_normalization.specs.Forms.{nfd};
 ghost use Rattle.uca_numbers.specs.Texts.{by_value};
 
+use crate::writing::{has_digit, write_by_value};
 use std::alloc::{AllocError, Global};
-use uca_numbers::{has_digit, write_by_value};
-use unicode_normalization::slice::extend_nfd;
+use std::marker::Model;
 
-/// Memory for a text by value.
+/// A text by value. Each text that is written replaces the one before, and the memory is used again.
 #[derive(Drop)]
-pub(crate) struct Written {
-    // the code points of the text, and those of it by value
+pub struct WrittenText {
+    // the code points of the text as it was, and those of it by value
     points: Vec<char>,
     by_value: Vec<char>,
     // the text by value
     text: String,
 }
 
-impl Written {
+impl Model for WrittenText {
+    ghost use Rattle.std.specs.Prelude.{ℕ, List};
+    ghost use Rattle.std.specs.String.{string_bytes};
+
+    ghost Value = { List ℕ };
+
+    ghost view = { λ w. string_bytes w.text };
+}
+
+impl WrittenText {
     /// No text. It takes no memory.
-    pub(crate) fn new(global: Global) -> Written {
-        Written {
+    pub fn new(global: Global) -> WrittenText {
+        WrittenText {
             points: Vec::new(global),
             by_value: Vec::new(global),
             text: String::new(global),
         }
     }
 
-    /// Writes a text by value, over the one that was there.
+    /// Writes a text by value, over the one that was there: `a42` as `a242`.
     ///
     /// # Errors
     ///
-    /// An allocation failed.
-    pub(crate) fn renew(&mut self, text: &str) -> Result<(), AllocError>
-        ensures { OnOk result (chars (string_bytes self.new.text) ≡ by_value (chars text.now)) }
+    /// An allocation failed. The text is then unspecified until the next one is written.
+    pub fn renew(&mut self, text: &str) -> Result<(), AllocError>
+        ensures { OnOk result (chars self.new ≡ by_value (chars text.now)) }
     {
         list_points(&mut self.points, text)?;
         write_by_value(&mut self.by_value, &self.points)?;
@@ -44,36 +52,18 @@ impl Written {
     }
 
     /// The text by value.
-    pub(crate) fn as_str(&self) -> &str
-        ensures { result.now ≡ string_bytes self.now.text }
+    pub fn as_str(&self) -> &str
+        ensures { result.now ≡ self.now }
     {
         self.text.as_str()
     }
 }
 
-/// Whether a text has no digit. It is the same by value then.
-pub(crate) fn has_no_digit(text: &str) -> bool
+/// Whether a text has no digit U+0030 to U+0039. It is the same by value then.
+pub fn has_no_digit(text: &str) -> bool
     ensures { OnTrue result (by_value (chars text.now) ≡ chars text.now) }
 {
     !has_digit(text)
-}
-
-/// Replaces the list by the code points of a text in Normalization Form D (UAX #15). `points` only lends its memory. There are
-/// no limits.
-///
-/// # Errors
-///
-/// An allocation failed.
-pub(crate) fn write_nfd(
-    normal: &mut Vec<char>,
-    points: &mut Vec<char>,
-    text: &str,
-) -> Result<(), AllocError>
-    ensures { OnOk result (normal.new.items ≡ nfd (chars text.now)) }
-{
-    list_points(points, text)?;
-    normal.clear();
-    extend_nfd(normal, points)
 }
 
 // Replaces the list by the code points of a text.

@@ -1,2 +1,0 @@
-pub mod Deciding
-pub mod Rewritten

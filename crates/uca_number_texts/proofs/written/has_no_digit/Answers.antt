@@ -1,6 +1,0 @@
-use Rattle.std.specs.Str.{chars}
-use Rattle.uca_number_texts.proofs.Rewritten.{without_digits}
-use Rattle.uca_number_texts.proofs.written.has_no_digit.Goals as goal
-
-pub returns : goal.returns
-returns c = without_digits c.has_digit.result (chars c.args.text.now) c.has_digit.ensures
