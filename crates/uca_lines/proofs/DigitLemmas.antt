@@ -10,7 +10,7 @@ use Rattle.std.proofs.lemmas.List.Folds.{list_all-append, list_all_more}
 use Rattle.std.proofs.lemmas.Nat.{div-mul-add, mod-mul-add}
 use Rattle.std.proofs.lemmas.Bool.{and_parts}
 use Rattle.std.proofs.lemmas.Bool.Decides.{nat_tests}
-use Rattle.uca_weights.proofs.Numbers.{grows}
+use Rattle.uca_weights.proofs.NumberLemmas.{grows}
 use Rattle.uca_lines.specs.Numbers.{is_decimal_digit, is_hex_digit, number_of, hex_of, decimal_of, weight_of, upper_digit, digits}
 use Rattle.uca_lines.proofs.FieldLemmas.{before_last}
 

@@ -11,7 +11,7 @@ use Rattle.std.specs.Char.{digit_value, is_digit}
 use Rattle.std.specs.Option.{SomeIff}
 use Rattle.std.specs.Str.Parse.{digits_value}
 use lib.Utf8.{scalar}
-use Rattle.uca_weights.proofs.Numbers.{grows}
+use Rattle.uca_weights.proofs.NumberLemmas.{grows}
 use Rattle.uca_rules.specs.declared.characters.Character.{Character}
 use Rattle.uca_rules.specs.Characters.{codes_of}
 use Rattle.uca_rules.specs.Pieces.{number_at}

@@ -1,6 +1,6 @@
 -- The number so far is below 10 to the number of its digits.
 use Rattle.std.proofs.Common.{sym, get_or, arith}
-use Rattle.uca_weights.proofs.Numbers.{grows}
+use Rattle.uca_weights.proofs.NumberLemmas.{grows}
 use Rattle.uca_lines.specs.Numbers.{is_decimal_digit}
 use Rattle.uca_lines.proofs.DigitLemmas.{number_more, decimal_small, decimal_fits}
 use Rattle.uca_lines.proofs.fields.numbers.decimal.Goals as goal
