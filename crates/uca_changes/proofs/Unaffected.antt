@@ -4,6 +4,7 @@ use Rattle.std.specs.Char.{IsScalar}
 use Rattle.std.specs.List.{AllByRecursion}
 use Rattle.unicode_normalization.specs.Forms.{nfd}
 use Rattle.uca_weights.specs.declared.Depth.{Depth}
+use Rattle.uca_weights.specs.declared.Numbers.TheVariants.{AsText}
 use Rattle.uca_weights.specs.declared.Weighting.{Weighting}
 use Rattle.uca_weights.proofs.Lists.{each_weaker, each_contained}
 use Rattle.uca_values.specs.Implicit.{implicit}
@@ -112,7 +113,7 @@ module _ (change : Change) (is : IsChange change) (accepted : IsAcceptedChange c
       (λ made. made)
       (λ kept. kept_is_new change.maps (read_text (old_reading change) (nfd_text change.old_properties text))
       (read_text (new_reading change) (nfd_text change.new_properties text)) (moves text kept.0) depth (old_weighting change asked) key kept.1
-      ∙ ap (λ w. text_key (new_reading change) (record { weighting = w; depth = depth }) text) (sym (chosen asked)))
+      ∙ ap (λ w. text_key (new_reading change) (record { weighting = w; depth = depth; numbers = AsText }) text) (sym (chosen asked)))
       stored
 
   -- the law for the lookups of the tables themselves
@@ -122,7 +123,7 @@ module _ (change : Change) (is : IsChange change) (accepted : IsAcceptedChange c
         chosen = chosen;
         moves = moves;
         compared = λ depth asked left right first second.
-            ap (λ w. texts_compared (new_reading change) (record { weighting = w; depth = depth }) left right) (chosen asked)
+            ap (λ w. texts_compared (new_reading change) (record { weighting = w; depth = depth; numbers = AsText }) left right) (chosen asked)
             ∙ images_compare change.maps is.maps depth (old_weighting change asked) (nfd left) (nfd right)
             (elements_of (old_reading change) (nfd_text change.old_properties left)) (elements_of (old_reading change) (nfd_text change.old_properties right))
             (elements_of (new_reading change) (nfd_text change.new_properties left)) (elements_of (new_reading change) (nfd_text change.new_properties right))
