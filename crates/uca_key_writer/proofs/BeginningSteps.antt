@@ -28,8 +28,9 @@ use Rattle.uca_elements.specs.Collations.{Collation, elements_of}
 use Rattle.uca_plain.specs.declared.plain.KnownPoint.{KnownPoint}
 use Rattle.uca_key_writer.specs.declared.pieces.Piece.{Piece}
 use Rattle.uca_order.specs.Levels.{weight_at, level_list, level_lists_from, level_bytes, levels_bytes, weight_bytes, weights_of, weighted, weighted_following, follows_variable, key_bytes}
-use Rattle.uca_order.specs.Depths.{ReadText, read_text, key_at, text_key, points_bytes}
+use Rattle.uca_order.specs.Depths.{ReadText, read_text, key_at, points_bytes}
 use Rattle.uca_key_writer.specs.Buffers.{KeyState}
+use Rattle.uca_key_writer.specs.inside.AsItIs.{key_as_it_is}
 use Rattle.uca_key_writer.specs.inside.LevelBuffers.{LevelState, HoldsLevels, bytes_of_level}
 use Rattle.uca_key_writer.specs.inside.Pieces.{piece_points, ReadsTo, HasRead}
 use Rattle.uca_plain.specs.PointCache.{BeginsWithStarter, HasTrueDecomposition, counted_on}
@@ -274,14 +275,14 @@ accepted_if_short c text (Err e) utf8 short runs = tt
 
 -- the beginning that was written, whether the text is accepted or not
 pub beginning_if_begun : {E : Type 0} (c : Collation) (held state : KeyState) (xs key : List ℕ) (levels : LevelState) (r : Result Bool E) → held ≡ state
-    → HasBegun c held.settings.weighting xs levels → 16 ≤ length levels.primary → key ≡ levels.primary
-    → IfOk r (λ ok. OnTrue ok (take 16 key ≡ take 16 (text_key c state.settings xs)))
+    → HasBegun c held.weighting xs levels → 16 ≤ length levels.primary → key ≡ levels.primary
+    → IfOk r (λ ok. OnTrue ok (take 16 key ≡ take 16 (key_as_it_is c state.weighting state.depth xs)))
 beginning_if_begun c held state xs key levels r same begun enough is =
-    on_any r (begins_key c state.settings.depth state.settings.weighting xs levels key (subst (λ (s : KeyState). HasBegun c s.settings.weighting xs levels) same begun) enough is)
+    on_any r (begins_key c state.depth state.weighting xs levels key (subst (λ (s : KeyState). HasBegun c s.weighting xs levels) same begun) enough is)
 
 -- a shorter key is whole
-pub whole_if_begun : (c : Collation) (held state : KeyState) (xs key : List ℕ) (levels : LevelState) → held ≡ state → held.settings.depth ≡ Weights
-    → HasBegun c held.settings.weighting xs levels → length levels.primary < 16 → ((es : List Element) → HoldsLevels held.settings.weighting es levels → key ≡ key_bytes held.settings.weighting es)
-    → take 16 key ≡ take 16 (text_key c state.settings xs)
+pub whole_if_begun : (c : Collation) (held state : KeyState) (xs key : List ℕ) (levels : LevelState) → held ≡ state → held.depth ≡ Weights
+    → HasBegun c held.weighting xs levels → length levels.primary < 16 → ((es : List Element) → HoldsLevels held.weighting es levels → key ≡ key_bytes held.weighting es)
+    → take 16 key ≡ take 16 (key_as_it_is c state.weighting state.depth xs)
 whole_if_begun c held state xs key levels same depth begun short joined =
     ap (take 16) (key_if_read c held state true xs key levels same depth (begun.whole short) joined)

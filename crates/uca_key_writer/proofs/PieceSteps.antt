@@ -1,17 +1,16 @@
 -- Reading a text piece by piece, step by step.
-use Rattle.std.proofs.Common.{◌≡◌, ℕ, ◌<◌, ◌≤◌, ◌^◌, length, arith, Bool, true, false, List, [], ◌∷◌, ◌++◌, ◌⊎◌, inl, inr, Some, None, Result, Ok, Err, map, refl, sym, ap, subst, ◌∙◌, append-nil, append_assoc, encode_utf8_all, ◌-◌, take, drop, take-append-drop, length-append}
+use Rattle.std.proofs.Common.{◌≡◌, ℕ, ◌<◌, ◌≤◌, ◌^◌, length, arith, Bool, true, false, List, [], ◌∷◌, ◌++◌, ◌⊎◌, inl, inr, Some, None, Result, Ok, Err, map, refl, sym, ap, subst, ◌∙◌, append_assoc, encode_utf8_all, ◌-◌, take, drop, take-append-drop, length-append}
 use Rattle.std.specs.Prelude.{IfOk}
 use Rattle.std.specs.Bool.{OnTrue}
-use Rattle.std.specs.Char.{encode_utf8}
 use Rattle.std.specs.Str.{chars, IsUtf8, IsCharBoundary}
 use Rattle.std.specs.String.{string_bytes}
 use Rattle.std.proofs.lemmas.Str.{encodes-chars, encodes-append, chars_from_encodes, IsCharBoundary-at_seam}
 use Rattle.std.proofs.lemmas.List.{length-map}
 use Rattle.unicode_normalization.specs.Forms.{nfd, Nfd}
 use Rattle.unicode_normalization.proofs.LengthLemmas.{length-normalize-chars}
+use Rattle.uca_weights.specs.declared.Depth.{Depth}
 use Rattle.uca_weights.specs.declared.Depth.TheVariants.{Weights}
 use Rattle.uca_weights.specs.declared.Element.{Element}
-use Rattle.uca_weights.specs.declared.Settings.{Settings}
 use Rattle.uca_weights.specs.declared.Weighting.{Weighting}
 use Rattle.uca_text.specs.Texts.{NfdText, nfd_text}
 use Rattle.uca_text.specs.Limits.{HasNoLongRun, IsAccepted}
@@ -20,22 +19,16 @@ use Rattle.uca_elements.specs.Collations.{Collation, elements_of}
 use Rattle.uca_plain.specs.declared.plain.KnownPoint.{KnownPoint}
 use Rattle.uca_key_writer.specs.declared.pieces.Piece.{Piece}
 use Rattle.uca_order.specs.Levels.{key_bytes}
-use Rattle.uca_order.specs.Depths.{read_text, key_at, text_key}
+use Rattle.uca_order.specs.Depths.{read_text, key_at}
 use Rattle.uca_order.specs.Lengths.{HasShortRows}
 use Rattle.uca_key_writer.specs.Buffers.{KeyState}
+use Rattle.uca_key_writer.specs.inside.AsItIs.{key_as_it_is}
 use Rattle.uca_key_writer.specs.inside.LevelBuffers.{LevelState, HoldsLevels}
 use Rattle.uca_plain.specs.Plain.{IsPlain}
 use Rattle.uca_plain.specs.PointCache.{IsTrueEntry}
 use Rattle.uca_key_writer.specs.inside.Pieces.{points_by, piece_points, IsTrueAlone, ReadsTo, HasRead}
 use Rattle.uca_order.proofs.KeyLength.{keys_short}
 use Rattle.uca_plain.proofs.PlainTexts.{read_before, plain_texts, plain_no_long_run}
-
--- a text with one more code point
-pub chars_pushed : (old new : List ℕ) (x : ℕ) → IsUtf8 old → IsUtf8 new → new ≡ old ++ encode_utf8 x → chars new ≡ chars old ++ x ∷ []
-chars_pushed old new x utf8 whole is =
-    let bytes : encode_utf8_all (chars old ++ x ∷ []) ≡ new =
-    encodes-append (chars old) (x ∷ []) ∙ ap (λ l. l ++ (encode_utf8 x ++ [])) (encodes-chars old utf8) ∙ ap (λ l. old ++ l) (append-nil (encode_utf8 x)) ∙ sym is in
-    sym (chars_from_encodes (chars old ++ x ∷ []) new whole bytes)
 
 -- a text with more at its end
 pub chars_extended : (old new more : List ℕ) → IsUtf8 old → IsUtf8 new → IsUtf8 more → new ≡ old ++ more → chars new ≡ chars old ++ chars more
@@ -172,19 +165,19 @@ accepted_if_read c weighting true text b utf8 short read = record {
 }
 accepted_if_read c weighting false text b utf8 short read = tt
 
-pub key_if_read : (c : Collation) (held state : KeyState) (accepted : Bool) (xs key : List ℕ) (b : LevelState) → held ≡ state → held.settings.depth ≡ Weights
-    → OnTrue accepted (HasRead c held.settings.weighting xs b) → ((es : List Element) → HoldsLevels held.settings.weighting es b → key ≡ key_bytes held.settings.weighting es)
-    → OnTrue accepted (key ≡ text_key c state.settings xs)
+pub key_if_read : (c : Collation) (held state : KeyState) (accepted : Bool) (xs key : List ℕ) (b : LevelState) → held ≡ state → held.depth ≡ Weights
+    → OnTrue accepted (HasRead c held.weighting xs b) → ((es : List Element) → HoldsLevels held.weighting es b → key ≡ key_bytes held.weighting es)
+    → OnTrue accepted (key ≡ key_as_it_is c state.weighting state.depth xs)
 unfolding HasRead
 key_if_read c held state true xs key b same depth read joined =
-    let by_weights : key ≡ key_at Weights held.settings.weighting (read_text c (nfd_text c.properties xs)) = joined (elements_of c (nfd_text c.properties xs)) read.0 in
+    let by_weights : key ≡ key_at Weights held.weighting (read_text c (nfd_text c.properties xs)) = joined (elements_of c (nfd_text c.properties xs)) read.0 in
     by_weights
-    ∙ ap (λ d. key_at d held.settings.weighting (read_text c (nfd_text c.properties xs))) (sym depth)
-    ∙ ap (λ (s : KeyState). text_key c s.settings xs) same
+    ∙ ap (λ d. key_at d held.weighting (read_text c (nfd_text c.properties xs))) (sym depth)
+    ∙ ap (λ (s : KeyState). key_as_it_is c s.weighting s.depth xs) same
 key_if_read c held state false xs key b same depth read joined = tt
 
-pub short_if_read : (c : Collation) (settings : Settings) (accepted : Bool) (text : NfdText) (key : List ℕ) → HasShortRows c.rows
-    → OnTrue accepted (key ≡ key_at settings.depth settings.weighting (read_text c text)) → OnTrue accepted (IsAccepted text) → OnTrue accepted (length key < 2 ^ 40)
-short_if_read c settings true text key short is accepted =
-    subst (λ (l : List ℕ). length l < 2 ^ 40) (sym is) (keys_short c settings.depth settings.weighting text short accepted)
-short_if_read c settings false text key short is accepted = tt
+pub short_if_read : (c : Collation) (weighting : Weighting) (depth : Depth) (accepted : Bool) (text : NfdText) (key : List ℕ) → HasShortRows c.rows
+    → OnTrue accepted (key ≡ key_at depth weighting (read_text c text)) → OnTrue accepted (IsAccepted text) → OnTrue accepted (length key < 2 ^ 40)
+short_if_read c weighting depth true text key short is accepted =
+    subst (λ (l : List ℕ). length l < 2 ^ 40) (sym is) (keys_short c depth weighting text short accepted)
+short_if_read c weighting depth false text key short is accepted = tt

@@ -10,7 +10,9 @@ use Rattle.uca_text.specs.declared.normalize.TextFault.TheVariants.{Memory}
 use Rattle.uca_elements.specs.Rows.{Rows}
 use Rattle.uca_elements.specs.Collations.{Collation}
 use Rattle.uca_order.specs.Depths.{read_text, key_at, text_key}
+use Rattle.uca_key_writer.specs.Buffers.{KeyState}
 use Rattle.uca_key_writer.specs.Writers.{WriterState, collation_by}
+use Rattle.uca_key_writer.specs.inside.AsItIs.{key_as_it_is}
 use Rattle.uca_plain.proofs.Results.{with_value, fault_is}
 
 -- any text may meet an allocation that fails
@@ -34,7 +36,8 @@ beginning_of_whole c at settings xs key r same =
 pub by_flag : (accepted : Bool) (P : Type 0) → accepted ≡ true → OnTrue accepted P → P
 by_flag accepted P flag says = subst (λ flag. OnTrue flag P) flag says
 
-pub key_of_normal : (c : Collation) (settings at : Settings) (xs key : List ℕ) (text : NfdText) → text ≡ nfd_text c.properties xs
-    → at ≡ settings → key ≡ key_at at.depth at.weighting (read_text c text) → key ≡ text_key c settings xs
-key_of_normal c settings at xs key text found same wrote =
-    wrote ∙ (λ i. key_at (same i).depth (same i).weighting (read_text c (found i)))
+pub key_of_normal : (c : Collation) (before after : KeyState) (xs key : List ℕ) (text : NfdText) → text ≡ nfd_text c.properties xs
+    → after.weighting ≡ before.weighting → after.depth ≡ before.depth → key ≡ key_at after.depth after.weighting (read_text c text)
+    → key ≡ key_as_it_is c before.weighting before.depth xs
+key_of_normal c before after xs key text found weighting depth wrote =
+    wrote ∙ (λ i. key_at (depth i) (weighting i) (read_text c (found i)))

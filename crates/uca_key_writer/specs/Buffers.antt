@@ -1,8 +1,10 @@
 -- What callers see of a buffer for keys.
 use Rattle.std.specs.Prelude.{ℕ, List}
-use Rattle.uca_weights.specs.declared.Settings.{Settings}
+use Rattle.uca_weights.specs.declared.Depth.{Depth}
+use Rattle.uca_weights.specs.declared.Weighting.{Weighting}
 
--- the settings of its keys, and the bytes of the key that was written last
+-- what its keys go by, and the bytes of the key that was written last
 pub record KeyState : Type 0 where
-  pub settings : Settings
+  pub weighting : Weighting
+  pub depth : Depth
   pub key : List ℕ

@@ -1,3 +1,4 @@
 pub mod Buffers
+pub mod Memories
 pub mod Writers
 pub mod inside

@@ -1,3 +1,4 @@
+pub mod AsItIs
 pub mod Beginnings
 pub mod LevelBuffers
 pub mod Pieces

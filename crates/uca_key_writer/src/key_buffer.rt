@@ -5,9 +5,10 @@ ghost use Rattle.std.specs.Bool.{OnTrue};
 ghost use Rattle.uca_text.specs.Texts.{nfd_text};
 ghost use Rattle.uca_text.specs.Limits.{IsAccepted};
 ghost use Rattle.uca_text.specs.Faults.{IsCause};
-ghost use Rattle.uca_elements.specs.Collations.{collation_of};
-ghost use Rattle.uca_order.specs.Depths.{read_text, key_at, text_key};
+ghost use Rattle.uca_elements.specs.Collations.{collation_of, elements_of};
+ghost use Rattle.uca_order.specs.Depths.{read_text, key_at};
 ghost use Rattle.uca_order.specs.Lengths.{HasShortRows};
+ghost use Rattle.uca_key_writer.specs.inside.AsItIs.{key_as_it_is};
 ghost use Rattle.uca_key_writer.specs.inside.LevelBuffers.{HoldsLevels};
 ghost use Rattle.uca_key_writer.specs.inside.Pieces.{ReadsTo, HasRead};
 ghost use Rattle.uca_plain.specs.PointCache.{IsTrueEntry, AreTrueEntries};
@@ -22,13 +23,14 @@ use uca_elements::{Collator, Lookup};
 use uca_plain::plain::{KnownPoint, PointCache, SHORT_TEXT};
 use uca_plain::points::split_first;
 use uca_text::{Normal, TextFault};
-use uca_weights::{Depth, Settings, Weighting};
+use uca_weights::{Depth, Weighting};
 
-/// Memory for sort keys (UTS #10, section 7.3) under the same settings. Each key that is written replaces the one before,
-/// and the memory is used again.
+/// Memory for sort keys (UTS #10, section 7.3) of one weighting and depth. Each key that is written replaces the one
+/// before, and the memory is used again.
 #[derive(Drop)]
 pub struct KeyBuffer<A: Allocator = Global> {
-    settings: Settings,
+    weighting: Weighting,
+    depth: Depth,
     levels: LevelBuffers<A>,
 }
 
@@ -37,17 +39,19 @@ impl<A: Allocator> Model for KeyBuffer<A> {
 
     ghost Value = { KeyState };
 
-    ghost view = { λ b. record { settings = b.settings; key = b.levels.key } };
+    ghost view = { λ b. record { weighting = b.weighting; depth = b.depth; key = b.levels.key } };
 }
 
 impl<A: Allocator + Copy> KeyBuffer<A> {
-    /// A buffer for keys under the settings, which takes no memory yet.
-    pub fn new(alloc: A, settings: Settings) -> KeyBuffer<A>
-        ensures settings { result.settings ≡ settings }
+    /// A buffer for keys of a weighting and a depth, which takes no memory yet.
+    pub fn new(alloc: A, weighting: Weighting, depth: Depth) -> KeyBuffer<A>
+        ensures weighting { result.weighting ≡ weighting }
+        ensures depth { result.depth ≡ depth }
         ensures empty { result.key ≡ [] }
     {
         KeyBuffer {
-            settings,
+            weighting,
+            depth,
             levels: LevelBuffers::new(alloc),
         }
     }
@@ -64,17 +68,35 @@ impl<A: Allocator> KeyBuffer<A> {
         collator: &Collator<L, B>,
         text: &Normal,
     ) -> Result<(), AllocError>
-        ensures key { OnOk result (self.new.key ≡ key_at self.old.settings.depth self.old.settings.weighting
+        ensures key { OnOk result (self.new.key ≡ key_at self.old.depth self.old.weighting
             (read_text (collation_of L.content collator.now) text.now)) }
         ensures short { HasShortRows (collation_of L.content collator.now).rows →
             OnOk result (length self.new.key < 2 ^ 40) }
-        ensures settings { self.new.settings ≡ self.old.settings }
+        ensures weighting { self.new.weighting ≡ self.old.weighting }
+        ensures depth { self.new.depth ≡ self.old.depth }
     {
         // The text keeps the limits of `Normal`, so its key is short.
-        let points = text.chars();
-        self.levels
-            .write(self.settings.weighting, collator.elements(text))?;
-        match self.settings.depth {
+        self.write_with(collator, text, text.chars())
+    }
+
+    /// Writes the key of a text, over the key that was there. At the depth `Identical` it ends in these code points.
+    ///
+    /// # Errors
+    ///
+    /// An allocation failed. The bytes are then unspecified until the next successful write.
+    pub(crate) fn write_with<L: Lookup, B: Allocator>(
+        &mut self,
+        collator: &Collator<L, B>,
+        text: &Normal,
+        points: &[char],
+    ) -> Result<(), AllocError>
+        ensures key { OnOk result (self.new.key ≡ key_at self.old.depth self.old.weighting
+            (record { elements = elements_of (collation_of L.content collator.now) text.now; points = points.now })) }
+        ensures weighting { self.new.weighting ≡ self.old.weighting }
+        ensures depth { self.new.depth ≡ self.old.depth }
+    {
+        self.levels.write(self.weighting, collator.elements(text))?;
+        match self.depth {
             Depth::Weights => Ok(()),
             Depth::Identical => self.levels.push_points(points),
         }
@@ -96,29 +118,31 @@ impl<A: Allocator> KeyBuffer<A> {
         requires { AreTrueEntries (collation_of L.content collator.now) points.old.entries.items }
         ensures entries { AreTrueEntries (collation_of L.content collator.now) points.new.entries.items }
         ensures key { let c = collation_of L.content collator.now in
-            IfOk result (λ accepted. OnTrue accepted (self.new.key ≡ text_key c self.old.settings (chars text.now))) }
+            IfOk result (λ accepted. OnTrue accepted
+            (self.new.key ≡ key_as_it_is c self.old.weighting self.old.depth (chars text.now))) }
         ensures accepted { let c = collation_of L.content collator.now in
             IfOk result (λ accepted. OnTrue accepted (IsAccepted (nfd_text c.properties (chars text.now)))) }
         ensures short { HasShortRows (collation_of L.content collator.now).rows →
             IfOk result (λ accepted. OnTrue accepted (length self.new.key < 2 ^ 40)) }
-        ensures settings { self.new.settings ≡ self.old.settings }
+        ensures weighting { self.new.weighting ≡ self.old.weighting }
+        ensures depth { self.new.depth ≡ self.old.depth }
     {
         if text.len() > SHORT_TEXT {
             return Ok(false);
         }
-        match self.settings.depth {
+        match self.depth {
             Depth::Identical => Ok(false),
             Depth::Weights => {
                 self.levels.clear();
                 let accepted = push_pieces(
                     &mut self.levels,
-                    self.settings.weighting,
+                    self.weighting,
                     collator,
                     points,
                     piece,
                     text,
                 )?;
-                self.levels.join(self.settings.weighting)?;
+                self.levels.join(self.weighting)?;
                 Ok(accepted)
             }
         }
@@ -141,11 +165,13 @@ impl<A: Allocator> KeyBuffer<A> {
     ) -> Result<(), TextFault>
         requires { AreTrueEntries (collation_of L.content collator.now) points.old.entries.items }
         ensures entries { AreTrueEntries (collation_of L.content collator.now) points.new.entries.items }
-        ensures key { let c = collation_of L.content collator.now in OnOk result (self.new.key ≡ text_key c self.old.settings (chars text.now)) }
+        ensures key { let c = collation_of L.content collator.now in
+            OnOk result (self.new.key ≡ key_as_it_is c self.old.weighting self.old.depth (chars text.now)) }
         ensures accepted { let c = collation_of L.content collator.now in OnOk result (IsAccepted (nfd_text c.properties (chars text.now))) }
         ensures fault { let c = collation_of L.content collator.now in IfErr result (IsCause (nfd_text c.properties (chars text.now))) }
         ensures short { HasShortRows (collation_of L.content collator.now).rows → OnOk result (length self.new.key < 2 ^ 40) }
-        ensures settings { self.new.settings ≡ self.old.settings }
+        ensures weighting { self.new.weighting ≡ self.old.weighting }
+        ensures depth { self.new.depth ≡ self.old.depth }
     {
         match self.write_pieces(collator, points, piece, text) {
             Ok(true) => Ok(()),
@@ -174,10 +200,12 @@ impl<A: Allocator> KeyBuffer<A> {
         requires { AreTrueEntries (collation_of L.content collator.now) points.old.entries.items }
         ensures entries { AreTrueEntries (collation_of L.content collator.now) points.new.entries.items }
         ensures beginning { let c = collation_of L.content collator.now in
-            IfOk result (λ accepted. OnTrue accepted (take 16 self.new.key ≡ take 16 (text_key c self.old.settings (chars text.now)))) }
+            IfOk result (λ accepted. OnTrue accepted
+            (take 16 self.new.key ≡ take 16 (key_as_it_is c self.old.weighting self.old.depth (chars text.now)))) }
         ensures accepted { let c = collation_of L.content collator.now in
             IfOk result (λ accepted. OnTrue accepted (IsAccepted (nfd_text c.properties (chars text.now)))) }
-        ensures settings { self.new.settings ≡ self.old.settings }
+        ensures weighting { self.new.weighting ≡ self.old.weighting }
+        ensures depth { self.new.depth ≡ self.old.depth }
     {
         if text.len() > SHORT_TEXT {
             return Ok(false);
@@ -185,7 +213,7 @@ impl<A: Allocator> KeyBuffer<A> {
         self.levels.clear();
         match push_beginning(
             &mut self.levels,
-            self.settings.weighting,
+            self.weighting,
             collator,
             points,
             piece,
@@ -199,13 +227,20 @@ impl<A: Allocator> KeyBuffer<A> {
             self.levels.join_beginning()?;
             return has_short_runs(collator, points, text);
         }
-        match self.settings.depth {
+        match self.depth {
             Depth::Identical => Ok(false),
             Depth::Weights => {
-                self.levels.join(self.settings.weighting)?;
+                self.levels.join(self.weighting)?;
                 Ok(true)
             }
         }
+    }
+
+    /// How far its keys go.
+    pub(crate) fn depth(&self) -> Depth
+        ensures { result ≡ self.now.depth }
+    {
+        self.depth
     }
 
     /// The key that was written last: the weights of each level, two bytes each with the high byte first,

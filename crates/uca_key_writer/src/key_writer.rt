@@ -1,11 +1,11 @@
 //! `KeyWriter`: writes the keys of texts, one after another.
 
-ghost use Rattle.std.specs.Prelude.{◌≡◌, [], ◌<◌, ◌^◌, length, take, chars, OnOk, IfErr};
-ghost use Rattle.uca_text.specs.Texts.{nfd_text};
+ghost use Rattle.std.specs.Prelude.{◌≡◌, [], ◌<◌, ◌^◌, ◌⊎◌, length, take, chars, OnOk, IfErr};
+ghost use Rattle.uca_weights.specs.declared.Numbers.TheVariants.{AsText};
 ghost use Rattle.uca_text.specs.Limits.{IsAccepted};
 ghost use Rattle.uca_text.specs.Faults.{IsCause};
 ghost use Rattle.uca_elements.specs.Collations.{collation_of};
-ghost use Rattle.uca_order.specs.Depths.{text_key};
+ghost use Rattle.uca_order.specs.Depths.{text_key, written_text};
 ghost use Rattle.uca_order.specs.Lengths.{HasShortRows};
 ghost use Rattle.uca_key_writer.specs.Writers.{collation_by};
 
@@ -27,6 +27,7 @@ pub struct KeyWriter<'a, L: Lookup, T: Allocator = Global, A: Allocator = Global
 impl<'a, L: Lookup, T: Allocator, A: Allocator> Model for KeyWriter<'a, L, T, A> {
     ghost use Rattle.uca_elements.specs.Collations.{collation_of};
     ghost use Rattle.uca_plain.specs.PointCache.{AreTrueEntries};
+    ghost use Rattle.uca_key_writer.specs.Memories.{settings_in};
     ghost use Rattle.uca_key_writer.specs.Writers.{WriterState};
 
     ghost Value = { WriterState L };
@@ -35,7 +36,7 @@ impl<'a, L: Lookup, T: Allocator, A: Allocator> Model for KeyWriter<'a, L, T, A>
       lookup = w.collator.lookup.now;
       ranges = w.collator.header.now.ranges;
       data_file = w.collator.data.now;
-      settings = w.memory.buffer.settings;
+      settings = settings_in w.memory;
       key = w.memory.buffer.key;
     } };
 
@@ -61,14 +62,17 @@ impl<'a, L: Lookup, T: Allocator, A: Allocator> KeyWriter<'a, L, T, A> {
     ///
     /// # Errors
     ///
-    /// Those of [`normal`](uca_text::normal), and `Memory` also if an allocation for the key failed. The bytes are then
-    /// unspecified until the next successful write.
+    /// Those of [`normal`](uca_text::normal) for the text that is read. With numbers by value it is the text by value.
+    /// `Memory` also if an allocation for the key failed. The bytes are then unspecified until the next successful
+    /// write.
     pub fn write(&mut self, text: &str) -> Result<(), TextFault>
         ensures key { OnOk result (self.new.key ≡ text_key (collation_by L.content self.old) self.old.settings (chars text.now)) }
-        ensures accepted { OnOk result (IsAccepted (nfd_text (collation_by L.content self.old).properties (chars text.now))) }
-        ensures fault { IfErr result (IsCause (nfd_text (collation_by L.content self.old).properties (chars text.now))) }
-        ensures short { HasShortRows (collation_by L.content self.old).rows → OnOk result (length self.new.key < 2 ^ 40) }
-
+        ensures accepted { let c = collation_by L.content self.old in
+            OnOk result (IsAccepted (written_text self.old.settings.numbers c.properties (chars text.now))) }
+        ensures fault { let c = collation_by L.content self.old in
+            IfErr result (IsCause (written_text self.old.settings.numbers c.properties (chars text.now))) }
+        ensures short { HasShortRows (collation_by L.content self.old).rows →
+            (self.old.settings.numbers ≡ AsText) ⊎ (length text.now < 2 ^ 36) → OnOk result (length self.new.key < 2 ^ 40) }
         ensures collation { collation_by L.content self.new ≡ collation_by L.content self.old }
         ensures settings { self.new.settings ≡ self.old.settings }
     {
@@ -85,9 +89,10 @@ impl<'a, L: Lookup, T: Allocator, A: Allocator> KeyWriter<'a, L, T, A> {
     pub fn write_beginning(&mut self, text: &str) -> Result<(), TextFault>
         ensures beginning { OnOk result (take 16 self.new.key ≡ take 16
             (text_key (collation_by L.content self.old) self.old.settings (chars text.now))) }
-        ensures accepted { OnOk result (IsAccepted (nfd_text (collation_by L.content self.old).properties (chars text.now))) }
-        ensures fault { IfErr result (IsCause (nfd_text (collation_by L.content self.old).properties (chars text.now))) }
-
+        ensures accepted { let c = collation_by L.content self.old in
+            OnOk result (IsAccepted (written_text self.old.settings.numbers c.properties (chars text.now))) }
+        ensures fault { let c = collation_by L.content self.old in
+            IfErr result (IsCause (written_text self.old.settings.numbers c.properties (chars text.now))) }
         ensures collation { collation_by L.content self.new ≡ collation_by L.content self.old }
         ensures settings { self.new.settings ≡ self.old.settings }
     {

@@ -13,7 +13,7 @@ use crate::level_buffers::LevelBuffers;
 use std::alloc::{AllocError, Allocator};
 use uca_elements::{Collator, Lookup};
 use uca_text::Normal;
-use uca_weights::{Depth, Element, Settings, Weighting};
+use uca_weights::{Depth, Element, Weighting};
 
 /// The sort key of a text (UTS #10, section 7.3) in memory of `alloc`: that of its collation elements, by
 /// [`key_of`]. At the depth `Identical` two bytes 0 follow, and each code point of the text in Normalization
@@ -34,7 +34,7 @@ pub fn key<K: Allocator + Copy, L: Lookup, A: Allocator>(
     ensures short { HasShortRows (collation_of L.content collator.now).rows →
         IfOk result (λ key. length key.items < 2 ^ 40) }
 {
-    let mut buffer = KeyBuffer::new(alloc, Settings { weighting, depth });
+    let mut buffer = KeyBuffer::new(alloc, weighting, depth);
     buffer.write_text(collator, text)?;
     Ok(buffer.into_bytes())
 }

@@ -27,6 +27,10 @@
 //! - `beginnings.rt`: level 1 comes first in a key. So the first sixteen bytes of a key are known once level 1 has eight weights,
 //!   and the rest of the text has only to be accepted.
 //!
+//! With numbers by value, a text with a digit is written by value first (`uca_numbers`), and what was written is read in
+//! this way. At an identical level come the code points of the text itself, so `7` and `007` differ there alone. A text
+//! without digits is only looked through for digits.
+//!
 //! The functions of `stretches.rt` and `slots.rt` take the four levels, their counts and the flag as parameters of their own, and
 //! not as one struct. So the loops keep them in registers, and the borrow checker has no struct to account for at each step.
 #![tactic(auto)]

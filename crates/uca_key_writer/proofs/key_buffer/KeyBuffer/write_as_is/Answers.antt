@@ -4,7 +4,7 @@ use Rattle.uca_text.specs.Texts.{nfd_text}
 use Rattle.uca_text.specs.Limits.{IsAccepted}
 use Rattle.uca_text.specs.Faults.{IsCause}
 use Rattle.uca_elements.specs.Collations.{collation_of}
-use Rattle.uca_order.specs.Depths.{text_key}
+use Rattle.uca_key_writer.specs.inside.AsItIs.{key_as_it_is}
 use Rattle.uca_plain.proofs.Results.{no_result, fault_is}
 use Rattle.uca_key_writer.proofs.WriterSteps.{memory_is_cause, by_flag, key_of_normal}
 use Rattle.uca_key_writer.proofs.key_buffer.KeyBuffer.write_as_is.Goals as goal
@@ -18,7 +18,8 @@ returns-in-Err g c = record {
   accepted = tt;
   fault = tt;
   short = λ short. tt;
-  settings = c.write_pieces.ensures.settings;
+  weighting = c.write_pieces.ensures.weighting;
+  depth = c.write_pieces.ensures.depth;
 }
 
 -- ---- It is written piece by piece
@@ -32,11 +33,12 @@ returns-in-Ok-true g c =
     let is = c.in-Ok-true.field-0-test in
     record {
       entries = c.write_pieces.ensures.entries;
-      key = by_flag accepted (key ≡ text_key by c.args.self.now.settings (chars c.args.text.now)) is c.in-Ok-true.ensures.key;
+      key = by_flag accepted (key ≡ key_as_it_is by c.args.self.now.weighting c.args.self.now.depth (chars c.args.text.now)) is c.in-Ok-true.ensures.key;
       accepted = by_flag accepted (IsAccepted text) is c.in-Ok-true.ensures.accepted;
       fault = tt;
       short = λ short. by_flag accepted (length key < 2 ^ 40) is (c.in-Ok-true.ensures.short short);
-      settings = c.write_pieces.ensures.settings;
+      weighting = c.write_pieces.ensures.weighting;
+      depth = c.write_pieces.ensures.depth;
     }
 
 -- ---- It is rejected
@@ -49,7 +51,8 @@ returns-in_err-renew-in-Ok-false g c = record {
   fault = fault_is (IsCause (nfd_text (collation_of g.L.Lookup.content c.args.collator.now).properties (chars c.args.text.now))) c.from_residual.result
       c.in_err-renew-in-Ok-false.field-0.0 c.from_residual.ensures.1 c.in_err-renew-in-Ok-false.ensures.fault;
   short = λ short. no_result c.from_residual.result _ c.from_residual.ensures.0;
-  settings = c.write_pieces.ensures.settings;
+  weighting = c.write_pieces.ensures.weighting;
+  depth = c.write_pieces.ensures.depth;
 }
 
 -- ---- Memory ran out for the key
@@ -62,7 +65,8 @@ returns-in_err-write_text-in-Ok-false g c = record {
   fault = memory_is_cause (nfd_text (collation_of g.L.Lookup.content c.args.collator.now).properties (chars c.args.text.now)) c.from_residual-in_err-write_text-in-Ok-false.result
       c.from_residual-in_err-write_text-in-Ok-false.ensures.1;
   short = λ short. no_result c.from_residual-in_err-write_text-in-Ok-false.result _ c.from_residual-in_err-write_text-in-Ok-false.ensures.0;
-  settings = c.write_text.ensures.settings ∙ c.write_pieces.ensures.settings;
+  weighting = c.write_text.ensures.weighting ∙ c.write_pieces.ensures.weighting;
+  depth = c.write_text.ensures.depth ∙ c.write_pieces.ensures.depth;
 }
 
 -- ---- The key of the normalized text is written
@@ -72,10 +76,11 @@ returns-in_ok-write_text-in-Ok-false g c =
     let by = collation_of g.L.Lookup.content c.args.collator.now in
     record {
       entries = c.write_pieces.ensures.entries;
-      key = key_of_normal by c.args.self.now.settings c.write_pieces.new.self.settings (chars c.args.text.now) c.write_text.new.self.key c.renew.new.self
-          c.in_ok-renew-in-Ok-false.ensures.found c.write_pieces.ensures.settings c.in_ok-write_text-in-Ok-false.ensures.key;
+      key = key_of_normal by c.args.self.now c.write_pieces.new.self (chars c.args.text.now) c.write_text.new.self.key c.renew.new.self
+          c.in_ok-renew-in-Ok-false.ensures.found c.write_pieces.ensures.weighting c.write_pieces.ensures.depth c.in_ok-write_text-in-Ok-false.ensures.key;
       accepted = subst IsAccepted c.in_ok-renew-in-Ok-false.ensures.found c.renew.ensures.accepted;
       fault = tt;
       short = λ short. c.in_ok-write_text-in-Ok-false.ensures.short short;
-      settings = c.write_text.ensures.settings ∙ c.write_pieces.ensures.settings;
+      weighting = c.write_text.ensures.weighting ∙ c.write_pieces.ensures.weighting;
+      depth = c.write_text.ensures.depth ∙ c.write_pieces.ensures.depth;
     }

@@ -8,13 +8,13 @@ use Rattle.uca_key_writer.proofs.PieceSteps.{accepted_if_read, key_if_read, shor
 use Rattle.uca_key_writer.proofs.key_buffer.KeyBuffer.write_pieces.Goals as goal
 
 pub push_pieces-requires-clause-empty : goal.push_pieces-requires-clause-empty
-push_pieces-requires-clause-empty g c = c.clear.ensures c.self.inside.settings.weighting
+push_pieces-requires-clause-empty g c = c.clear.ensures c.self.inside.weighting
 
 pub returns-then-text-gt-SHORT_TEXT : goal.returns-then-text-gt-SHORT_TEXT
-returns-then-text-gt-SHORT_TEXT g c = record { entries = c.requires; key = tt; accepted = tt; short = λ short. tt; settings = refl }
+returns-then-text-gt-SHORT_TEXT g c = record { entries = c.requires; key = tt; accepted = tt; short = λ short. tt; weighting = refl; depth = refl }
 
 pub returns-in-Identical : goal.returns-in-Identical
-returns-in-Identical g c = record { entries = c.requires; key = tt; accepted = tt; short = λ short. tt; settings = refl }
+returns-in-Identical g c = record { entries = c.requires; key = tt; accepted = tt; short = λ short. tt; weighting = refl; depth = refl }
 
 pub returns-in_err-accepted-in-Weights : goal.returns-in_err-accepted-in-Weights
 returns-in_err-accepted-in-Weights g c = record {
@@ -22,7 +22,8 @@ returns-in_err-accepted-in-Weights g c = record {
   key = no_result c.from_residual.result _ c.from_residual.ensures.0;
   accepted = no_result c.from_residual.result _ c.from_residual.ensures.0;
   short = λ short. no_result c.from_residual.result _ c.from_residual.ensures.0;
-  settings = ap (λ (s : KeyState). s.settings) c.self.view_is;
+  weighting = ap (λ (s : KeyState). s.weighting) c.self.view_is;
+  depth = ap (λ (s : KeyState). s.depth) c.self.view_is;
 }
 
 pub returns-in_err-join-in-Weights : goal.returns-in_err-join-in-Weights
@@ -31,7 +32,8 @@ returns-in_err-join-in-Weights g c = record {
   key = no_result c.from_residual-in_err-join-in-Weights.result _ c.from_residual-in_err-join-in-Weights.ensures.0;
   accepted = no_result c.from_residual-in_err-join-in-Weights.result _ c.from_residual-in_err-join-in-Weights.ensures.0;
   short = λ short. no_result c.from_residual-in_err-join-in-Weights.result _ c.from_residual-in_err-join-in-Weights.ensures.0;
-  settings = ap (λ (s : KeyState). s.settings) c.self.view_is;
+  weighting = ap (λ (s : KeyState). s.weighting) c.self.view_is;
+  depth = ap (λ (s : KeyState). s.depth) c.self.view_is;
 }
 
 pub returns-in_ok-join-in-Weights : goal.returns-in_ok-join-in-Weights
@@ -40,12 +42,13 @@ returns-in_ok-join-in-Weights g c =
     let flag = c.in_ok-accepted-in-Weights.accepted in
     let key = key_if_read collation _ c.args.self.now flag (chars c.args.text.now) _ _ c.self.view_is c.in-Weights.is c.in_ok-accepted-in-Weights.ensures.read
     c.in_ok-join-in-Weights.ensures in
-    let accepted = accepted_if_read collation c.self.inside.settings.weighting flag c.args.text.now _ c.utf8.text (omega arith) c.in_ok-accepted-in-Weights.ensures.read in
+    let accepted = accepted_if_read collation c.self.inside.weighting flag c.args.text.now _ c.utf8.text (omega arith) c.in_ok-accepted-in-Weights.ensures.read in
     record {
       entries = c.push_pieces.ensures.entries;
       key = key;
       accepted = accepted;
       short = λ short.
-          short_if_read collation c.args.self.now.settings flag (nfd_text collation.properties (chars c.args.text.now)) _ short key accepted;
-      settings = ap (λ (s : KeyState). s.settings) c.self.view_is;
+          short_if_read collation c.args.self.now.weighting c.args.self.now.depth flag (nfd_text collation.properties (chars c.args.text.now)) _ short key accepted;
+      weighting = ap (λ (s : KeyState). s.weighting) c.self.view_is;
+      depth = ap (λ (s : KeyState). s.depth) c.self.view_is;
     }

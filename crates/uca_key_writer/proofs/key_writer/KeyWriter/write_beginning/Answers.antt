@@ -3,9 +3,9 @@ use Rattle.std.proofs.Common.{◌≡◌, ◌∙◌, take, ap, subst}
 use Rattle.std.specs.Result.{OnOk, IfErr}
 use Rattle.std.specs.Str.{chars}
 use Rattle.uca_values.specs.Content.{properties_of}
-use Rattle.uca_text.specs.Texts.{nfd_text}
 use Rattle.uca_text.specs.Limits.{IsAccepted}
 use Rattle.uca_text.specs.Faults.{IsCause}
+use Rattle.uca_order.specs.Depths.{written_text}
 use Rattle.uca_key_writer.specs.Writers.{WriterState, collation_by}
 use Rattle.uca_key_writer.proofs.WriterSteps.{key_by}
 use Rattle.uca_key_writer.proofs.key_writer.KeyWriter.write_beginning.Goals as goal
@@ -18,9 +18,9 @@ returns g c =
     let r = c.write_beginning.result in
     record {
       beginning = subst (λ (w : WriterState _). OnOk r (take 16 key ≡ take 16 (key_by content w xs))) c.self.view_is c.write_beginning.ensures.beginning;
-      accepted = subst (λ (w : WriterState _). OnOk r (IsAccepted (nfd_text (properties_of w.data_file) xs))) c.self.view_is
+      accepted = subst (λ (w : WriterState _). OnOk r (IsAccepted (written_text w.settings.numbers (properties_of w.data_file) xs))) c.self.view_is
           c.write_beginning.ensures.accepted;
-      fault = subst (λ (w : WriterState _). IfErr r (IsCause (nfd_text (properties_of w.data_file) xs))) c.self.view_is c.write_beginning.ensures.fault;
+      fault = subst (λ (w : WriterState _). IfErr r (IsCause (written_text w.settings.numbers (properties_of w.data_file) xs))) c.self.view_is c.write_beginning.ensures.fault;
       collation = ap (collation_by content) c.self.view_is;
       settings = c.write_beginning.ensures.settings ∙ ap (λ (w : WriterState _). w.settings) c.self.view_is;
     }

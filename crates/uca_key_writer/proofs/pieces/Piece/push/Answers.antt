@@ -3,7 +3,7 @@ use Rattle.std.specs.Str.{chars}
 use Rattle.std.specs.String.{string_bytes}
 use Rattle.std.proofs.lemmas.Str.{IsUtf8-string_bytes}
 use Rattle.uca_key_writer.specs.inside.Pieces.{points_by}
-use Rattle.uca_key_writer.proofs.PieceSteps.{chars_pushed}
+use Rattle.uca_numbers.proofs.Strings.{chars_pushed}
 use Rattle.uca_key_writer.proofs.pieces.Piece.push.Goals as goal
 
 pub returns-clause-points : goal.returns-clause-points
