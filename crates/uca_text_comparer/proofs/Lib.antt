@@ -1,4 +1,6 @@
 pub mod SharedSteps
 pub mod PlainComparisons
+pub mod PairSteps
 pub mod ComparerSteps
 pub mod PrimarySteps
+pub mod ReadLengths

@@ -1,7 +1,9 @@
 //! When a walk over two texts decides how they compare, and the result of such a walk.
 
 ghost use Rattle.std.specs.Prelude.{◌≡◌};
-ghost use Rattle.std.specs.Bool.{OnTrue};
+ghost use Rattle.std.specs.Bool.{MatchBool};
+ghost use Rattle.std.specs.declared.cmp.Ordering.TheVariants.{Equal};
+ghost use Rattle.uca_weights.specs.declared.Depth.TheVariants.{Identical};
 ghost use Rattle.uca_comparison.specs.inside.Comparisons.{NothingElseDecides};
 
 use std::cmp::Ordering;
@@ -26,7 +28,8 @@ pub(crate) fn compared_of(walked: &Walked) -> Compared
 
 /// Whether nothing else decides after this order at the levels of the weights.
 pub(crate) fn is_decided(order: Ordering, depth: Depth, left: &str, right: &str) -> bool
-    ensures { OnTrue result (NothingElseDecides order depth left.now right.now) }
+    ensures { MatchBool result (NothingElseDecides order depth left.now right.now)
+        ((order ≡ Equal) × (depth ≡ Identical)) }
 {
     match order {
         Ordering::Less | Ordering::Greater => true,

@@ -1,4 +1,4 @@
-//! `TextComparer`: comparison of many texts as they are. Texts of plain code points are not normalized first.
+//! `TextComparer`: comparison of many texts. Texts of plain code points are not normalized first.
 //!
 //! The program `uca` has no such comparer, so it does not wait for this crate.
 //!
@@ -10,17 +10,29 @@
 //! If that does not decide, the elements of both rests are walked as `compare` walks them (`plain_comparison`). A
 //! pair with a code point that is not plain is normalized first.
 //!
-//! Of two texts that are the same bytes only the elements are counted, since the result has their number. So each
-//! code point is looked up, which also judges the text. Where one is not in the cache or not plain, the text is normalized
-//! once.
+//! Of two texts that are the same bytes only the elements are counted, since the result has their number. So each code
+//! point is looked up, which also judges the text. Where one is not in the cache or not plain, the text is normalized
+//! once (`normals`).
+//!
+//! With numbers by value, two texts are compared in this way if neither has a digit. Otherwise both are written by
+//! value first (`uca_numbers`), and compared so by their weights. At an identical level the code points of the texts
+//! themselves come after that (`points`), so `7` and `007` differ there alone.
+//!
+//! A `TextComparer` keeps its collator. A `TextComparison` does without, for whatever lends one (`comparison`).
 #![tactic(auto)]
 
+mod comparison;
 mod decided;
+mod faults;
 mod itself;
+mod normals;
 mod plain_comparison;
+mod points;
 mod primaries;
 mod shared;
 pub mod text_comparer;
 
+pub use comparison::TextComparison;
+pub use faults::PairFault;
 pub use plain_comparison::PlainComparison;
 pub use text_comparer::TextComparer;

@@ -7,7 +7,7 @@ ghost use Rattle.uca_text.specs.Texts.{nfd_text};
 ghost use Rattle.uca_text.specs.Limits.{IsAccepted};
 ghost use Rattle.uca_elements.specs.Collations.{Collation, collation_of, elements_of};
 ghost use Rattle.uca_order.specs.Levels;
-ghost use Rattle.uca_order.specs.Depths.{texts_compared};
+ghost use Rattle.uca_order.specs.Depths.{read_text, compared_at};
 ghost use Rattle.uca_order.specs.Fetched.{fetched_left, fetched_right};
 ghost use Rattle.uca_comparison.specs.inside.Comparisons.{ComparesLevels};
 ghost use Rattle.uca_comparison.specs.Walks.{Stands, none_decided};
@@ -27,10 +27,10 @@ use uca_comparison::stored::level_count;
 use uca_comparison::walk::{Walked, walk_fronts};
 use uca_elements::{Collator, Lookup};
 use uca_plain::plain::{KnownPoint, PointCache, SHORT_TEXT};
-use uca_weights::{Depth, Element, Settings, Weighting};
+use uca_weights::{Depth, Element, Weighting};
 
-/// Memory for comparing texts of plain code points. All texts have to be read by one collation: what is known of code points is
-/// true of that one alone.
+/// Memory for comparing texts of plain code points. All texts have to be read by one collation: what is known of code
+/// points is true of that one alone.
 #[derive(Drop)]
 pub struct PlainComparison<A: Allocator = Global> {
     /// What is known of the code points of the texts so far.
@@ -54,9 +54,9 @@ impl<A: Allocator + Copy> PlainComparison<A> {
 }
 
 impl<A: Allocator> PlainComparison<A> {
-    /// How two texts compare, as [`compare`](uca_comparison::comparison::compare) says of the same texts in Normalization Form D.
-    /// There is no result if a text has more than 524,288 bytes or a code point that is not plain. There is none either if one
-    /// walk over both does not decide, or if their code points have to.
+    /// How two texts compare as they are, as [`compare`](uca_comparison::comparison::compare) says of both in
+    /// Normalization Form D. There is no result if a text has more than 524,288 bytes or a code point that is not
+    /// plain. There is none either if one walk over both does not decide, or if their code points have to.
     ///
     /// # Errors
     ///
@@ -64,26 +64,29 @@ impl<A: Allocator> PlainComparison<A> {
     pub fn compare_texts<L: Lookup, T: Allocator>(
         &mut self,
         collator: &Collator<L, T>,
-        settings: Settings,
+        weighting: Weighting,
+        depth: Depth,
         left: &str,
         right: &str,
     ) -> Result<Option<Compared>, AllocError>
         requires { AreTrueEntries (collation_of L.content collator.now) self.old.points.entries.items }
         ensures known { AreTrueEntries (collation_of L.content collator.now) self.new.points.entries.items }
         ensures compared { let c = collation_of L.content collator.now in IfOk result (λ found. IfSome found (λ compared.
-            let answer = texts_compared c settings (chars left.now) (chars right.now) in
+            let answer = compared_at depth weighting
+            (read_text c (nfd_text c.properties (chars left.now)))
+            (read_text c (nfd_text c.properties (chars right.now))) in
             (compared.order ≡ answer.order) × (compared.level ≡ answer.level))) }
         ensures fetched { let c = collation_of L.content collator.now in IfOk result (λ found. IfSome found (λ compared.
             let es = elements_of c (nfd_text c.properties (chars left.now)) in
             let fs = elements_of c (nfd_text c.properties (chars right.now)) in
-            (compared.fetched_left ≡ min (2 ^ 64 - 1) (fetched_left settings.weighting es fs))
-            × (compared.fetched_right ≡ min (2 ^ 64 - 1) (fetched_right settings.weighting es fs)))) }
+            (compared.fetched_left ≡ min (2 ^ 64 - 1) (fetched_left weighting es fs))
+            × (compared.fetched_right ≡ min (2 ^ 64 - 1) (fetched_right weighting es fs)))) }
         ensures accepted { let c = collation_of L.content collator.now in IfOk result (λ found. IfSome found (λ _.
             IsAccepted (nfd_text c.properties (chars left.now)) × IsAccepted (nfd_text c.properties (chars right.now)))) }
     {
-        let found = self.compare(collator, settings.weighting, left, right)?;
+        let found = self.compare(collator, weighting, left, right)?;
         if let Some(walked) = found
-            && is_decided(walked.order, settings.depth, left, right)
+            && is_decided(walked.order, depth, left, right)
         {
             return Ok(Some(compared_of(&walked)));
         }

@@ -32,8 +32,8 @@ struct Pair<'t> {
     passed_right: u64,
 }
 
-/// How two texts compare if they differ at level 1 soon after what they share. There is no result if that takes a code point
-/// that is not in the cache or not plain, or one that has more than one weight at level 1.
+/// How two texts compare if they differ at level 1 soon after what they share. There is no result if that takes a code
+/// point that is not in the cache or not plain, or one that has more than one weight at level 1.
 pub(crate) fn compare_primaries<A: Allocator>(
     points: &PointCache<A>,
     weighting: Weighting,
@@ -87,7 +87,8 @@ fn skip_equal<'t, A: Allocator>(
     pair
 }
 
-// What is left after a code point of each text, if these are in the cache, are plain, and have the same weight at level 1.
+// What is left after a code point of each text, if these are in the cache, are plain, and have the same weight at level
+// 1.
 fn next_pair<'t, A: Allocator>(
     points: &PointCache<A>,
     weighting: Weighting,

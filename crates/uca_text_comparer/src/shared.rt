@@ -37,7 +37,8 @@ fn split_shared<'t>(left: &'t str, right: &'t str) -> Option<(char, &'t str, &'t
     }
 }
 
-// What is known of the code point with which two texts begin, if it is in the cache and is plain, and what follows it in each.
+// What is known of the code point with which two texts begin, if it is in the cache and is plain, and what follows it
+// in each.
 #[inline(always)]
 fn split_cached<'p, 't, A: Allocator>(
     points: &'p PointCache<A>,

@@ -17,8 +17,8 @@ returns g c =
     let xs = chars c.args.left.now in
     let ys = chars c.args.right.now in
     let walked = c.in-Some.walked in
-    let found = subst (λ (o : Option Walked). IfSome o (ComparesAccepted by c.args.settings.weighting xs ys)) c.in-Some.is c.in_ok-found.ensures.compared in
-    let compared = compares_at c.args.settings.depth c.args.settings.weighting (read_text by (nfd_text by.properties xs)) (read_text by (nfd_text by.properties ys))
+    let found = subst (λ (o : Option Walked). IfSome o (ComparesAccepted by c.args.weighting xs ys)) c.in-Some.is c.in_ok-found.ensures.compared in
+    let compared = compares_at c.args.depth c.args.weighting (read_text by (nfd_text by.properties xs)) (read_text by (nfd_text by.properties ys))
     c.args.left.now c.args.right.now walked found.levels c.if-is_decided.ensures (λ same. ap (λ l. nfd (chars l)) same) in
     record {
       known = c.compare.ensures.entries;

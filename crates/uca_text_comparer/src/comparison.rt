@@ -1,0 +1,193 @@
+//! `TextComparison`: compares texts by any collator and under any settings, with memory that is used again.
+
+ghost use Rattle.std.specs.Prelude.{◌≡◌, ◌-◌, ◌^◌, chars, min, IfOk, OnOk, IfErr};
+ghost use Rattle.uca_weights.specs.declared.Depth.TheVariants.{Weights};
+ghost use Rattle.uca_weights.specs.declared.Numbers.TheVariants.{AsText, ByValue};
+ghost use Rattle.uca_text.specs.Limits.{IsAccepted};
+ghost use Rattle.uca_elements.specs.Collations.{Collation, collation_of, elements_of};
+ghost use Rattle.uca_order.specs.Depths.{written_text, texts_compared};
+ghost use Rattle.uca_order.specs.Fetched.{fetched_left, fetched_right};
+ghost use Rattle.uca_plain.specs.PointCache.{AreTrueEntries};
+ghost use Rattle.uca_text_comparer.specs.Causes.{IsPairCause};
+ghost use Rattle.uca_text_comparer.specs.inside.Pairs.{ComparesPair, IsPairStop};
+
+use crate::decided::is_decided;
+use crate::faults::PairFault;
+use crate::normals::Normals;
+use crate::plain_comparison::PlainComparison;
+use crate::points::PointLists;
+use std::alloc::{Allocator, Global};
+use uca_comparison::Compared;
+use uca_elements::{Collator, Lookup};
+use uca_numbers::{WrittenText, has_no_digit};
+use uca_weights::{Depth, Numbers, Settings, Weighting};
+
+/// Memory for comparing texts. All texts have to be read by one collation: what is known of code points is true of that
+/// one alone.
+#[derive(Drop)]
+pub struct TextComparison<A: Allocator = Global> {
+    /// Memory for comparing plain texts, and what is known of the code points of the texts so far.
+    pub plain: PlainComparison<A>,
+    // the texts of a pair that has to be normalized
+    normals: Normals,
+    // a pair by value, and the code points of both texts themselves
+    left: WrittenText,
+    right: WrittenText,
+    points: PointLists,
+}
+
+impl<A: Allocator + Copy> TextComparison<A> {
+    /// Nothing is known yet, and no memory is taken.
+    pub fn new(alloc: A, global: Global) -> TextComparison<A>
+        ensures { (c : Collation) → AreTrueEntries c result.plain.points.entries.items }
+    {
+        TextComparison {
+            plain: PlainComparison::new(alloc, global),
+            normals: Normals::new(global),
+            left: WrittenText::new(global),
+            right: WrittenText::new(global),
+            points: PointLists::new(global),
+        }
+    }
+}
+
+impl<A: Allocator> TextComparison<A> {
+    /// How two texts compare (UTS #10, section 1.1), as [`compare`](uca_comparison::comparison::compare) says of the
+    /// texts that are read, in Normalization Form D. With numbers by value these are the texts by value, and at the
+    /// depth `Identical` the texts themselves come after their weights.
+    ///
+    /// # Errors
+    ///
+    /// `Left` if the left text that is read is rejected, or else `Right` if the right one is, as
+    /// [`normal`](uca_text::normal) says. `Left` with `Memory` also if another allocation failed.
+    pub fn compare<L: Lookup, T: Allocator>(
+        &mut self,
+        collator: &Collator<L, T>,
+        settings: Settings,
+        left: &str,
+        right: &str,
+    ) -> Result<Compared, PairFault>
+        requires { AreTrueEntries (collation_of L.content collator.now) self.old.plain.points.entries.items }
+        ensures known { AreTrueEntries (collation_of L.content collator.now) self.new.plain.points.entries.items }
+        ensures compared { let c = collation_of L.content collator.now in IfOk result (λ compared.
+            let answer = texts_compared c settings (chars left.now) (chars right.now) in
+            (compared.order ≡ answer.order) × (compared.level ≡ answer.level)) }
+        ensures fetched { let c = collation_of L.content collator.now in IfOk result (λ compared.
+            let es = elements_of c (written_text settings.numbers c.properties (chars left.now)) in
+            let fs = elements_of c (written_text settings.numbers c.properties (chars right.now)) in
+            (compared.fetched_left ≡ min (2 ^ 64 - 1) (fetched_left settings.weighting es fs))
+            × (compared.fetched_right ≡ min (2 ^ 64 - 1) (fetched_right settings.weighting es fs))) }
+        ensures accepted { let c = collation_of L.content collator.now in OnOk result (
+            IsAccepted (written_text settings.numbers c.properties (chars left.now))
+            × IsAccepted (written_text settings.numbers c.properties (chars right.now))) }
+        ensures fault { let c = collation_of L.content collator.now in IfErr result (IsPairCause
+            (written_text settings.numbers c.properties (chars left.now))
+            (written_text settings.numbers c.properties (chars right.now))) }
+    {
+        let weighting = settings.weighting;
+        let depth = settings.depth;
+        match settings.numbers {
+            Numbers::AsText => compare_as_text(
+                collator,
+                weighting,
+                depth,
+                &mut self.plain,
+                &mut self.normals,
+                left,
+                right,
+            ),
+            Numbers::ByValue => self.compare_by_value(collator, weighting, depth, left, right),
+        }
+    }
+
+    // How two texts compare with numbers by value.
+    fn compare_by_value<L: Lookup, T: Allocator>(
+        &mut self,
+        collator: &Collator<L, T>,
+        weighting: Weighting,
+        depth: Depth,
+        left: &str,
+        right: &str,
+    ) -> Result<Compared, PairFault>
+        requires { AreTrueEntries (collation_of L.content collator.now) self.old.plain.points.entries.items }
+        ensures known { AreTrueEntries (collation_of L.content collator.now) self.new.plain.points.entries.items }
+        ensures compared { let c = collation_of L.content collator.now in
+            IfOk result (ComparesPair c ByValue weighting depth (chars left.now) (chars right.now)) }
+        ensures fault { let c = collation_of L.content collator.now in
+            IfErr result (IsPairStop c ByValue (chars left.now) (chars right.now)) }
+    {
+        if has_no_digit(left) && has_no_digit(right) {
+            return compare_as_text(
+                collator,
+                weighting,
+                depth,
+                &mut self.plain,
+                &mut self.normals,
+                left,
+                right,
+            );
+        }
+        let compared = self.compare_written(collator, weighting, left, right)?;
+        if is_decided(compared.order, depth, left, right) {
+            return Ok(compared);
+        }
+        let (order, level) = self.points.compare(weighting, left, right)?;
+        Ok(Compared {
+            order,
+            level,
+            ..compared
+        })
+    }
+
+    // How two texts compare that are written by value first, at the levels of the weights.
+    fn compare_written<L: Lookup, T: Allocator>(
+        &mut self,
+        collator: &Collator<L, T>,
+        weighting: Weighting,
+        left: &str,
+        right: &str,
+    ) -> Result<Compared, PairFault>
+        requires { AreTrueEntries (collation_of L.content collator.now) self.old.plain.points.entries.items }
+        ensures known { AreTrueEntries (collation_of L.content collator.now) self.new.plain.points.entries.items }
+        ensures compared { let c = collation_of L.content collator.now in
+            IfOk result (ComparesPair c ByValue weighting Weights (chars left.now) (chars right.now)) }
+        ensures fault { let c = collation_of L.content collator.now in
+            IfErr result (IsPairStop c ByValue (chars left.now) (chars right.now)) }
+    {
+        self.left.renew(left)?;
+        self.right.renew(right)?;
+        compare_as_text(
+            collator,
+            weighting,
+            Depth::Weights,
+            &mut self.plain,
+            &mut self.normals,
+            self.left.as_str(),
+            self.right.as_str(),
+        )
+    }
+}
+
+// How two texts compare as they are.
+fn compare_as_text<L: Lookup, T: Allocator, A: Allocator>(
+    collator: &Collator<L, T>,
+    weighting: Weighting,
+    depth: Depth,
+    plain: &mut PlainComparison<A>,
+    normals: &mut Normals,
+    left: &str,
+    right: &str,
+) -> Result<Compared, PairFault>
+    requires { AreTrueEntries (collation_of L.content collator.now) plain.old.points.entries.items }
+    ensures known { AreTrueEntries (collation_of L.content collator.now) plain.new.points.entries.items }
+    ensures compared { let c = collation_of L.content collator.now in
+        IfOk result (ComparesPair c AsText weighting depth (chars left.now) (chars right.now)) }
+    ensures fault { let c = collation_of L.content collator.now in
+        IfErr result (IsPairStop c AsText (chars left.now) (chars right.now)) }
+{
+    let found = plain.compare_texts(collator, weighting, depth, left, right)?;
+    match found {
+        Some(compared) => Ok(compared),
+        None => normals.compare(collator, weighting, depth, left, right),
+    }
+}
