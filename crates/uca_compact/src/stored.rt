@@ -1,10 +1,10 @@
 //! Reads the levels and the code points of stored keys.
 
-ghost use Rattle.std.specs.Prelude.{◌≡◌, ◌++◌, IfOk, OnOk, if◌then◌else◌, None, Some};
+ghost use Rattle.std.specs.Prelude.{◌≡◌, ◌+◌, ◌<◌, ◌++◌, length, IfOk, OnOk, if◌then◌else◌, None, Some};
 ghost use Rattle.std.specs.Char.{encode_utf8};
 ghost use Rattle.uca_compact.specs.Forms.{AreWeights};
 ghost use Rattle.uca_compact.specs.StoredParts.{stored_level, stored_points};
-ghost use Rattle.uca_compact.specs.inside.StoredEnds.{level_of, points_of, with_points};
+ghost use Rattle.uca_compact.specs.inside.StoredEnds.{level_of, points_of, weight_of, with_points};
 
 use std::alloc::{AllocError, Allocator};
 use uca_weights::Depth;
@@ -18,6 +18,16 @@ pub(crate) enum StoredEnd<'a> {
     Key,
     /// In a single byte.
     Single,
+}
+
+/// The weight at this position.
+#[inline(always)]
+pub(crate) fn weight_at(bytes: &[u8], at: usize) -> u32
+    requires { at + 1 < length bytes.now }
+    ensures is { result ≡ weight_of bytes.now at }
+    ensures small { result < 65536 }
+{
+    256 * u32::from(bytes[at]) + u32::from(bytes[at + 1])
 }
 
 /// Reads a level from the beginning of these bytes. Its weights take the place of those that were there.
@@ -56,6 +66,7 @@ fn push_point<A: Allocator>(out: &mut Vec<u8, A>, point: char) -> Result<(), All
 
 // Writes code points of three bytes each as UTF-8, and returns whether the bytes are such code points. If they are not,
 // what was written is unspecified.
+#[inline(never)]
 fn push_points<A: Allocator>(out: &mut Vec<u8, A>, bytes: &[u8]) -> Result<bool, AllocError>
     ensures { IfOk result (λ found. with_points out.old.items (stored_points bytes.now) ≡ (if found then Some out.new.items else None)) }
 {
@@ -74,6 +85,7 @@ fn push_points<A: Allocator>(out: &mut Vec<u8, A>, bytes: &[u8]) -> Result<bool,
 }
 
 /// Writes the code points after the last level of weights, which ends so, and returns whether a key may end so.
+#[inline(always)]
 pub(crate) fn push_points_after<A: Allocator>(
     out: &mut Vec<u8, A>,
     depth: Depth,
