@@ -206,7 +206,7 @@ pub same_four : (bytes : List ℕ) (w count four : ℕ) → 0 < w → count ≤ 
 same_four bytes w count four some fits more same so_far =
     let i = 4 * four in
     let step : (index : ℕ) → index < count → weight_of bytes (2 * index) ≡ w → GoesOn bytes (drop (2 * index) bytes) w count (count - index)
-        → GoesOn bytes (drop (2 * (index + 1)) bytes) w count (count - (index + 1)) =
+    → GoesOn bytes (drop (2 * (index + 1)) bytes) w count (count - (index + 1)) =
     λ index within here before. same_again bytes w count index (weight_of bytes (2 * index)) some fits within refl here before in
     let first : 8 * four ≡ 2 * i = omega arith in
     let second : 8 * four + 2 ≡ 2 * (i + 1) = omega arith in
