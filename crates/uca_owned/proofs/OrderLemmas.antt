@@ -1,19 +1,17 @@
 -- The order of all byte strings is that of lists: 0 before the key of an accepted text, and 1 before all other bytes.
-use Rattle.std.proofs.Common.{◌≡◌, ◌⊎◌, ℕ, suc, ◌≤◌, List, [], ◌∷◌, length, ◌∙◌, sym, ap, refl, chars, inl, inr, arith}
+use Rattle.std.proofs.Common.{◌≡◌, ◌⊎◌, ℕ, suc, ◌≤◌, List, [], ◌∷◌, length, ◌∙◌, sym, ap, refl, chars, inl, inr}
 use Rattle.std.specs.Str.{IsUtf8}
 use Rattle.std.specs.declared.cmp.Ordering.{Ordering}
 use Rattle.std.specs.declared.cmp.Ordering.TheVariants.{Less, Equal, Greater}
 use Rattle.std.specs.Ordering.{ordering_reverse}
 use Rattle.std.proofs.lemmas.Cmp.{nat_list_cmp_total}
-use Rattle.uca_text.specs.Texts.{nfd_text}
 use Rattle.uca_order.specs.Levels.{lexicographic, compare_from, decided}
-use Rattle.uca_order.specs.Depths.{read_text, lists_at}
+use Rattle.uca_order.specs.Depths.{read_points, lists_at}
 use Rattle.uca_order.specs.Laws.{StoredKeysCompareAsTexts}
 use Rattle.uca_order.proofs.KeyOrder.{lexicographic_itself}
-use Rattle.uca_text_comparer.proofs.PlainComparisons.{text_accepted}
-use Rattle.uca_text_comparer.proofs.PrimarySteps.{short_no_long_run}
+use Rattle.uca_text_comparer.proofs.ReadLengths.{short_text_accepted}
 use Rattle.uca_order.specs.Keyings.{Keying, key_of_bytes, bytes_compared}
-use Rattle.uca_owned.specs.Causes.{IsAcceptedText}
+use Rattle.uca_owned.specs.Causes.{IsAcceptedBy}
 use Rattle.uca_owned.specs.Orders.{IsOrder, OrdersAreTotal}
 
 -- two orders that cannot differ are one
@@ -40,7 +38,7 @@ lists_themselves level (a ∷ more) =
 
 pub compared_itself : (k : Keying) (bytes : List ℕ) → bytes_compared k bytes bytes ≡ record { order = Equal; level = 0 }
 compared_itself k bytes =
-    lists_themselves 1 (lists_at k.settings.depth k.settings.weighting (read_text k.collation (nfd_text k.collation.properties (chars bytes))))
+    lists_themselves 1 (lists_at k.settings.depth k.settings.weighting (read_points k.collation k.settings.numbers (chars bytes)))
 
 -- all bytes are equal to themselves, accepted or not
 pub same_order : (k : Keying) (bytes : List ℕ) → IsOrder k bytes bytes Equal
@@ -52,14 +50,14 @@ same_order k bytes = record {
 }
 
 -- a short text is accepted
-pub short_accepted : (k : Keying) (bytes : List ℕ) → IsUtf8 bytes → length bytes ≤ 32 → IsAcceptedText k.collation.properties bytes
+pub short_accepted : (k : Keying) (bytes : List ℕ) → IsUtf8 bytes → length bytes ≤ 32 → IsAcceptedBy k bytes
 short_accepted k bytes utf8 short = record {
   utf8 = utf8;
-  accepted = text_accepted k.collation bytes utf8 (omega (arith, short)) (short_no_long_run k.collation.properties.class bytes utf8 short);
+  accepted = short_text_accepted k.settings.numbers k.collation.properties bytes utf8 short;
 }
 
 -- the order of two texts that are accepted
-pub accepted_order : (k : Keying) (left right : List ℕ) (o : Ordering) → IsAcceptedText k.collation.properties left → IsAcceptedText k.collation.properties right
+pub accepted_order : (k : Keying) (left right : List ℕ) (o : Ordering) → IsAcceptedBy k left → IsAcceptedBy k right
     → o ≡ (bytes_compared k left right).order → IsOrder k left right o
 accepted_order k left right o taken also same = record {
   both = λ _ _. same;
@@ -68,9 +66,36 @@ accepted_order k left right o taken also same = record {
   neither = λ left_out _. absurd (left_out taken);
 }
 
+-- where one text is rejected
+pub left_alone_order : (k : Keying) (left right : List ℕ) (o : Ordering) → IsAcceptedBy k left → ¬ (IsAcceptedBy k right) → o ≡ Less → IsOrder k left right o
+left_alone_order k left right o taken left_out same = record {
+  both = λ _ also. absurd (left_out also);
+  left_alone = λ _ _. same;
+  right_alone = λ other _. absurd (other taken);
+  neither = λ other _. absurd (other taken);
+}
+
+pub right_alone_order : (k : Keying) (left right : List ℕ) (o : Ordering) → ¬ (IsAcceptedBy k left) → IsAcceptedBy k right → o ≡ Greater → IsOrder k left right o
+right_alone_order k left right o left_out taken same = record {
+  both = λ other _. absurd (left_out other);
+  left_alone = λ other _. absurd (left_out other);
+  right_alone = λ _ _. same;
+  neither = λ _ other. absurd (other taken);
+}
+
+-- and where both are
+pub neither_order : (k : Keying) (left right : List ℕ) (o : Ordering) → ¬ (IsAcceptedBy k left) → ¬ (IsAcceptedBy k right) → o ≡ lexicographic left right
+    → IsOrder k left right o
+neither_order k left right o left_out also same = record {
+  both = λ other _. absurd (left_out other);
+  left_alone = λ other _. absurd (left_out other);
+  right_alone = λ _ other. absurd (also other);
+  neither = λ _ _. same;
+}
+
 module _ (law : StoredKeysCompareAsTexts) (k : Keying) where
   abbrev Accepted : List ℕ → Type 0
-  Accepted bytes = IsAcceptedText k.collation.properties bytes
+  Accepted bytes = IsAcceptedBy k bytes
 
   place : (bytes : List ℕ) → Accepted bytes ⊎ (Accepted bytes → ⊥) → List ℕ
   place bytes (inl taken) = 0 ∷ key_of_bytes k bytes

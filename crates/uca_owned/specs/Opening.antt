@@ -1,7 +1,6 @@
 -- Opening a collator by the bytes of two files: what it keys texts by, and why there is none.
 use Rattle.std.specs.Prelude.{◌≡◌, ◌≢◌, ℕ, List, Option, ⊤}
-use Rattle.uca_weights.specs.declared.Depth.{Depth}
-use Rattle.uca_weights.specs.declared.Weighting.{Weighting}
+use Rattle.uca_weights.specs.declared.Asked.{Asked}
 use Rattle.uca_values.specs.Content.{TableContent, Properties}
 use Rattle.uca_values.specs.declared.faults.FaultKind.TheVariants as kinds
 use Rattle.uca_values.specs.declared.faults.TableFault.{TableFault}
@@ -18,20 +17,20 @@ pub record MeanFiles (table_bytes data_bytes : List ℕ) (table : TableContent) 
   pub data_file : data_files.Means data_bytes properties
 
 -- the bytes are a table file and a data file, and texts are keyed by what these mean
-pub record Opens (asked : Option Weighting) (depth : Depth) (table_bytes data_bytes : List ℕ) (k : Keying) : Type 0 where
+pub record Opens (asked : Asked) (table_bytes data_bytes : List ℕ) (k : Keying) : Type 0 where
   pub table : TableContent
   pub properties : Properties
   pub mean : MeanFiles table_bytes data_bytes table properties
-  pub same : k ≡ keying asked depth table properties
+  pub same : k ≡ keying asked table properties
 
 -- the fingerprint of what texts are keyed by, which the bytes of two files mean
 abbrev pub fingerprint_by : Keying → List ℕ → List ℕ → List ℕ
 fingerprint_by k table_bytes data_bytes = fingerprint k.settings table_bytes data_bytes
 
 -- the bytes are a table file and a data file, and this is the fingerprint of what texts are keyed by
-pub record HasFingerprint (asked : Option Weighting) (depth : Depth) (table_bytes data_bytes sum : List ℕ) : Type 0 where
+pub record HasFingerprint (asked : Asked) (table_bytes data_bytes sum : List ℕ) : Type 0 where
   pub keys : Keying
-  pub opens : Opens asked depth table_bytes data_bytes keys
+  pub opens : Opens asked table_bytes data_bytes keys
   pub same : sum ≡ fingerprint_by keys table_bytes data_bytes
 
 -- Why the bytes of a table file are rejected, whatever is left of them. Reading bytes in memory does not fail.

@@ -5,14 +5,14 @@ use Rattle.std.specs.declared.cmp.Ordering.TheVariants.{Less, Equal, Greater}
 use Rattle.std.specs.Ordering.{ordering_reverse}
 use Rattle.uca_order.specs.Levels.{lexicographic}
 use Rattle.uca_order.specs.Keyings.{Keying, bytes_compared}
-use Rattle.uca_owned.specs.Causes.{IsAcceptedText}
+use Rattle.uca_owned.specs.Causes.{IsAcceptedBy}
 
 -- accepted texts are in their order, and all other bytes after them, in the order of bytes
 pub record IsOrder (k : Keying) (left right : List ℕ) (order : Ordering) : Type 0 where
-  pub both : IsAcceptedText k.collation.properties left → IsAcceptedText k.collation.properties right → order ≡ (bytes_compared k left right).order
-  pub left_alone : IsAcceptedText k.collation.properties left → ¬ (IsAcceptedText k.collation.properties right) → order ≡ Less
-  pub right_alone : ¬ (IsAcceptedText k.collation.properties left) → IsAcceptedText k.collation.properties right → order ≡ Greater
-  pub neither : ¬ (IsAcceptedText k.collation.properties left) → ¬ (IsAcceptedText k.collation.properties right) → order ≡ lexicographic left right
+  pub both : IsAcceptedBy k left → IsAcceptedBy k right → order ≡ (bytes_compared k left right).order
+  pub left_alone : IsAcceptedBy k left → ¬ (IsAcceptedBy k right) → order ≡ Less
+  pub right_alone : ¬ (IsAcceptedBy k left) → IsAcceptedBy k right → order ≡ Greater
+  pub neither : ¬ (IsAcceptedBy k left) → ¬ (IsAcceptedBy k right) → order ≡ lexicographic left right
 
 -- Two byte strings have one order. The order of the same two the other way round is the reverse one. Less is transitive, and equal byte strings are in
 -- the same order with any third.

@@ -3,13 +3,12 @@
 ghost use Rattle.std.specs.Prelude.{◌≡◌, IfOk, IfErr, OnOk};
 ghost use Rattle.uca_order.specs.Keyings.{key_of_bytes, bytes_compared};
 ghost use Rattle.uca_owned.specs.Owned.{keying_in, key_in};
-ghost use Rattle.uca_owned.specs.Causes.{IsAcceptedText, IsKeyCause, IsCompareCause};
+ghost use Rattle.uca_owned.specs.Causes.{IsAcceptedBy, IsKeyCause, IsCompareCause};
 
 use crate::OwnedCollator;
-use crate::comparing::{compare_normalized, compare_plain};
+use crate::comparing::{compare_bytes, compare_same};
 use crate::faults::{CompareFault, KeyFault};
 use std::cmp::Ordering;
-use uca_text::TextFault;
 
 impl OwnedCollator {
     /// Makes the sort key of a text (UTS #10, section 7.3), over the key that was there. [`key`](OwnedCollator::key)
@@ -17,12 +16,13 @@ impl OwnedCollator {
     ///
     /// # Errors
     ///
-    /// `Utf8` if the bytes are not UTF-8. `Text` if the text is rejected, as [`normal`](uca_text::normal) says, or if an
-    /// allocation for the key failed. The key is then unspecified until the next one is made.
+    /// `Utf8` if the bytes are not UTF-8. `Text` if the text is rejected, as [`normal`](uca_text::normal) says of what
+    /// is read of it, or if an allocation for the key failed. The key is then unspecified until the next one is made.
     pub fn make_key(&mut self, text: &[u8]) -> Result<(), KeyFault>
         ensures key { OnOk result (key_in self.new ≡ key_of_bytes (keying_in self.old) text.now) }
-        ensures accepted { OnOk result (IsAcceptedText (keying_in self.old).collation.properties text.now) }
-        ensures fault { IfErr result (IsKeyCause (keying_in self.old).collation.properties text.now) }
+        ensures accepted { OnOk result (IsAcceptedBy (keying_in self.old) text.now) }
+        ensures fault { let k = keying_in self.old in
+            IfErr result (IsKeyCause k.settings.numbers k.collation.properties text.now) }
         ensures keying { keying_in self.new ≡ keying_in self.old }
     {
         let Ok(text) = str::from_utf8(text) else {
@@ -52,24 +52,20 @@ impl OwnedCollator {
     pub fn compare(&mut self, left: &[u8], right: &[u8]) -> Result<(Ordering, u8), CompareFault>
         ensures compared { IfOk result (λ found. let answer = bytes_compared (keying_in self.old) left.now right.now in
             (found.0 ≡ answer.order) × (found.1 ≡ answer.level)) }
-        ensures accepted { let properties = (keying_in self.old).collation.properties in
-            OnOk result (IsAcceptedText properties left.now × IsAcceptedText properties right.now) }
-        ensures fault { IfErr result (IsCompareCause (keying_in self.old).collation.properties left.now right.now) }
+        ensures accepted { let k = keying_in self.old in
+            OnOk result (IsAcceptedBy k left.now × IsAcceptedBy k right.now) }
+        ensures fault { let k = keying_in self.old in
+            IfErr result (IsCompareCause k.settings.numbers k.collation.properties left.now right.now) }
         ensures keying { keying_in self.new ≡ keying_in self.old }
         ensures key { key_in self.new ≡ key_in self.old }
     {
-        let Ok(found) = compare_plain(&self.collation, &mut self.plain, self.settings, left, right)
-        else {
-            return Err(CompareFault::Left(KeyFault::Text(TextFault::Memory)));
-        };
-        if let Some(pair) = found {
+        if let Some(pair) = compare_same(left, right) {
             return Ok(pair);
         }
-        compare_normalized(
+        compare_bytes(
             &self.collation,
+            &mut self.comparison,
             self.settings,
-            &mut self.left,
-            &mut self.right,
             left,
             right,
         )

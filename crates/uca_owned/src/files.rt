@@ -12,8 +12,8 @@ use uca_table::{read_data, read_packed_table};
 use uca_values::{Data, FaultKind, PackedTable, TableFault};
 use uca_weights::Source;
 
-/// The error of a reader of a file whose bytes are in memory. A read of these does not fail, so an error of the kind `Read`
-/// becomes one of the kind `Memory`. All others stay, and so does the line.
+/// The error of a reader of a file whose bytes are in memory. A read of these does not fail, so an error of the kind
+/// `Read` becomes one of the kind `Memory`. All others stay, and so does the line.
 pub fn in_memory(fault: TableFault) -> TableFault
     ensures line { result.line ≡ fault.line }
     ensures kind { (result.kind ≡ fault.kind) ⊎ (result.kind ≡ kinds.Memory) }

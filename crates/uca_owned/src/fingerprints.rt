@@ -10,10 +10,11 @@ use crate::files::{data_of, table_of};
 use crate::opening::chosen_settings;
 use std::alloc::Global;
 use uca_fingerprint::fingerprint;
-use uca_weights::{Depth, Weighting};
+use uca_weights::Asked;
 
-/// The fingerprint of what [`OwnedCollator::open`](crate::OwnedCollator::open) would key texts by, from the same arguments. It names
-/// the bytes of both files, the weighting that is asked for or else that of the table, and the depth. It makes no collator.
+/// The fingerprint of what [`OwnedCollator::open`](crate::OwnedCollator::open) would key texts by, from the same
+/// arguments. It names the bytes of both files, the weighting that is asked for or else that of the table, the depth,
+/// and how numbers compare. It makes no collator.
 ///
 /// # Errors
 ///
@@ -22,19 +23,18 @@ pub fn fingerprint_of(
     alloc: Global,
     table: &[u8],
     data_file: &[u8],
-    asked: Option<Weighting>,
-    depth: Depth,
+    asked: Asked,
 ) -> Result<[u8; 32], OpenFault>
-    ensures found { IfOk result (HasFingerprint asked depth table.now data_file.now) }
+    ensures found { IfOk result (HasFingerprint asked table.now data_file.now) }
     ensures only { (meant : TableContent) (properties : Properties) → MeanFiles table.now data_file.now meant properties →
-        MatchResult result (λ sum. sum ≡ fingerprint_by (keying asked depth meant properties) table.now data_file.now) IsOpenStop }
+        MatchResult result (λ sum. sum ≡ fingerprint_by (keying asked meant properties) table.now data_file.now) IsOpenStop }
     ensures fault { IfErr result (IsOpenCause table.now data_file.now) }
 {
     let read = match table_of(alloc, table) {
         Ok(read) => read,
         Err(fault) => return Err(OpenFault::Table(fault)),
     };
-    let settings = chosen_settings(asked, &read.header, depth);
+    let settings = chosen_settings(asked, &read.header);
     drop(read);
     let properties = match data_of(alloc, data_file) {
         Ok(properties) => properties,

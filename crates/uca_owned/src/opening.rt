@@ -13,19 +13,22 @@ use crate::files::{data_of, table_of};
 use std::alloc::{AllocError, Global};
 use uca_key_writer::KeyMemory;
 use uca_match::{OwnedCollation, Trie};
-use uca_text::Normal;
-use uca_text_comparer::PlainComparison;
+use uca_text_comparer::TextComparison;
 use uca_values::{Data, Header, PackedTable, Table};
-use uca_weights::{Depth, Settings, Weighting};
+use uca_weights::{Asked, Settings, Weighting};
 
-// The depth, and the weighting that is asked for, or else that of the table's `@variable`, or else shifted (UTS #10,
-// section 4).
-pub(crate) fn chosen_settings(asked: Option<Weighting>, header: &Header, depth: Depth) -> Settings
-    ensures { result ≡ settings_by asked header.now.setting depth }
+// What is asked for. If that is no weighting, it is that of the table's `@variable`, or else shifted (UTS #10, section
+// 4).
+pub(crate) fn chosen_settings(asked: Asked, header: &Header) -> Settings
+    ensures { result ≡ settings_by asked header.now.setting }
 {
     Settings {
-        weighting: asked.or(header.setting).unwrap_or(Weighting::Shifted),
-        depth,
+        weighting: asked
+            .weighting
+            .or(header.setting)
+            .unwrap_or(Weighting::Shifted),
+        depth: asked.depth,
+        numbers: asked.numbers,
     }
 }
 
@@ -35,13 +38,12 @@ fn collator_of(
     header: Header,
     rows: Trie,
     properties: Data,
-    asked: Option<Weighting>,
-    depth: Depth,
+    asked: Asked,
 ) -> OwnedCollator
-    ensures keying { keying_in result ≡ keying_over (rows_at rows) header asked depth (properties_of properties) }
+    ensures keying { keying_in result ≡ keying_over (rows_at rows) header asked (properties_of properties) }
     ensures key { key_in result ≡ [] }
 {
-    let settings = chosen_settings(asked, &header, depth);
+    let settings = chosen_settings(asked, &header);
     OwnedCollator {
         collation: OwnedCollation {
             rows,
@@ -49,9 +51,7 @@ fn collator_of(
             properties,
         },
         keys: KeyMemory::new(alloc, alloc, settings),
-        plain: PlainComparison::new(alloc, alloc),
-        left: Normal::new(alloc),
-        right: Normal::new(alloc),
+        comparison: TextComparison::new(alloc, alloc),
         settings,
     }
 }
@@ -61,19 +61,18 @@ fn packed_collator(
     alloc: Global,
     table: PackedTable,
     properties: Data,
-    asked: Option<Weighting>,
-    depth: Depth,
+    asked: Asked,
 ) -> Result<OwnedCollator, AllocError>
-    ensures keying { IfOk result (λ c. keying_in c ≡ keying asked depth table (properties_of properties)) }
+    ensures keying { IfOk result (λ c. keying_in c ≡ keying asked table (properties_of properties)) }
     ensures key { IfOk result (λ c. key_in c ≡ []) }
 {
     let (header, rows) = Trie::of_table(alloc, table)?;
-    Ok(collator_of(alloc, header, rows, properties, asked, depth))
+    Ok(collator_of(alloc, header, rows, properties, asked))
 }
 
 impl OwnedCollator {
-    /// A collator of a table and a data file that were read. The weighting is the one that is asked for, or else that
-    /// of the table's `@variable`, or else shifted (UTS #10, section 4). No key was made yet.
+    /// A collator of a table and a data file that were read, under the settings that are asked for. If these have no
+    /// weighting, it is that of the table's `@variable`, or else shifted (UTS #10, section 4). No key was made yet.
     ///
     /// # Errors
     ///
@@ -82,15 +81,14 @@ impl OwnedCollator {
         alloc: Global,
         table: Table,
         properties: Data,
-        asked: Option<Weighting>,
-        depth: Depth,
+        asked: Asked,
     ) -> Result<OwnedCollator, AllocError>
-        ensures keying { IfOk result (λ c. keying_in c ≡ keying asked depth table (properties_of properties)) }
+        ensures keying { IfOk result (λ c. keying_in c ≡ keying asked table (properties_of properties)) }
         ensures key { IfOk result (λ c. key_in c ≡ []) }
     {
         let rows = Trie::new(alloc, &table)?;
         let Table { header, .. } = table;
-        Ok(collator_of(alloc, header, rows, properties, asked, depth))
+        Ok(collator_of(alloc, header, rows, properties, asked))
     }
 
     /// Reads a table and then a data file from their bytes, and makes a collator of them, as
@@ -98,18 +96,18 @@ impl OwnedCollator {
     ///
     /// # Errors
     ///
-    /// `Table` if the table is rejected, else `Data` if the data file is, as [`read_table`](uca_table::read_table) and [`read_data`](uca_table::read_data) say. Both
-    /// also if an allocation failed while that file was read. `Memory` if one failed later.
+    /// `Table` if the table is rejected, else `Data` if the data file is, as [`read_table`](uca_table::read_table) and
+    /// [`read_data`](uca_table::read_data) say. Both also if an allocation failed while that file was read. `Memory` if
+    /// one failed later.
     pub fn open(
         alloc: Global,
         table: &[u8],
         data_file: &[u8],
-        asked: Option<Weighting>,
-        depth: Depth,
+        asked: Asked,
     ) -> Result<OwnedCollator, OpenFault>
-        ensures found { IfOk result (λ c. Opens asked depth table.now data_file.now (keying_in c)) }
+        ensures found { IfOk result (λ c. Opens asked table.now data_file.now (keying_in c)) }
         ensures only { (meant : TableContent) (properties : Properties) → MeanFiles table.now data_file.now meant properties →
-            MatchResult result (λ c. keying_in c ≡ keying asked depth meant properties) IsOpenStop }
+            MatchResult result (λ c. keying_in c ≡ keying asked meant properties) IsOpenStop }
         ensures key { IfOk result (λ c. key_in c ≡ []) }
         ensures fault { IfErr result (IsOpenCause table.now data_file.now) }
     {
@@ -121,7 +119,7 @@ impl OwnedCollator {
             Ok(properties) => properties,
             Err(fault) => return Err(OpenFault::Data(fault)),
         };
-        match packed_collator(alloc, read, properties, asked, depth) {
+        match packed_collator(alloc, read, properties, asked) {
             Ok(collator) => Ok(collator),
             Err(_) => Err(OpenFault::Memory),
         }

@@ -1,23 +1,22 @@
 //! An order of all byte strings.
 
-ghost use Rattle.std.specs.Prelude.{◌≡◌, chars, IfOk};
-ghost use Rattle.std.specs.Bool.{OnTrue, MatchBool};
+ghost use Rattle.std.specs.Prelude.{◌≡◌, IfOk};
 ghost use Rattle.uca_values.specs.Content.{properties_of};
-ghost use Rattle.uca_text.specs.Texts.{nfd_text};
 ghost use Rattle.uca_order.specs.Keyings.{keying_by};
+ghost use Rattle.uca_plain.specs.PointCache.{AreTrueEntries};
 ghost use Rattle.uca_match.specs.OwnedCollations.{owned_collation};
 ghost use Rattle.uca_owned.specs.Owned.{keying_in, key_in};
-ghost use Rattle.uca_owned.specs.Causes.{IsAcceptedText, is_memory_fault};
+ghost use Rattle.uca_owned.specs.Causes.{IsAcceptedText, IsCompareCause, is_memory_fault};
 ghost use Rattle.uca_owned.specs.Orders.{IsOrder};
 
 use crate::OwnedCollator;
-use crate::comparing::{compare_plain, compare_texts, renew};
-use crate::faults::KeyFault;
+use crate::comparing::{compare_bytes, judge};
+use crate::faults::{CompareFault, KeyFault};
 use std::alloc::AllocError;
 use std::cmp::Ordering;
 use uca_match::OwnedCollation;
-use uca_text::{Normal, TextFault};
-use uca_values::Data;
+use uca_text::TextFault;
+use uca_text_comparer::TextComparison;
 use uca_weights::Settings;
 
 // Whether an allocation failed.
@@ -32,58 +31,82 @@ fn is_memory(fault: KeyFault) -> bool
     }
 }
 
-// Takes the text of these bytes if it is accepted, and returns whether it is.
-#[tactic(auto, using(crate::proofs::Rejected::rejected))]
-fn renew_if_accepted(
-    normal: &mut Normal,
-    bytes: &[u8],
-    properties: &Data,
-) -> Result<bool, AllocError>
-    ensures found { IfOk result (λ accepted. OnTrue accepted (normal.new ≡ nfd_text (properties_of properties.now) (chars bytes.now))) }
-    ensures accepted { let properties = properties_of properties.now in
-        IfOk result (λ accepted. MatchBool accepted (IsAcceptedText properties bytes.now) (¬ (IsAcceptedText properties bytes.now))) }
+// The order of two byte strings.
+fn order_bytes(
+    collation: &OwnedCollation,
+    comparison: &mut TextComparison,
+    settings: Settings,
+    left: &[u8],
+    right: &[u8],
+) -> Result<Ordering, AllocError>
+    requires { AreTrueEntries (owned_collation collation.now) comparison.old.plain.points.entries.items }
+    ensures known { AreTrueEntries (owned_collation collation.now) comparison.new.plain.points.entries.items }
+    ensures order { IfOk result (IsOrder (keying_by (owned_collation collation.now) settings) left.now right.now) }
 {
-    match renew(normal, bytes, properties) {
-        Ok(()) => Ok(true),
-        Err(fault) => {
-            if is_memory(fault) {
-                Err(AllocError)
-            } else {
-                Ok(false)
+    match compare_bytes(collation, comparison, settings, left, right) {
+        Ok(pair) => Ok(pair.0),
+        Err(fault) => order_rejected(collation, comparison, settings, left, right, fault),
+    }
+}
+
+// The order of two byte strings of which one is rejected for this reason.
+fn order_rejected(
+    collation: &OwnedCollation,
+    comparison: &mut TextComparison,
+    settings: Settings,
+    left: &[u8],
+    right: &[u8],
+    fault: CompareFault,
+) -> Result<Ordering, AllocError>
+    requires known { AreTrueEntries (owned_collation collation.now) comparison.old.plain.points.entries.items }
+    requires cause { IsCompareCause settings.numbers (properties_of collation.now.properties) left.now right.now fault }
+    ensures known { AreTrueEntries (owned_collation collation.now) comparison.new.plain.points.entries.items }
+    ensures order { IfOk result (IsOrder (keying_by (owned_collation collation.now) settings) left.now right.now) }
+{
+    match fault {
+        CompareFault::Left(cause) => {
+            if is_memory(cause) {
+                return Err(AllocError);
             }
+            order_left_rejected(collation, comparison, settings, left, right)
+        }
+        CompareFault::Right(cause) => {
+            if is_memory(cause) {
+                return Err(AllocError);
+            }
+            Ok(Ordering::Less)
         }
     }
 }
 
-// The order of two byte strings, whose texts are normalized first, each in the memory of one that was before.
-fn order_normalized(
+// The order of two byte strings of which the left one is rejected.
+fn order_left_rejected(
     collation: &OwnedCollation,
+    comparison: &mut TextComparison,
     settings: Settings,
-    left_text: &mut Normal,
-    right_text: &mut Normal,
     left: &[u8],
     right: &[u8],
 ) -> Result<Ordering, AllocError>
-    ensures { IfOk result (IsOrder (keying_by (owned_collation collation.now) settings) left.now right.now) }
+    requires known { AreTrueEntries (owned_collation collation.now) comparison.old.plain.points.entries.items }
+    requires rejected { ¬ (IsAcceptedText settings.numbers (properties_of collation.now.properties) left.now) }
+    ensures known { AreTrueEntries (owned_collation collation.now) comparison.new.plain.points.entries.items }
+    ensures order { IfOk result (IsOrder (keying_by (owned_collation collation.now) settings) left.now right.now) }
 {
-    let has_left = renew_if_accepted(left_text, left, &collation.properties)?;
-    let has_right = renew_if_accepted(right_text, right, &collation.properties)?;
-    if has_left {
-        if has_right {
-            return Ok(compare_texts(collation, settings, left_text, right_text).0);
+    match judge(collation, comparison, settings, right) {
+        Ok(()) => Ok(Ordering::Greater),
+        Err(fault) => {
+            if is_memory(fault) {
+                return Err(AllocError);
+            }
+            Ok(left.cmp(right))
         }
-        return Ok(Ordering::Less);
     }
-    if has_right {
-        return Ok(Ordering::Greater);
-    }
-    Ok(left.cmp(right))
 }
 
 impl OwnedCollator {
     /// The order of any two byte strings. Texts that are accepted are in their order, as
-    /// [`compare`](OwnedCollator::compare) says. All other bytes come after them, in the order of bytes. The key that was
-    /// made last stays.
+    /// [`compare`](OwnedCollator::compare) says. All other bytes come after them, in the order of bytes. The key that
+    /// was made last stays.
     ///
     /// # Errors
     ///
@@ -96,15 +119,10 @@ impl OwnedCollator {
         if left == right {
             return Ok(Ordering::Equal);
         }
-        let found = compare_plain(&self.collation, &mut self.plain, self.settings, left, right)?;
-        if let Some(pair) = found {
-            return Ok(pair.0);
-        }
-        order_normalized(
+        order_bytes(
             &self.collation,
+            &mut self.comparison,
             self.settings,
-            &mut self.left,
-            &mut self.right,
             left,
             right,
         )

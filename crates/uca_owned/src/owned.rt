@@ -7,8 +7,7 @@ use std::alloc::Global;
 use std::marker::Model;
 use uca_key_writer::KeyMemory;
 use uca_match::OwnedCollation;
-use uca_text::Normal;
-use uca_text_comparer::PlainComparison;
+use uca_text_comparer::TextComparison;
 use uca_weights::Settings;
 
 /// A collator that owns all that it needs: what texts are read by, settings, and memory for texts and for one key.
@@ -18,11 +17,8 @@ pub struct OwnedCollator {
     pub(crate) collation: OwnedCollation,
     // the key that was made last, and memory for the next one
     pub(crate) keys: KeyMemory,
-    // memory for comparing plain texts
-    pub(crate) plain: PlainComparison,
-    // memory for the texts of other comparisons
-    pub(crate) left: Normal,
-    pub(crate) right: Normal,
+    // memory for comparing texts
+    pub(crate) comparison: TextComparison,
     pub(crate) settings: Settings,
 }
 
@@ -41,11 +37,11 @@ impl Model for OwnedCollator {
       key = c.keys.buffer.key;
     } };
 
-    ghost invariant = { λ c. IsKept (owned_collation c.collation) c.settings c.keys c.plain };
+    ghost invariant = { λ c. IsKept (owned_collation c.collation) c.settings c.keys c.comparison };
 }
 
 impl OwnedCollator {
-    /// The weighting and the depth of its keys.
+    /// The settings of its keys.
     pub fn settings(&self) -> Settings
         ensures { result ≡ (keying_in self.now).settings }
     {

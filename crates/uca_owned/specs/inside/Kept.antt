@@ -4,10 +4,11 @@ use Rattle.uca_weights.specs.declared.Settings.{Settings}
 use Rattle.uca_elements.specs.Collations.{Collation}
 use Rattle.uca_plain.specs.PointCache.{AreTrueEntries}
 use Rattle.uca_key_writer.specs.declared.key_memory.KeyMemory.{KeyMemory}
-use Rattle.uca_text_comparer.specs.declared.plain_comparison.PlainComparison.{PlainComparison}
+use Rattle.uca_key_writer.specs.Memories.{settings_in}
+use Rattle.uca_text_comparer.specs.declared.comparison.TextComparison.{TextComparison}
 
 -- its keys are of its settings, and what is known of code points is true of what it reads texts by
-pub record IsKept {A B : Type 0} (c : Collation) (settings : Settings) (keys : KeyMemory A) (plain : PlainComparison B) : Type 0 where
-  pub under : keys.buffer.settings ≡ settings
+pub record IsKept {A B : Type 0} (c : Collation) (settings : Settings) (keys : KeyMemory A) (comparison : TextComparison B) : Type 0 where
+  pub under : settings_in keys ≡ settings
   pub of_keys : AreTrueEntries c keys.points.entries.items
-  pub of_plain : AreTrueEntries c plain.points.entries.items
+  pub of_texts : AreTrueEntries c comparison.plain.points.entries.items

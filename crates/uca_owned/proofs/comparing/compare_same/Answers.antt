@@ -3,7 +3,7 @@ use Rattle.std.proofs.Common.{◌≡◌, List, ℕ, sym, ap, subst, arith}
 use Rattle.std.proofs.lemmas.Slice.Eq.{bytes_eq-Decides}
 use Rattle.std.specs.declared.cmp.Ordering.TheVariants.{Equal}
 use Rattle.uca_order.specs.Keyings.{bytes_compared}
-use Rattle.uca_owned.specs.Causes.{IsAcceptedText}
+use Rattle.uca_owned.specs.Causes.{IsAcceptedBy}
 use Rattle.uca_owned.proofs.OrderLemmas.{compared_itself, short_accepted}
 use Rattle.uca_owned.proofs.comparing.compare_same.Goals as goal
 
@@ -19,4 +19,4 @@ returns-clause-accepted c k =
     let left = c.args.left.now in
     let same = (bytes_eq-Decides left c.args.right.now).0 (sym c.if-eq.ensures) in
     let accepted = short_accepted k left c.in-Ok.ensures.cases.1 (omega arith) in
-    subst (λ (right : List ℕ). IsAcceptedText k.collation.properties left × IsAcceptedText k.collation.properties right) same (accepted, accepted)
+    subst (λ (right : List ℕ). IsAcceptedBy k left × IsAcceptedBy k right) same (accepted, accepted)

@@ -1,14 +1,12 @@
 -- The comparison is by what the collator reads texts by.
-use Rattle.std.proofs.Common.{◌≡◌, subst}
+use Rattle.std.proofs.Common.{◌≡◌, chars, subst}
 use Rattle.uca_elements.specs.Collations.{Collation}
-use Rattle.uca_order.specs.Depths.{read_text, compared_at}
+use Rattle.uca_order.specs.Depths.{texts_compared}
 use Rattle.uca_owned.proofs.comparing.compare_texts.Goals as goal
 
-pub returns : goal.returns
-returns c =
-    let left = c.args.left.now in
-    let right = c.args.right.now in
-    let compared = c.compare-compared.result in
-    subst (λ (k : Collation). (compared.order ≡ (compared_at c.args.settings.depth c.args.settings.weighting (read_text k left) (read_text k right)).order)
-    × (compared.level ≡ (compared_at c.args.settings.depth c.args.settings.weighting (read_text k left) (read_text k right)).level))
-    c.collator-collator.ensures c.compare-compared.ensures.compared
+pub returns-clause-compared : goal.returns-clause-compared
+returns-clause-compared c =
+    let compared = c.in_ok-compared.compared in
+    subst (λ (k : Collation). (compared.order ≡ (texts_compared k c.args.settings (chars c.args.left.now) (chars c.args.right.now)).order)
+    × (compared.level ≡ (texts_compared k c.args.settings (chars c.args.left.now) (chars c.args.right.now)).level))
+    c.collator-collator.ensures c.in_ok-compared.ensures.compared

@@ -6,14 +6,14 @@ use Rattle.uca_order.specs.Keyings.{keying, settings_by}
 use Rattle.uca_owned.proofs.fingerprints.fingerprint_of.Goals as goal
 
 -- the fingerprint is by the settings under the table that was read
-by_table : (c : goal.After-fingerprint) → c.fingerprint.result ≡ fingerprint (settings_by c.args.asked c.in-Ok.read.header.setting c.args.depth) c.args.table.now c.args.data_file.now
+by_table : (c : goal.After-fingerprint) → c.fingerprint.result ≡ fingerprint (settings_by c.args.asked c.in-Ok.read.header.setting) c.args.table.now c.args.data_file.now
 by_table c =
-    let settings = c.chosen_settings-settings.ensures ∙ ap (λ (t : TableContent). settings_by c.args.asked t.header.setting c.args.depth) c.read.view_is in
+    let settings = c.chosen_settings-settings.ensures ∙ ap (λ (t : TableContent). settings_by c.args.asked t.header.setting) c.read.view_is in
     c.fingerprint.ensures ∙ (λ i. fingerprint (settings i) c.args.table.now c.args.data_file.now)
 
 pub returns-clause-found : goal.returns-clause-found
 returns-clause-found c = record {
-  keys = keying c.args.asked c.args.depth c.in-Ok.read (properties_of c.in-Ok-data_of.properties);
+  keys = keying c.args.asked c.in-Ok.read (properties_of c.in-Ok-data_of.properties);
   opens = record {
     table = c.in-Ok.read;
     properties = properties_of c.in-Ok-data_of.properties;
@@ -29,7 +29,7 @@ returns-clause-found c = record {
 pub returns-clause-only : goal.returns-clause-only
 returns-clause-only c meant properties mean =
     let table_same = c.in-Ok.ensures.only meant mean.table_file in
-    by_table c ∙ (λ i. fingerprint (settings_by c.args.asked (table_same i).header.setting c.args.depth) c.args.table.now c.args.data_file.now)
+    by_table c ∙ (λ i. fingerprint (settings_by c.args.asked (table_same i).header.setting) c.args.table.now c.args.data_file.now)
 
 pub returns-in-Err-clause-only : goal.returns-in-Err-clause-only
 returns-in-Err-clause-only c meant properties mean = c.in-Err.ensures.only meant mean.table_file

@@ -8,4 +8,4 @@ use Rattle.uca_owned.proofs.opening.packed_collator.Goals as goal
 pub returns-clause-keying : goal.returns-clause-keying
 returns-clause-keying c =
     c.collator_of.ensures.keying
-    ∙ (λ i. keying_over (fun_ext c.in_ok-header.ensures.rows i) (c.in_ok-header.ensures.header i) c.args.asked c.args.depth (properties_of c.args.properties))
+    ∙ (λ i. keying_over (fun_ext c.in_ok-header.ensures.rows i) (c.in_ok-header.ensures.header i) c.args.asked (properties_of c.args.properties))

@@ -8,4 +8,4 @@ use Rattle.uca_owned.proofs.owned.OwnedCollator.new.Goals as goal
 pub returns-clause-keying : goal.returns-clause-keying
 returns-clause-keying c =
     let header = ap (λ (t : TableContent). t.header) c.table.view_is in
-    c.collator_of.ensures.keying ∙ (λ i. keying_over (fun_ext c.in_ok-rows.ensures i) (header i) c.args.asked c.args.depth (properties_of c.args.properties))
+    c.collator_of.ensures.keying ∙ (λ i. keying_over (fun_ext c.in_ok-rows.ensures i) (header i) c.args.asked (properties_of c.args.properties))

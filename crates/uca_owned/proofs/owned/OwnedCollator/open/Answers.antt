@@ -7,7 +7,7 @@ pub returns-in-Ok-packed_collator-clause-only : goal.returns-in-Ok-packed_collat
 returns-in-Ok-packed_collator-clause-only c meant properties mean =
     let table_same = c.in-Ok.ensures.only meant mean.table_file in
     let data_same = c.in-Ok-data_of.ensures.only properties mean.data_file in
-    c.in-Ok-packed_collator.ensures.keying ∙ (λ i. keying c.args.asked c.args.depth (table_same i) (data_same i))
+    c.in-Ok-packed_collator.ensures.keying ∙ (λ i. keying c.args.asked (table_same i) (data_same i))
 
 pub returns-in-Err-clause-only : goal.returns-in-Err-clause-only
 returns-in-Err-clause-only c meant properties mean = c.in-Err.ensures.only meant mean.table_file
