@@ -1,9 +1,10 @@
 //! Unicode collation (UTS #10) in one place: what a program needs to read a table, to make and compare sort keys, and
 //! to tailor a table. `docs/LIBRARY.md` shows its use by six short programs.
 //!
-//! A program that keeps a collator begins with `OwnedCollator`, which is opened by the bytes of two files. One that chooses its
-//! own lookup or memory takes a `Collator`. The crate passes on the calls and types of the crates below it. Its own are
-//! the methods `key` and `compare` of a `Collator` (`Collate`), and `compare_keys` and `level_count` of `Settings` (`StoredKeys`).
+//! A program that keeps a collator begins with `OwnedCollator`, which is opened by the bytes of two files. One that
+//! chooses its own lookup or memory takes a `Collator`. The crate passes on the calls and types of the crates below it.
+//! Its own are the methods `key` and `compare` of a `Collator` (`Collate`), and `compare_keys` and `level_count` of
+//! `Settings` (`StoredKeys`).
 #![tactic(auto)]
 
 mod collate;
@@ -16,7 +17,7 @@ pub use uca_certificates::{
     Certificate, CertificateFault, CertificateFaultKind, read_certificate, write_certificate,
 };
 pub use uca_key::{
-    Compared, KeyBuffer, KeyWriter, TextComparer, compare, compare_keys, key, key_of, level_count,
+    Compared, KeyWriter, TextComparer, compare, compare_keys, key, key_of, level_count,
 };
 pub use uca_match::{Collator, Elements, Lookup, RowList, Trie, row_of};
 pub use uca_owned::{CompareFault, KeyFault, OpenFault, OwnedCollator, fingerprint_of};
@@ -28,6 +29,6 @@ pub use uca_table::{
 pub use uca_tailor::{TailorFault, TailorKind, tailor};
 pub use uca_text::{Normal, TextFault, normal};
 pub use uca_weights::{
-    Depth, Element, Level, MapFault, MapFaultKind, Message, ReadFault, Run, Settings, Sink, Source,
-    Strength, WeightMap, Weighting, WriteFault,
+    Asked, Depth, Element, Level, MapFault, MapFaultKind, Message, Numbers, ReadFault, Run,
+    Settings, Sink, Source, Strength, WeightMap, Weighting, WriteFault,
 };

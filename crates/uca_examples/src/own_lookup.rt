@@ -76,5 +76,5 @@ pub fn key_by_letters(
     let letters = Letters { rows: &rows };
     let collator = Collator::new(&letters, header, data);
     let text = normal(alloc, text, data)?;
-    Ok(collator.key(alloc, SETTINGS, &text)?)
+    Ok(collator.key(alloc, SETTINGS.weighting, SETTINGS.depth, &text)?)
 }

@@ -2,15 +2,7 @@
 
 use crate::Failure;
 use std::alloc::Global;
-use uca_collation::{
-    Collate, Collator, Data, Depth, Normal, Settings, Table, Trie, Weighting, normal,
-};
-
-/// Texts that weigh the same have a fixed order too.
-const SETTINGS: Settings = Settings {
-    weighting: Weighting::Shifted,
-    depth: Depth::Identical,
-};
+use uca_collation::{Collate, Collator, Data, Depth, Normal, Table, Trie, Weighting, normal};
 
 /// A word of the list, as it is printed and as it is compared.
 #[derive(Drop)]
@@ -19,7 +11,7 @@ pub struct Word<'a> {
     normal: Normal,
 }
 
-/// The words in their order.
+/// The words in their order. Texts that weigh the same have a fixed order too.
 pub fn sorted_list<'a>(
     alloc: Global,
     table: &Table,
@@ -31,7 +23,12 @@ pub fn sorted_list<'a>(
     let mut words = words_of(alloc, data, texts)?;
     words.sort_by(|left, right| {
         collator
-            .compare(SETTINGS, &left.normal, &right.normal)
+            .compare(
+                Weighting::Shifted,
+                Depth::Identical,
+                &left.normal,
+                &right.normal,
+            )
             .order
     })?;
     Ok(words)

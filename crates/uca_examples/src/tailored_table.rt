@@ -29,5 +29,6 @@ pub fn order_under(
     let collator = Collator::new(&rows, &table.header, data);
     let left = normal(alloc, left, data)?;
     let right = normal(alloc, right, data)?;
-    Ok(collator.compare(SETTINGS, &left, &right).order)
+    let compared = collator.compare(SETTINGS.weighting, SETTINGS.depth, &left, &right);
+    Ok(compared.order)
 }

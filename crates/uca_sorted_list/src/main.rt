@@ -4,7 +4,14 @@
 use std::alloc::{AllocError, Global};
 use std::{fs, io};
 use thiserror::Error;
-use uca_collation::{Depth, KeyFault, OpenFault, OwnedCollator};
+use uca_collation::{Asked, Depth, KeyFault, Numbers, OpenFault, OwnedCollator};
+
+/// The weighting is the table's, and words that weigh the same have a fixed order too.
+const ASKED: Asked = Asked {
+    weighting: None,
+    depth: Depth::Identical,
+    numbers: Numbers::AsText,
+};
 
 /// Why there is no sorted list.
 #[derive(Debug, Drop, Error)]
@@ -35,7 +42,7 @@ fn main(rt: HostRuntime) -> Result<(), Failure> {
 fn opened(rt: &HostRuntime) -> Result<OwnedCollator, Failure> {
     let table = fs::read(rt, "table.txt")?;
     let data = fs::read(rt, "data.txt")?;
-    Ok(OwnedCollator::open(rt.alloc(), &table, &data, None, Depth::Identical)?)
+    Ok(OwnedCollator::open(rt.alloc(), &table, &data, ASKED)?)
 }
 
 /// Prints the words in their order.
