@@ -7,7 +7,7 @@ use Rattle.uca_weights.specs.declared.Depth.{Depth}
 use Rattle.uca_weights.specs.declared.Weighting.{Weighting}
 use Rattle.uca_weights.specs.Streams.{SourceState, SinkState}
 use Rattle.uca_fingerprint.specs.Fingerprints.{compact_fingerprint_text, fingerprint_text}
-use Rattle.uca_order.specs.Keyings.{settings_by}
+use Rattle.uca_order.specs.Keyings.{as_text, settings_by}
 use Rattle.uca_run_parts.specs.declared.faults.Role.{Role}
 use Rattle.uca_run_parts.specs.declared.faults.RunFault.{RunFault}
 use Rattle.uca_run_parts.specs.declared.faults.RunFault.TheVariants.{Write}
@@ -17,7 +17,7 @@ use Rattle.uca_fingerprint_runs.specs.SummedFiles.{BookedContent, SummedContent,
 
 -- the fingerprint of what texts are keyed by under files that were summed
 abbrev pub fingerprint_under : Option Weighting → Depth → SummedContent → List ℕ
-fingerprint_under asked depth files = sha256 (fingerprint_text (settings_by asked files.table.header.setting depth) files.table_sum files.data_sum)
+fingerprint_under asked depth files = sha256 (fingerprint_text (settings_by (as_text asked depth) files.table.header.setting) files.table_sum files.data_sum)
 
 -- its line: lower-case hexadecimal digits and LF
 abbrev pub fingerprint_line : Option Weighting → Depth → SummedContent → List ℕ

@@ -19,7 +19,7 @@ use std::io::{Read, Write};
 use uca_fingerprint::{compact_fingerprint_of_sums, fingerprint_of_sums};
 use uca_run_parts::RunFault;
 use uca_run_parts::output::write_text;
-use uca_weights::{Depth, Settings, Sink, Source, Weighting};
+use uca_weights::{Depth, Numbers, Settings, Sink, Source, Weighting};
 
 /// Writes the fingerprint of what keys are made by under a table and a data file: 64 lower-case hexadecimal digits and LF. The
 /// weighting is the one that is asked for, or else that of the table's `@variable`, or else shifted (UTS #10, section 4).
@@ -101,7 +101,12 @@ fn fingerprint_of_files<A: Allocator>(
     let (table, table_sum) = &files.table;
     let (_, data_sum) = &files.properties;
     let weighting = asked.or(table.header.setting).unwrap_or(Weighting::Shifted);
-    fingerprint_of_sums(Settings { weighting, depth }, table_sum, data_sum)
+    let settings = Settings {
+        weighting,
+        depth,
+        numbers: Numbers::AsText,
+    };
+    fingerprint_of_sums(settings, table_sum, data_sum)
 }
 
 // A sum as a line.
