@@ -6,7 +6,7 @@ use Rattle.uca_weights.specs.declared.Depth.{Depth}
 use Rattle.uca_weights.specs.declared.Weighting.{Weighting}
 use Rattle.uca_run_parts.specs.declared.faults.RunFault.{RunFault}
 use Rattle.uca_run_parts.specs.declared.faults.RunFault.TheVariants.{File, Input, StoredKey, Write, Memory, Text, Tailor, Changes, CertificateWrite, Open, SameAs, Words}
-use Rattle.uca_order.specs.Keyings.{Keying, keying, bytes_compared}
+use Rattle.uca_order.specs.Keyings.{as_text, Keying, keying, bytes_compared}
 use Rattle.uca_run_parts.specs.Files.{TableAndData}
 use Rattle.uca_run_parts.specs.Runs.{FailsToWrite, PartWentOut}
 use Rattle.uca_key_runs.specs.CompareRun.{IsWithinLimits, RefusesWord, WritesComparison, RunsCompare, comparison_line}
@@ -33,11 +33,11 @@ right_refused c left right begun now fault within refused =
 
 -- what is written of two texts is what a run returns for them
 pub run_compares : (asked : Option Weighting) (depth : Depth) (left right : List ℕ) (out out_new : SinkState) (files : TableAndData) (result : Result (Unit {0}) RunFault)
-    → WritesComparison (keying asked depth files.table files.properties) left right out.contents out_new.contents result → RunsCompare asked depth left right out out_new result files
+    → WritesComparison (keying (as_text asked depth) files.table files.properties) left right out.contents out_new.contents result → RunsCompare asked depth left right out out_new result files
 run_compares asked depth left right out out_new files (Ok x) writes = writes
 run_compares asked depth left right out out_new files (Err fault) writes = by_fault fault writes
   where
-    by_fault : (fault : RunFault) → WritesComparison {A = Unit {0}} (keying asked depth files.table files.properties) left right out.contents out_new.contents (Err fault)
+    by_fault : (fault : RunFault) → WritesComparison {A = Unit {0}} (keying (as_text asked depth) files.table files.properties) left right out.contents out_new.contents (Err fault)
         → RunsCompare {A = Unit {0}} asked depth left right out out_new (Err fault) files
     by_fault (File role cause) writes = writes
     by_fault (Input line kind) writes = writes

@@ -22,7 +22,7 @@ use Rattle.uca_run_parts.specs.EachLine.{WritesEach, ended_before_input}
 use Rattle.uca_run_parts.specs.Input.{clean_lines}
 use Rattle.uca_run_parts.specs.Runs.{FailsToWrite, ended_by_output, is_input_read}
 use Rattle.uca_fingerprint_runs.specs.SummedFiles.{BookedContent, SummedContent}
-use Rattle.uca_order.specs.Keyings.{settings_by, Keying, keying}
+use Rattle.uca_order.specs.Keyings.{as_text, settings_by, Keying, keying}
 use Rattle.uca_key_runs.specs.inside.HeadedParts.{ended_after}
 use Rattle.uca_key_runs.specs.HeadedRun.{RunsHeaded, WritesHeaded, header_under}
 use Rattle.uca_key_runs.specs.HeadedCompactRun.{RunsHeadedCompact, compact_header_under}
@@ -106,7 +106,7 @@ module _ (header : List ℕ) (properties : Properties) (bytes_of : List ℕ → 
 -- a run that ended by its lines lacked no memory for rows
 pub headed_under : {A : Type 0} (bytes_of : Keying → List ℕ → List ℕ) (asked : Option Weighting) (depth : Depth) (input input_new : SourceState) (out out_new : SinkState)
     (result : Result A RunFault) (files : SummedContent) → ended_before_input result ≡ false
-    → IfSome input.remaining (λ bytes. WritesHeaded (header_under asked depth files) files.properties (bytes_of (keying asked depth files.table files.properties)) bytes input_new.remaining out.contents out_new.contents result)
+    → IfSome input.remaining (λ bytes. WritesHeaded (header_under asked depth files) files.properties (bytes_of (keying (as_text asked depth) files.table files.properties)) bytes input_new.remaining out.contents out_new.contents result)
     → RunsHeaded bytes_of asked depth input input_new out out_new result files
 headed_under bytes_of asked depth input input_new out out_new (Ok x) files lines runs = runs
 headed_under bytes_of asked depth input input_new out out_new (Err Memory) files lines runs = let never : ⊥ = cc in absurd never
@@ -114,7 +114,7 @@ headed_under bytes_of asked depth input input_new out out_new (Err _) files line
 
 -- the header that is made of the sums of the files
 pub header_made : (asked : Option Weighting) (depth : Depth) (settings : Settings) (files : SummedContent) (sum header : List ℕ)
-    → settings ≡ settings_by asked files.table.header.setting depth → sum ≡ sha256 (fingerprint_text settings files.table_sum files.data_sum)
+    → settings ≡ settings_by (as_text asked depth) files.table.header.setting → sum ≡ sha256 (fingerprint_text settings files.table_sum files.data_sum)
     → header ≡ key_header settings sum ++ 10 ∷ [] → header ≡ header_under asked depth files
 header_made asked depth settings files sum header chosen is made =
     made ∙ ap (λ s. ended (key_header settings s)) is
@@ -126,7 +126,7 @@ header_made asked depth settings files sum header chosen is made =
 pub headed_compact_under : {A : Type 0} (bytes_of : BookContent → Keying → List ℕ → List ℕ) (asked : Option Weighting) (depth : Depth) (input input_new : SourceState)
     (out out_new : SinkState) (result : Result A RunFault) (content : BookedContent) → ended_before_input result ≡ false
     → IfSome input.remaining (λ bytes. WritesHeaded (compact_header_under asked depth content) content.files.properties
-    (bytes_of content.book (keying asked depth content.files.table content.files.properties)) bytes input_new.remaining out.contents out_new.contents result)
+    (bytes_of content.book (keying (as_text asked depth) content.files.table content.files.properties)) bytes input_new.remaining out.contents out_new.contents result)
     → RunsHeadedCompact bytes_of asked depth input input_new out out_new result content
 headed_compact_under bytes_of asked depth input input_new out out_new (Ok x) content lines runs = runs
 headed_compact_under bytes_of asked depth input input_new out out_new (Err Memory) content lines runs = let never : ⊥ = cc in absurd never
@@ -134,7 +134,7 @@ headed_compact_under bytes_of asked depth input input_new out out_new (Err _) co
 
 -- the header that is made of the sums of the files and of the book
 pub compact_header_made : (asked : Option Weighting) (depth : Depth) (settings : Settings) (content : BookedContent) (keys_sum sum header : List ℕ)
-    → settings ≡ settings_by asked content.files.table.header.setting depth
+    → settings ≡ settings_by (as_text asked depth) content.files.table.header.setting
     → keys_sum ≡ sha256 (fingerprint_text settings content.files.table_sum content.files.data_sum)
     → sum ≡ sha256 (compact_fingerprint_text keys_sum content.book_sum) → header ≡ compact_header settings sum ++ 10 ∷ []
     → header ≡ compact_header_under asked depth content

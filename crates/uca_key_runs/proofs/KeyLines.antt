@@ -1,12 +1,12 @@
 -- The line of output of a line, by its key and by the code points that are printed.
 use Rattle.std.proofs.Common.{◌≡◌, ℕ, ◌^◌, ◌<◌, ◌≤◌, true, List, Option, length, chars, refl, ap, ◌∙◌}
+use Rattle.unicode_normalization.specs.Forms.{nfd}
 use Rattle.uca_weights.specs.declared.Depth.{Depth}
 use Rattle.uca_weights.specs.declared.Depth.TheVariants.{Weights, Identical}
-use Rattle.uca_weights.specs.declared.Weighting.{Weighting}
+use Rattle.uca_weights.specs.declared.Settings.{Settings}
 use Rattle.uca_elements.specs.Collations.{Collation}
-use Rattle.uca_text.specs.Texts.{nfd_text}
 use Rattle.uca_books.specs.Books.{BookContent}
-use Rattle.uca_order.specs.Depths.{read_text}
+use Rattle.uca_order.specs.Depths.{read_points}
 use Rattle.uca_order.specs.Keyings.{keying_by}
 use Rattle.uca_key_runs.specs.declared.keys.KeyForm.{KeyForm}
 use Rattle.uca_key_runs.specs.declared.keys.KeyForm.TheVariants.{Alone, Digits, BeforeLine}
@@ -23,14 +23,14 @@ same_printed Digits depth key points others line shown = refl
 same_printed BeforeLine depth key points others line shown = refl
 
 -- what is printed of a line is its line of output
-pub line_made : (form : KeyForm) (book : Option BookContent) (depth made : Depth) (collation : Collation) (weighting : Weighting) (key points line : List ℕ)
-    → key ≡ shown_at book made weighting (read_text collation (nfd_text collation.properties (chars line))) → made ≡ depth_as form depth
-    → (shows_points form depth ≡ true → points ≡ (nfd_text collation.properties (chars line)).points)
-    → printed_as form depth key points line ≡ line_as form book (keying_by collation (record { weighting = weighting; depth = depth })) line
-line_made form book depth made collation weighting key points line is at shown =
-    let text = nfd_text collation.properties (chars line) in
-    ap (λ k. printed_as form depth k points line) (is ∙ ap (λ d. shown_at book d weighting (read_text collation text)) at)
-    ∙ same_printed form depth (shown_at book (depth_as form depth) weighting (read_text collation text)) points text.points line shown
+pub line_made : (form : KeyForm) (book : Option BookContent) (depth : Depth) (collation : Collation) (made : Settings) (key points line : List ℕ)
+    → key ≡ shown_at book made.depth made.weighting (read_points collation made.numbers (chars line)) → made.depth ≡ depth_as form depth
+    → (shows_points form depth ≡ true → points ≡ nfd (chars line))
+    → printed_as form depth key points line ≡ line_as form book (keying_by collation (record { weighting = made.weighting; depth = depth; numbers = made.numbers })) line
+line_made form book depth collation made key points line is at shown =
+    let text = read_points collation made.numbers (chars line) in
+    ap (λ k. printed_as form depth k points line) (is ∙ ap (λ d. shown_at book d made.weighting text) at)
+    ∙ same_printed form depth (shown_at book (depth_as form depth) made.weighting text) points text.points line shown
 
 -- a line of each form is short
 pub printed_is_short : (form : KeyForm) (depth : Depth) (key points line : List ℕ) → length key < 2 ^ 41 → length points ≤ 1048576 → length line ≤ 4194304

@@ -7,13 +7,13 @@ use Rattle.uca_run_parts.specs.declared.faults.RunFault.{RunFault}
 use Rattle.uca_run_parts.specs.declared.faults.RunFault.TheVariants.{Memory}
 use Rattle.uca_run_parts.specs.EachLine.{RunsEach, ended_before_input}
 use Rattle.uca_run_parts.specs.Files.{TableAndData}
-use Rattle.uca_order.specs.Keyings.{Keying, keying}
+use Rattle.uca_order.specs.Keyings.{as_text, Keying, keying}
 use Rattle.uca_key_runs.specs.KeysRun.{RunsUnder}
 
 -- a run that ended by its lines lacked no memory for rows
 pub runs_under : {A : Type 0} (bytes_of : Keying → List ℕ → List ℕ) (asked : Option Weighting) (depth : Depth) (input input_new : SourceState) (out out_new : SinkState)
     (result : Result A RunFault) (files : TableAndData) → ended_before_input result ≡ false
-    → RunsEach files.properties (bytes_of (keying asked depth files.table files.properties)) input input_new out out_new result
+    → RunsEach files.properties (bytes_of (keying (as_text asked depth) files.table files.properties)) input input_new out out_new result
     → RunsUnder bytes_of asked depth input input_new out out_new result files
 runs_under bytes_of asked depth input input_new out out_new (Ok x) files lines runs = runs
 runs_under bytes_of asked depth input input_new out out_new (Err Memory) files lines runs = let never : ⊥ = cc in absurd never

@@ -5,8 +5,7 @@ use Rattle.uca_weights.specs.declared.Weighting.{Weighting}
 use Rattle.uca_weights.specs.Streams.{SourceState, SinkState}
 use Rattle.uca_values.specs.Content.{Properties, TableContent}
 use Rattle.uca_books.specs.Books.{BookContent}
-use Rattle.uca_text.specs.Texts.{nfd_text}
-use Rattle.uca_order.specs.Depths.{read_text}
+use Rattle.uca_order.specs.Depths.{read_points}
 use Rattle.uca_order.specs.Keyings.{Keying}
 use Rattle.uca_compact.specs.CompactKeys.{compact_key, text_parts}
 use Rattle.uca_run_parts.specs.declared.faults.Role.{Role}
@@ -22,7 +21,7 @@ use Rattle.uca_key_runs.specs.KeysRun.{RunsUnder}
 -- The compact key of a text that is given as bytes of UTF-8: that of the parts of its key.
 abbrev pub compact_of_bytes : BookContent → Keying → List ℕ → List ℕ
 compact_of_bytes book c bytes =
-    let text = read_text c.collation (nfd_text c.collation.properties (chars bytes)) in
+    let text = read_points c.collation c.settings.numbers (chars bytes) in
     compact_key c.settings.depth c.settings.weighting book (text_parts c.settings.depth c.settings.weighting text)
 
 -- that of a line as a line of output

@@ -16,7 +16,7 @@ use Rattle.uca_run_parts.specs.declared.faults.RunFault.{RunFault}
 use Rattle.uca_run_parts.specs.declared.faults.RunFault.TheVariants.{Write, Memory, Text}
 use Rattle.uca_run_parts.specs.Files.{TableAndData, Over, HaveFailed, table_and_data, table_and_data_roles}
 use Rattle.uca_run_parts.specs.Runs.{PartWentOut, ended_before_output, ended_by_output}
-use Rattle.uca_order.specs.Keyings.{Keying, keying, bytes_compared}
+use Rattle.uca_order.specs.Keyings.{as_text, Keying, keying, bytes_compared}
 
 -- `<`, `=` or `>`
 abbrev pub sign_of : Ordering → ℕ
@@ -49,7 +49,7 @@ WritesComparison c left right begun now (Err _) = ⊥
 -- nothing of the texts, and nothing was written.
 abbrev pub RunsCompare : {A : Type 0} → Option Weighting → Depth → List ℕ → List ℕ → SinkState → SinkState → Result A RunFault → TableAndData → Type 0
 RunsCompare asked depth left right out out_new (Err Memory) files = out_new ≡ out
-RunsCompare asked depth left right out out_new result files = WritesComparison (keying asked depth files.table files.properties) left right out.contents out_new.contents result
+RunsCompare asked depth left right out out_new result files = WritesComparison (keying (as_text asked depth) files.table files.properties) left right out.contents out_new.contents result
 
 -- what a run of compare uses: the weighting that is asked for, the depth and the two texts
 pub record Comparing : Type 0 where

@@ -6,7 +6,7 @@ use Rattle.uca_weights.specs.Streams.{SourceState, SinkState}
 use Rattle.uca_books.specs.Books.{BookContent}
 use Rattle.uca_fingerprint.specs.KeyHeaders.{compact_header}
 use Rattle.uca_lines.specs.Lines.{ended}
-use Rattle.uca_order.specs.Keyings.{Keying, keying, settings_by}
+use Rattle.uca_order.specs.Keyings.{as_text, Keying, keying, settings_by}
 use Rattle.uca_run_parts.specs.declared.faults.RunFault.{RunFault}
 use Rattle.uca_run_parts.specs.declared.faults.RunFault.TheVariants.{Memory}
 use Rattle.uca_run_parts.specs.EachLine.{PrintsEach}
@@ -18,7 +18,7 @@ use Rattle.uca_key_runs.specs.HeadedRun.{WritesHeaded}
 -- the header of a run, with its LF; its fingerprint is the one that the run of fingerprints prints
 abbrev pub compact_header_under : Option Weighting → Depth → BookedContent → List ℕ
 compact_header_under asked depth content =
-    ended (compact_header (settings_by asked content.files.table.header.setting depth) (compact_fingerprint_under asked depth content))
+    ended (compact_header (settings_by (as_text asked depth) content.files.table.header.setting) (compact_fingerprint_under asked depth content))
 
 -- What a run returns under such files, if it writes these bytes for a line. An allocation that failed for looking up rows
 -- says nothing of the lines.
@@ -26,7 +26,7 @@ abbrev pub RunsHeadedCompact : {A : Type 0} → (BookContent → Keying → List
 RunsHeadedCompact bytes_of asked depth input input_new out out_new (Err Memory) content = ⊤
 RunsHeadedCompact bytes_of asked depth input input_new out out_new result content = IfSome input.remaining (λ bytes.
     WritesHeaded (compact_header_under asked depth content) content.files.properties
-    (bytes_of content.book (keying asked depth content.files.table content.files.properties))
+    (bytes_of content.book (keying (as_text asked depth) content.files.table content.files.properties))
     bytes input_new.remaining out.contents out_new.contents result)
 
 -- A run of compact keys with a header.

@@ -8,7 +8,7 @@ use Rattle.uca_weights.specs.Streams.{SourceState, SinkState}
 use Rattle.uca_values.specs.Content.{Properties}
 use Rattle.uca_fingerprint.specs.KeyHeaders.{key_header}
 use Rattle.uca_lines.specs.Lines.{ended, lines_of}
-use Rattle.uca_order.specs.Keyings.{settings_by, Keying, keying}
+use Rattle.uca_order.specs.Keyings.{as_text, settings_by, Keying, keying}
 use Rattle.uca_run_parts.specs.declared.faults.RunFault.{RunFault}
 use Rattle.uca_run_parts.specs.declared.faults.RunFault.TheVariants.{Input, Memory, Write}
 use Rattle.uca_run_parts.specs.EachLine.{PrintsEach}
@@ -22,7 +22,7 @@ use Rattle.uca_key_runs.specs.Keys.{keyed_line, printed_key}
 -- The header of a run, with its LF. It has the weighting that is asked for, or else the table's, or else shifted. It has the
 -- depth, and the fingerprint of both with the two files.
 abbrev pub header_under : Option Weighting → Depth → SummedContent → List ℕ
-header_under asked depth files = ended (key_header (settings_by asked files.table.header.setting depth) (fingerprint_under asked depth files))
+header_under asked depth files = ended (key_header (settings_by (as_text asked depth) files.table.header.setting) (fingerprint_under asked depth files))
 
 -- Of a text a part went out from its beginning, and not all. The count of its bytes stops at 2 ^ 64 - 1.
 abbrev pub CountedPartWentOut : Option (List ℕ) → Option (List ℕ) → List ℕ → ℕ → Type 0
@@ -41,7 +41,7 @@ WritesHeaded header properties bytes_of bytes left begun now (Err _) = ⊥
 abbrev pub RunsHeaded : {A : Type 0} → (Keying → List ℕ → List ℕ) → Option Weighting → Depth → SourceState → SourceState → SinkState → SinkState → Result A RunFault → SummedContent → Type 0
 RunsHeaded bytes_of asked depth input input_new out out_new (Err Memory) files = ⊤
 RunsHeaded bytes_of asked depth input input_new out out_new result files = IfSome input.remaining (λ bytes.
-    WritesHeaded (header_under asked depth files) files.properties (bytes_of (keying asked depth files.table files.properties))
+    WritesHeaded (header_under asked depth files) files.properties (bytes_of (keying (as_text asked depth) files.table files.properties))
     bytes input_new.remaining out.contents out_new.contents result)
 
 -- A run of keys with a header.

@@ -9,7 +9,7 @@ use Rattle.uca_order.specs.Levels.{lexicographic}
 use Rattle.uca_tailorings.specs.Images.{KeepAllWeights}
 use Rattle.uca_tailorings.specs.Tailorings.{Tailoring, IsTailoring, IsAccepted}
 use Rattle.uca_run_parts.specs.Input.{cause_of}
-use Rattle.uca_order.specs.Keyings.{Keying, keying, key_of_bytes, bytes_compared}
+use Rattle.uca_order.specs.Keyings.{as_text, Keying, keying, key_of_bytes, bytes_compared}
 use Rattle.uca_key_runs.specs.Keys.{printed_key, IsInKeyOrder}
 
 -- The bytes of the keys of two lines compare as the lines do level by level, and are equal exactly where no level differs.
@@ -36,10 +36,10 @@ KeyOrderIsOne = (c : Keying) (lines left right : List (List ℕ)) → IsInKeyOrd
 
 -- what lines are keyed by under the base of a tailoring, and under its tailored table
 abbrev pub base_keying : Option Weighting → Depth → Tailoring → Keying
-base_keying asked depth tailoring = keying asked depth tailoring.base tailoring.properties
+base_keying asked depth tailoring = keying (as_text asked depth) tailoring.base tailoring.properties
 
 abbrev pub tailored_keying : Option Weighting → Depth → Tailoring → Keying
-tailored_keying asked depth tailoring = keying asked depth tailoring.tailored tailoring.properties
+tailored_keying asked depth tailoring = keying (as_text asked depth) tailoring.tailored tailoring.properties
 
 -- after this many lines the line has no error, and no target occurs in its text in order
 pub record IsUntouchedLine (tailoring : Tailoring) (line : List ℕ) : Type 0 where

@@ -7,7 +7,7 @@ ghost use Rattle.uca_match.specs.OwnedCollations.{owned_collation};
 ghost use Rattle.uca_order.specs.Lengths.{HasShortRows};
 ghost use Rattle.uca_run_parts.specs.Files.{HaveFailed, Over, table_and_data, table_and_data_roles, table_with};
 ghost use Rattle.uca_run_parts.specs.EachLine.{ended_before_input};
-ghost use Rattle.uca_order.specs.Keyings.{settings_by};
+ghost use Rattle.uca_order.specs.Keyings.{as_text, settings_by};
 ghost use Rattle.uca_key_runs.specs.Keys.{IsCollation};
 
 pub(crate) mod packed_files;
@@ -20,7 +20,7 @@ use uca_match::{OwnedCollation, Trie};
 use uca_order::laws::rows_are_short;
 use uca_run_parts::RunFault;
 use uca_values::{Data, Header, PackedTable};
-use uca_weights::{Depth, Settings, Source, Weighting};
+use uca_weights::{Depth, Numbers, Settings, Source, Weighting};
 
 /// What keys go by: what texts are read by, and settings.
 #[derive(Drop)]
@@ -119,10 +119,11 @@ fn chosen_settings<A: Allocator>(
     header: &Header<A>,
     depth: Depth,
 ) -> Settings
-    ensures { result ≡ settings_by asked header.now.setting depth }
+    ensures { result ≡ settings_by (as_text asked depth) header.now.setting }
 {
     Settings {
         weighting: asked.or(header.setting).unwrap_or(Weighting::Shifted),
         depth,
+        numbers: Numbers::AsText,
     }
 }

@@ -8,6 +8,7 @@ ghost use Rattle.uca_text.specs.Limits.{IsAccepted};
 ghost use Rattle.uca_order.specs.Keyings.{keying_of};
 ghost use Rattle.uca_run_parts.specs.Files.{ended_by_file};
 ghost use Rattle.uca_run_parts.specs.Runs.{ended_before_output, ended_by_output};
+ghost use Rattle.uca_key_runs.specs.Keys.{settings_as_text};
 ghost use Rattle.uca_key_runs.specs.CompareRun.{comparison_line, RefusesWord, Compares, WritesComparison, comparing};
 
 use crate::collations::read_collation;
@@ -20,10 +21,10 @@ use uca_run_parts::faults::RunFault;
 use uca_run_parts::output::write_text;
 use uca_text::{Normal, normal};
 use uca_values::Data;
-use uca_weights::{Depth, Settings, Sink, Source, Weighting};
+use uca_weights::{Depth, Sink, Source, Weighting};
 
 /// Compares two texts, and writes a line: `<`, `=` or `>`, one space, and the level at which they differ, or 0 if none
-/// does. The texts are in `global` while they are compared; no key is made.
+/// does. Numbers compare digit by digit. The texts are in `global` while they are compared; no key is made.
 ///
 /// # Errors
 ///
@@ -32,12 +33,14 @@ use uca_weights::{Depth, Settings, Sink, Source, Weighting};
 pub fn compare_words<L: Lookup, A: Allocator, W: Write>(
     global: Global,
     collator: &Collator<L, A>,
-    settings: Settings,
+    weighting: Weighting,
+    depth: Depth,
     left: &str,
     right: &str,
     out: &mut Sink<W>,
 ) -> Result<(), RunFault>
-    ensures writes { WritesComparison (keying_of L.content collator.now settings) left.now right.now out.old.contents out.new.contents result }
+    ensures writes { let c = keying_of L.content collator.now (settings_as_text weighting depth) in
+        WritesComparison c left.now right.now out.old.contents out.new.contents result }
     ensures of_texts { ended_by_file result ≡ false }
     ensures nothing_written { ended_before_output result ≡ true → out.new ≡ out.old }
     ensures out_failed { out.new.failed ≡ (out.old.failed || ended_by_output result) }
@@ -46,7 +49,7 @@ pub fn compare_words<L: Lookup, A: Allocator, W: Write>(
     match text_of(global, right, true, collator.data) {
         Ok(right) => {
             let collator = *collator;
-            let compared = compare(&collator, settings.weighting, settings.depth, &left, &right);
+            let compared = compare(&collator, weighting, depth, &left, &right);
             drop(right);
             drop(left);
             write_text(&line_of(compared), out)
@@ -111,7 +114,15 @@ pub fn run_compare_in<A: Allocator + Copy, T: Read, D: Read, W: Write>(
     match read_collation(alloc, table, properties, weighting, depth) {
         Ok(read) => {
             let collator = read.collation.collator();
-            let end = compare_words(global, &collator, read.settings, left, right, out);
+            let end = compare_words(
+                global,
+                &collator,
+                read.settings.weighting,
+                read.settings.depth,
+                left,
+                right,
+                out,
+            );
             drop(read);
             end
         }

@@ -12,6 +12,7 @@ ghost use Rattle.uca_run_parts.specs.Runs.{is_input_read, ended_by_output};
 ghost use Rattle.uca_run_parts.specs.EachLine.{ended_before_input};
 ghost use Rattle.uca_fingerprint_runs.specs.SummedFiles.{summed_files, summed_with};
 ghost use Rattle.uca_order.specs.Keyings.{keying_of};
+ghost use Rattle.uca_key_runs.specs.Keys.{settings_as_text};
 ghost use Rattle.uca_key_runs.specs.HeadedRun.{PrintsHeadedKeys, PrintsHeadedLines, WritesHeaded};
 ghost use Rattle.uca_key_runs.specs.inside.HeadedParts.{IsHeaded, PrintsHeadedAs, ended_after};
 ghost use Rattle.uca_key_runs.specs.inside.KeyForms.{line_as};
@@ -26,7 +27,7 @@ use uca_fingerprint::{KeyHeader, fingerprint_of_sums};
 use uca_fingerprint_runs::summed_files::{SummedFiles, read_summed_files};
 use uca_run_parts::faults::RunFault;
 use uca_run_parts::output::write_text;
-use uca_weights::{Depth, Settings, Sink, Source, Weighting};
+use uca_weights::{Depth, Sink, Source, Weighting};
 
 // How a run ends that wrote a header first: an error of the writer counts its bytes too.
 fn after_header(header: &[u8], end: Result<(), RunFault>) -> Result<(), RunFault>
@@ -51,7 +52,8 @@ pub(crate) fn print_headed<L: Lookup, T: Allocator, A: Allocator + Copy, I: Read
     alloc: A,
     global: Global,
     collator: &Collator<L, T>,
-    settings: Settings,
+    weighting: Weighting,
+    depth: Depth,
     form: KeyForm,
     book: Option<Book<A>>,
     header: &[u8],
@@ -61,7 +63,7 @@ pub(crate) fn print_headed<L: Lookup, T: Allocator, A: Allocator + Copy, I: Read
     requires rows { HasShortRows (collation_of L.content collator.now).rows }
     requires short { length header.now ≤ 128 }
     ensures writes { IfSome input.old.remaining (λ bytes.
-        let c = keying_of L.content collator.now settings in
+        let c = keying_of L.content collator.now (settings_as_text weighting depth) in
         WritesHeaded header.now c.collation.properties (line_as form book c) bytes input.new.remaining out.old.contents out.new.contents result) }
     ensures of_lines { ended_before_input result ≡ false }
     ensures input_failed { ended_by_output result ≡ false →
@@ -70,7 +72,9 @@ pub(crate) fn print_headed<L: Lookup, T: Allocator, A: Allocator + Copy, I: Read
 {
     match write_text(header, out) {
         Ok(()) => {
-            let end = print_lines(alloc, global, collator, settings, form, book, input, out);
+            let end = print_lines(
+                alloc, global, collator, weighting, depth, form, book, input, out,
+            );
             after_header(header, end)
         }
         Err(fault) => {
@@ -149,7 +153,16 @@ fn run_headed_in<A: Allocator + Copy, T: Read, D: Read, I: Read, W: Write>(
             let settings = read.settings;
             let first = header.as_bytes();
             let end = print_headed(
-                alloc, global, &collator, settings, form, None, first, input, out,
+                alloc,
+                global,
+                &collator,
+                settings.weighting,
+                settings.depth,
+                form,
+                None,
+                first,
+                input,
+                out,
             );
             drop(header);
             drop(read);

@@ -2,16 +2,17 @@
 
 ghost use Rattle.std.specs.Prelude.{◌≡◌, ◌∷◌, [], ℕ, ◌+◌, ◌-◌, ◌*◌, ◌^◌, ◌<◌, ◌≤◌, ◌||◌, true, false, List, Option, IfErr, IfOk, IfSome, OnOk, length, chars};
 ghost use Rattle.std.specs.Bool.{OnTrue};
+ghost use Rattle.uca_weights.specs.declared.Numbers.TheVariants.{AsText};
 ghost use Rattle.uca_values.specs.Content.{properties_of};
 ghost use Rattle.uca_lines.specs.OutputBuffer.{IsBuffered};
 ghost use Rattle.uca_lines.specs.Buffered.{HasRoom, WritesThrough};
 ghost use Rattle.uca_text.specs.Texts.{nfd_text};
 ghost use Rattle.uca_elements.specs.Collations.{collation_of};
 ghost use Rattle.uca_order.specs.Lengths.{HasShortRows};
-ghost use Rattle.uca_order.specs.Depths.{read_text};
+ghost use Rattle.uca_order.specs.Depths.{read_points};
 ghost use Rattle.uca_order.specs.Keyings.{keying_of};
 ghost use Rattle.uca_key_writer.specs.Writers.{collation_by};
-ghost use Rattle.uca_key_runs.specs.Keys.{keying_at, keying_of_writer};
+ghost use Rattle.uca_key_runs.specs.Keys.{keying_at, keying_of_writer, settings_as_text};
 ghost use Rattle.uca_run_parts.specs.Runs.{is_input_read, ended_by_output};
 ghost use Rattle.uca_run_parts.specs.EachLine.{WritesEach, ended_before_input};
 ghost use Rattle.uca_run_parts.specs.EachLineSoFar.{HasWritten, WritesText, WritesRest};
@@ -36,7 +37,7 @@ use uca_run_parts::output::end_output;
 use uca_run_parts::print::{KeyDigits, print_digits, print_key, print_keyed_line};
 use uca_text::Normal;
 use uca_values::Data;
-use uca_weights::{Depth, Settings, Sink, Source, Weighting, WriteFault};
+use uca_weights::{Depth, Numbers, Settings, Sink, Source, Weighting, WriteFault};
 
 /// What the output has of a line of the input.
 #[derive(Clone, Copy)]
@@ -110,10 +111,11 @@ fn make_shown_key<'a, L: Lookup, T: Allocator, A: Allocator>(
     lines: &InputLines<A>,
 ) -> Result<(), InputKind>
     requires rows { HasShortRows (collation_by L.content key.old).rows }
+    requires as_text { key.old.settings.numbers ≡ AsText }
     requires compact { IsFor (compacter_of compacting.old) key.old.settings }
     ensures shown { let c = keying_of_writer L.content key.old in
         OnOk result (shown_of compacting.new key.new.key ≡ shown_at (book_of compacting.old) c.settings.depth c.settings.weighting
-        (read_text c.collation (nfd_text c.collation.properties (chars lines.now.line)))) }
+        (read_points c.collation c.settings.numbers (chars lines.now.line))) }
     ensures short { OnOk result (length (shown_of compacting.new key.new.key) < 2 ^ 41) }
     ensures clean { (before : ℕ) → before < LINE_LIMIT →
         OnOk result (cause_of (collation_by L.content key.old).properties before lines.now.line ≡ None) }
@@ -301,7 +303,8 @@ pub(crate) fn print_lines<L: Lookup, T: Allocator, A: Allocator + Copy, I: Read,
     alloc: A,
     global: Global,
     collator: &Collator<L, T>,
-    settings: Settings,
+    weighting: Weighting,
+    depth: Depth,
     form: KeyForm,
     book: Option<Book<A>>,
     input: &mut Source<I>,
@@ -309,7 +312,7 @@ pub(crate) fn print_lines<L: Lookup, T: Allocator, A: Allocator + Copy, I: Read,
 ) -> Result<(), RunFault>
     requires { HasShortRows (collation_of L.content collator.now).rows }
     ensures writes { IfSome input.old.remaining (λ bytes.
-        let c = keying_of L.content collator.now settings in
+        let c = keying_of L.content collator.now (settings_as_text weighting depth) in
         WritesEach c.collation.properties (line_as form book c) bytes input.new.remaining out.old.contents out.new.contents result) }
     ensures of_lines { ended_before_input result ≡ false }
     ensures input_failed { ended_by_output result ≡ false →
@@ -317,8 +320,9 @@ pub(crate) fn print_lines<L: Lookup, T: Allocator, A: Allocator + Copy, I: Read,
     ensures out_failed { out.new.failed ≡ (out.old.failed || ended_by_output result) }
 {
     let made = Settings {
-        depth: depth_of(form, settings.depth),
-        ..settings
+        weighting,
+        depth: depth_of(form, depth),
+        numbers: Numbers::AsText,
     };
     let mut run = KeyRun {
         lines: InputLines::new(alloc),
@@ -328,7 +332,7 @@ pub(crate) fn print_lines<L: Lookup, T: Allocator, A: Allocator + Copy, I: Read,
         output: OutputBuffer::new(),
         digits: KeyDigits::new(),
     };
-    let end = run.print_rest(form, settings.depth, collator.data, input, out);
+    let end = run.print_rest(form, depth, collator.data, input, out);
     let end = end_output(&mut run.output, out, end);
     drop(run);
     end
@@ -414,7 +418,8 @@ pub(crate) fn run_lines_in<A: Allocator + Copy, T: Read, D: Read, I: Read, W: Wr
                 alloc,
                 global,
                 &collator,
-                read.settings,
+                read.settings.weighting,
+                read.settings.depth,
                 form,
                 None,
                 input,

@@ -1,6 +1,7 @@
 //! The sort key of a line of the input (`write_line_key`), or the beginning of it.
 
 ghost use Rattle.std.specs.Prelude.{◌≡◌, ℕ, ◌<◌, ◌^◌, false, IfErr, OnOk, length, take};
+ghost use Rattle.uca_weights.specs.declared.Numbers.TheVariants.{AsText};
 ghost use Rattle.uca_order.specs.Lengths.{HasShortRows};
 ghost use Rattle.uca_key_writer.specs.Writers.{collation_by};
 ghost use Rattle.uca_run_parts.specs.Input.{cause_of};
@@ -24,6 +25,7 @@ pub(crate) fn write_line_key<'a, L: Lookup, T: Allocator, A: Allocator>(
     writer: &mut KeyWriter<'a, L, T, A>,
     lines: &InputLines<A>,
 ) -> Result<(), InputKind>
+    requires { writer.old.settings.numbers ≡ AsText }
     ensures key { OnOk result (writer.new.key ≡ key_of_bytes (keying_of_writer L.content writer.old) lines.now.line) }
     ensures clean { (before : ℕ) → before < LINE_LIMIT →
         OnOk result (cause_of (collation_by L.content writer.old).properties before lines.now.line ≡ None) }
@@ -53,6 +55,7 @@ pub(crate) fn write_line_beginning<'a, L: Lookup, T: Allocator, A: Allocator>(
     writer: &mut KeyWriter<'a, L, T, A>,
     lines: &InputLines<A>,
 ) -> Result<(), InputKind>
+    requires { writer.old.settings.numbers ≡ AsText }
     ensures beginning { OnOk result (take 16 writer.new.key ≡
         take 16 (key_of_bytes (keying_of_writer L.content writer.old) lines.now.line)) }
     ensures clean { (before : ℕ) → before < LINE_LIMIT →

@@ -5,10 +5,10 @@ use Rattle.uca_weights.specs.Streams.{SourceState, SinkState}
 use Rattle.uca_weights.specs.declared.Weighting.{Weighting}
 use Rattle.uca_weights.specs.declared.Depth.{Depth}
 use Rattle.uca_weights.specs.declared.Depth.TheVariants.{Weights, Identical}
+use Rattle.uca_weights.specs.declared.Numbers.TheVariants.{AsText}
 use Rattle.uca_values.specs.Content.{Properties}
-use Rattle.uca_text.specs.Texts.{NfdText, nfd_text}
 use Rattle.uca_books.specs.Books.{BookContent}
-use Rattle.uca_order.specs.Depths.{ReadText, read_text, key_at}
+use Rattle.uca_order.specs.Depths.{ReadText, read_points, key_at}
 use Rattle.uca_order.specs.Lengths.{HasShortRows}
 use Rattle.uca_run_parts.specs.declared.faults.RunFault.{RunFault}
 use Rattle.uca_key_runs.specs.declared.keys.KeyForm.{KeyForm}
@@ -47,13 +47,13 @@ shown_at None depth weighting text = key_at depth weighting text
 shown_at (Some book) depth weighting text = compact_key depth weighting book (text_parts depth weighting text)
 
 -- the line of output of a line with its text
-abbrev pub text_as : KeyForm → Option BookContent → Keying → NfdText → List ℕ → List ℕ
+abbrev pub text_as : KeyForm → Option BookContent → Keying → ReadText → List ℕ → List ℕ
 text_as form book c text line =
-    printed_as form c.settings.depth (shown_at book (depth_as form c.settings.depth) c.settings.weighting (read_text c.collation text)) text.points line
+    printed_as form c.settings.depth (shown_at book (depth_as form c.settings.depth) c.settings.weighting text) text.points line
 
 -- that of a line of the input, which is UTF-8
 abbrev pub line_as : KeyForm → Option BookContent → Keying → List ℕ → List ℕ
-line_as form book c line = text_as form book c (nfd_text c.collation.properties (chars line)) line
+line_as form book c line = text_as form book c (read_points c.collation c.settings.numbers (chars line)) line
 
 -- a run that writes such a line for each line of its input
 abbrev pub PrintsAs : {A : Type 0} → KeyForm → Option Weighting → Depth → List SourceState → List SourceState → SourceState → SourceState
@@ -95,8 +95,9 @@ IsFor (Some by) settings = by.settings ≡ settings
 
 -- ---- A writer of the keys of a form
 
--- keys of the form at that depth go by this, and texts by these properties
+-- keys of the form at that depth go by this, and texts by these properties; numbers compare as any other text
 pub record MakesKeys (form : KeyForm) (depth : Depth) (properties : Properties) (c : Keying) : Type 0 where
   pub key_depth : c.settings.depth ≡ depth_as form depth
+  pub as_text : c.settings.numbers ≡ AsText
   pub same : properties ≡ c.collation.properties
   pub short_rows : HasShortRows c.collation.rows

@@ -6,7 +6,7 @@ use Rattle.uca_match.specs.OwnedCollations.{owned_collation}
 use Rattle.uca_books.specs.Books.{BookContent}
 use Rattle.uca_elements.specs.Collations.{Collation, collation_of}
 use Rattle.uca_order.specs.Lengths.{HasShortRows}
-use Rattle.uca_order.specs.Keyings.{Keying, keying}
+use Rattle.uca_order.specs.Keyings.{as_text, Keying, keying}
 use Rattle.uca_run_parts.specs.declared.faults.RunFault.TheVariants.{Memory}
 use Rattle.uca_run_parts.specs.EachLine.{RunsEach}
 use Rattle.uca_run_parts.specs.Files.{table_with}
@@ -46,7 +46,7 @@ returns-in-Ok g c =
     input ends.new.input out ends.new.out tt ends.result ends.ensures.of_lines
     (λ content is. runs_under (bytes_of content.book) c.args.weighting c.args.depth input ends.new.input out ends.new.out ends.result
     (table_with content.table content.properties) ends.ensures.of_lines
-    (subst (λ (b : BookContent). RunsEach content.properties (bytes_of b (keying c.args.weighting c.args.depth content.table content.properties)) input ends.new.input out ends.new.out ends.result) is.1
+    (subst (λ (b : BookContent). RunsEach content.properties (bytes_of b (keying (as_text c.args.weighting c.args.depth) content.table content.properties)) input ends.new.input out ends.new.out ends.result) is.1
     (subst (λ (d : Keying). RunsEach d.collation.properties (bytes_of c.in-Ok.book d) input ends.new.input out ends.new.out ends.result)
     (same_keying c.args.weighting c.args.depth (collation_of rows_at c.collator-collator.result) made read.settings (table_with content.table content.properties) c.collator-collator.ensures is.0)
     ends.ensures.writes)))

@@ -4,6 +4,7 @@ use Rattle.uca_run_parts.specs.EachLine.{ended_before_input}
 use Rattle.uca_run_parts.specs.Runs.{is_input_read}
 use Rattle.uca_run_parts.proofs.Running.{as_before}
 use Rattle.uca_order.specs.Keyings.{keying_of}
+use Rattle.uca_key_runs.specs.Keys.{settings_as_text}
 use Rattle.uca_key_runs.specs.HeadedRun.{WritesHeaded}
 use Rattle.uca_key_runs.specs.inside.KeyForms.{line_as}
 use Rattle.uca_key_runs.proofs.HeadedRuns.{headed, input_after, out_after, part_of_header, same_before_input}
@@ -11,7 +12,7 @@ use Rattle.uca_key_runs.proofs.headed.print_headed.Goals as goal
 
 pub returns-in-Ok-clause-writes : goal.returns-in-Ok-clause-writes
 returns-in-Ok-clause-writes g c =
-    let keying = keying_of g.L.Lookup.content c.args.collator.now c.args.settings in
+    let keying = keying_of g.L.Lookup.content c.args.collator.now (settings_as_text c.args.weighting c.args.depth) in
     let properties = keying.collation.properties in
     let bytes_of = line_as c.args.form c.args.book keying in
     let header = c.args.header.now in
@@ -35,7 +36,7 @@ returns-in-Ok-clause-out_failed g c = out_after (length c.args.header.now) c.pri
 
 pub returns-in-Err-clause-writes : goal.returns-in-Err-clause-writes
 returns-in-Err-clause-writes g c =
-    let keying = keying_of g.L.Lookup.content c.args.collator.now c.args.settings in
+    let keying = keying_of g.L.Lookup.content c.args.collator.now (settings_as_text c.args.weighting c.args.depth) in
     part_of_header c.args.header.now keying.collation.properties (line_as c.args.form c.args.book keying) c.args.input.now.remaining c.args.input.now.remaining
     c.args.out.now.contents c.write_text.new.out.contents c.in-Err.fault c.requires.short c.in-Err.ensures.failed_in
 

@@ -9,7 +9,7 @@ use Rattle.uca_run_parts.specs.declared.faults.RunFault.TheVariants.{Memory}
 use Rattle.uca_run_parts.specs.Files.{table_and_data_roles, table_with}
 use Rattle.uca_run_parts.proofs.WholeRuns.{ended_before, ended_by_lines}
 use Rattle.uca_fingerprint_runs.specs.SummedFiles.{summed_files}
-use Rattle.uca_order.specs.Keyings.{Keying, keying}
+use Rattle.uca_order.specs.Keyings.{as_text, Keying, keying}
 use Rattle.uca_key_runs.proofs.Keyings.{same_keying}
 use Rattle.uca_key_runs.specs.inside.HeadedParts.{IsHeaded}
 use Rattle.uca_key_runs.specs.HeadedRun.{RunsHeaded, WritesHeaded}
@@ -44,7 +44,7 @@ returns-in-Ok g c =
     (c.args.table.now ∷ c.args.properties.now ∷ []) (c.read_headed.new.table ∷ c.read_headed.new.properties ∷ []) {B = ⊤}
     input input_new out out_new tt end c.print_headed-end.ensures.of_lines
     (λ content is. headed_under (line_as c.args.form None) c.args.weighting c.args.depth input input_new out out_new end content c.print_headed-end.ensures.of_lines
-    (subst (λ header. IfSome input.remaining (λ bytes. WritesHeaded header content.properties (line_as c.args.form None (keying c.args.weighting c.args.depth content.table content.properties)) bytes input_new.remaining out.contents out_new.contents end)) (c.as_bytes-first.ensures.line ∙ is.1)
+    (subst (λ header. IfSome input.remaining (λ bytes. WritesHeaded header content.properties (line_as c.args.form None (keying (as_text c.args.weighting c.args.depth) content.table content.properties)) bytes input_new.remaining out.contents out_new.contents end)) (c.as_bytes-first.ensures.line ∙ is.1)
     (subst (λ (d : Keying). IfSome input.remaining (λ bytes. WritesHeaded c.as_bytes-first.result.now d.collation.properties (line_as c.args.form None d) bytes input_new.remaining out.contents out_new.contents end))
     (same_keying c.args.weighting c.args.depth (collation_of rows_at c.collator-collator.result) made read.settings (table_with content.table content.properties) c.collator-collator.ensures is.0)
     c.print_headed-end.ensures.writes)))

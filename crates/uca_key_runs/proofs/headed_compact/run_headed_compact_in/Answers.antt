@@ -6,7 +6,7 @@ use Rattle.uca_match.specs.OwnedCollations.{owned_collation}
 use Rattle.uca_books.specs.Books.{BookContent}
 use Rattle.uca_elements.specs.Collations.{Collation, collation_of}
 use Rattle.uca_order.specs.Lengths.{HasShortRows}
-use Rattle.uca_order.specs.Keyings.{Keying, keying}
+use Rattle.uca_order.specs.Keyings.{as_text, Keying, keying}
 use Rattle.uca_run_parts.specs.declared.faults.RunFault.TheVariants.{Memory}
 use Rattle.uca_run_parts.specs.Files.{table_with}
 use Rattle.uca_run_parts.proofs.WholeRuns.{ended_before, ended_by_lines}
@@ -47,7 +47,7 @@ returns-in-Ok g c =
     (c.args.table.now ∷ c.args.properties.now ∷ c.args.book.now ∷ []) (c.read_headed.new.table ∷ c.read_headed.new.properties ∷ c.read_headed.new.book ∷ []) {B = ⊤}
     input ends.new.input out ends.new.out tt ends.result ends.ensures.of_lines
     (λ content is.
-    let keyed = keying c.args.weighting c.args.depth content.files.table content.files.properties in
+    let keyed = keying (as_text c.args.weighting c.args.depth) content.files.table content.files.properties in
     headed_compact_under bytes_of c.args.weighting c.args.depth input ends.new.input out ends.new.out ends.result content ends.ensures.of_lines
     (subst (λ (b : BookContent). IfSome input.remaining (λ bytes. WritesHeaded (compact_header_under c.args.weighting c.args.depth content) content.files.properties (bytes_of b keyed) bytes ends.new.input.remaining out.contents ends.new.out.contents ends.result)) is.book
     (subst (λ (header : List ℕ). IfSome input.remaining (λ bytes. WritesHeaded header content.files.properties (bytes_of c.in-Ok.book keyed) bytes ends.new.input.remaining out.contents ends.new.out.contents ends.result)) (c.as_bytes-first.ensures.line ∙ is.header)

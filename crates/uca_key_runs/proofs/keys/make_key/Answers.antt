@@ -16,7 +16,7 @@ returns-in-Ok-take_shown_text-clause-made g c =
     let made = c.make_shown_key.new in
     let shown = λ (h : shows_points c.args.form c.args.depth ≡ true).
     subst (λ properties. c.take_shown_text.new.text.points ≡ (nfd_text properties (chars line)).points) c.requires.keys.same (c.in-Ok-take_shown_text.ensures.points h) in
-    line_made c.args.form (book_of c.args.compacting.now) c.args.depth key.settings.depth (collation_by g.L.Lookup.content key) key.settings.weighting
+    line_made c.args.form (book_of c.args.compacting.now) c.args.depth (collation_by g.L.Lookup.content key) key.settings
     (shown_of made.compacting made.key.key) c.take_shown_text.new.text.points line
     c.in-Ok.ensures.shown c.requires.keys.key_depth shown
 

@@ -4,7 +4,7 @@ use Rattle.uca_weights.specs.declared.Settings.{Settings}
 use Rattle.uca_elements.specs.Collations.{Collation}
 use Rattle.uca_values.specs.Content.{properties_of}
 use Rattle.uca_order.specs.Keyings.{keying_of}
-use Rattle.uca_key_runs.specs.Keys.{keying_at}
+use Rattle.uca_key_runs.specs.Keys.{keying_at, settings_as_text}
 use Rattle.uca_order.specs.Lengths.{HasShortRows}
 use Rattle.uca_books.specs.Books.{BookContent}
 use Rattle.uca_key_runs.specs.inside.KeyForms.{book_of, line_as}
@@ -17,6 +17,7 @@ use Rattle.uca_key_runs.proofs.keys.print_lines.Goals as goal
 pub print_rest-end-requires-clause-makes : goal.print_rest-end-requires-clause-makes
 print_rest-end-requires-clause-makes g c = record {
   key_depth = ap (λ (s : Settings). s.depth) c.new-2.ensures.settings ∙ c.depth_of.ensures;
+  as_text = ap (λ (s : Settings). s.numbers) c.new-2.ensures.settings;
   same = ap (λ (collation : Collation). collation.properties) (sym c.new-2.ensures.collation);
   short_rows = subst (λ (collation : Collation). HasShortRows collation.rows) (sym c.new-2.ensures.collation) c.requires;
 }
@@ -29,10 +30,10 @@ pub returns-clause-writes : goal.returns-clause-writes
 returns-clause-writes g c =
     let properties = properties_of c.args.collator.now.data.now in
     let form = c.args.form in
-    let keying = keying_at g.L.Lookup.content c.new-2.result c.args.settings.depth in
-    let asked = keying_of g.L.Lookup.content c.args.collator.now c.args.settings in
+    let keying = keying_at g.L.Lookup.content c.new-2.result c.args.depth in
+    let asked = keying_of g.L.Lookup.content c.args.collator.now (settings_as_text c.args.weighting c.args.depth) in
     let same : keying ≡ asked =
-    same_parts c.new-2.ensures.collation (ap (λ (s : Settings). record { weighting = s.weighting; depth = c.args.settings.depth }) c.new-2.ensures.settings) in
+    same_parts c.new-2.ensures.collation (ap (λ (s : Settings). record { weighting = s.weighting; depth = c.args.depth; numbers = s.numbers }) c.new-2.ensures.settings) in
     let input = c.args.input.now in
     let out = c.args.out.now in
     let book = book_of c.compacting_by.result in
@@ -47,7 +48,7 @@ returns-clause-writes g c =
 pub returns-clause-of_lines : goal.returns-clause-of_lines
 returns-clause-of_lines g c =
     let properties = properties_of c.args.collator.now.data.now in
-    let bytes_of = line_as c.args.form (book_of c.compacting_by.result) (keying_at g.L.Lookup.content c.new-2.result c.args.settings.depth) in
+    let bytes_of = line_as c.args.form (book_of c.compacting_by.result) (keying_at g.L.Lookup.content c.new-2.result c.args.depth) in
     let input = c.args.input.now in
     let out = c.args.out.now in
     let begin = started properties bytes_of c.new.result input c.new-4.result out (c.new.ensures.read properties input) c.new-4.ensures.held c.new-4.ensures.written in

@@ -40,7 +40,7 @@ loop-self-preserved g c =
     let kept = ap (keying_of_writer content) now.key ∙ next.kept in
     let same = next.made
     ∙ ap (λ (b : Option BookContent). line_as form b (keying_at content c.loop-self.self.key c.args.depth) lines.line) (same_book _ _ inv.compacter)
-    ∙ ap (λ (s : Keying). line_as form (book_of c.args.self.now.compacting) (keying_by s.collation (record { weighting = s.settings.weighting; depth = c.args.depth })) lines.line) inv.kept in
+    ∙ ap (λ (s : Keying). line_as form (book_of c.args.self.now.compacting) (keying_by s.collation (record { weighting = s.settings.weighting; depth = c.args.depth; numbers = s.settings.numbers })) lines.line) inv.kept in
     record {
       kept = kept ∙ inv.kept;
       compacter = ap compacter_of now.compacting ∙ next.compacter ∙ inv.compacter;
@@ -94,7 +94,7 @@ returns-in_err-print_line-clause-prints g c = λ start begun before p.
     let t = next.reads start i.0 i.1.read in
     let same = next.made
     ∙ ap (λ (b : Option BookContent). line_as form b (keying_at g.L.Lookup.content c.loop-self.self.key c.args.depth) lines.line) (same_book _ _ inv.compacter)
-    ∙ ap (λ (s : Keying). line_as form (book_of c.args.self.now.compacting) (keying_by s.collation (record { weighting = s.settings.weighting; depth = c.args.depth })) lines.line) inv.kept in
+    ∙ ap (λ (s : Keying). line_as form (book_of c.args.self.now.compacting) (keying_by s.collation (record { weighting = s.settings.weighting; depth = c.args.depth; numbers = s.settings.numbers })) lines.line) inv.kept in
     let held = subst (λ b. IsBuffered begun c.loop-self.out.contents (flat_map bytes_of i.0) b) (sym next.output) i.1.written in
     rw (q.1, q.2) (
       i.0,
