@@ -5,7 +5,7 @@ use std::test::Fail;
 use test_kit::{holds, is_remark, same_bytes, thirds};
 use uca_certificates::{Certificate, read_certificate};
 use uca_images::KeyMover;
-use uca_weights::{Depth, Settings, Source, Weighting};
+use uca_weights::{Depth, Numbers, Settings, Source, Weighting};
 
 /// At level 1, 1C48 to 1C4A become 1C60 to 1C62; at level 2, 0024 becomes 0025, and 0025 becomes 0027; at level 3, 0008 becomes
 /// 0009. 1C47, 7FFF, 0020 and 0002 stay, and so do 8000 to FFFF at level 1.
@@ -138,6 +138,7 @@ fn moved_keys(rt: HostRuntime) -> Result<(), Fail> {
         let settings = Settings {
             weighting: *weighting,
             depth: *depth,
+            numbers: Numbers::AsText,
         };
         let mover = KeyMover::new(alloc, certificate(alloc)?, settings)?;
         let found = check_way(alloc, &mover, name);
