@@ -8,13 +8,14 @@ use std::cmp::Ordering;
 use std::cmp::Ordering::{Equal, Greater, Less};
 use std::test::Fail;
 use test_kit::{DATA, data_of, holds, repeated, same_bytes, table_of};
+use uca_key_writer::KeyMemory;
 use uca_match::{Collator, Lookup, Trie};
 use uca_number_keys::orders_numbers;
-use uca_number_texts::{NumberComparison, NumberKeys, PairFault};
 use uca_table::read_packed_table;
 use uca_text::TextFault;
+use uca_text_comparer::{PairFault, TextComparison};
 use uca_weights::Depth::{Identical, Weights};
-use uca_weights::{Depth, Settings, Source, Weighting};
+use uca_weights::{Depth, Numbers, Settings, Source, Weighting};
 
 /// The ten digits, two letters and an accent. The digit 7 has the weight 1C44, and 1 has 1C3E.
 const TABLE: &str = "@version 1\n\
@@ -98,6 +99,7 @@ fn settings_at(depth: Depth) -> Settings {
     Settings {
         weighting: Weighting::NonIgnorable,
         depth,
+        numbers: Numbers::ByValue,
     }
 }
 
@@ -123,28 +125,36 @@ fn key_of(
     Ok(key)
 }
 
+/// The first sixteen bytes, or all.
+fn beginning(key: &[u8]) -> &[u8] {
+    &key[..key.len().min(16)]
+}
+
+/// The beginning of a key, and then the whole key.
 fn check_written<L: Lookup>(
-    keys: &mut NumberKeys,
+    keys: &mut KeyMemory,
     collator: &Collator<L>,
     text: &str,
     wanted: &[u8],
 ) -> Result<(), Fail>
-    requires { AreTrueEntries (collation_of L.content collator.now) keys.old.known }
-    ensures { AreTrueEntries (collation_of L.content collator.now) keys.new.known }
+    requires { AreTrueEntries (collation_of L.content collator.now) keys.old.points.entries.items }
+    ensures { AreTrueEntries (collation_of L.content collator.now) keys.new.points.entries.items }
 {
+    keys.write_beginning(collator, text)?;
+    same_bytes(beginning(keys.bytes()), beginning(wanted), text)?;
     keys.write(collator, text)?;
     same_bytes(keys.bytes(), wanted, text)
 }
 
 fn check_key<L: Lookup>(
     alloc: Global,
-    keys: &mut NumberKeys,
+    keys: &mut KeyMemory,
     collator: &Collator<L>,
     depth: Depth,
     case: Case,
 ) -> Result<(), Fail>
-    requires { AreTrueEntries (collation_of L.content collator.now) keys.old.known }
-    ensures { AreTrueEntries (collation_of L.content collator.now) keys.new.known }
+    requires { AreTrueEntries (collation_of L.content collator.now) keys.old.points.entries.items }
+    ensures { AreTrueEntries (collation_of L.content collator.now) keys.new.points.entries.items }
 {
     let (text, weights, points) = case;
     let wanted = key_of(alloc, depth, weights, points)?;
@@ -153,7 +163,7 @@ fn check_key<L: Lookup>(
 
 /// The keys of all cases, each over the one before.
 fn check_keys<L: Lookup>(alloc: Global, collator: &Collator<L>, depth: Depth) -> Result<(), Fail> {
-    let mut keys = NumberKeys::new(alloc, alloc, settings_at(depth));
+    let mut keys = KeyMemory::new(alloc, alloc, settings_at(depth));
     for case in KEYS {
         check_key(alloc, &mut keys, collator, depth, case)?;
     }
@@ -161,7 +171,7 @@ fn check_keys<L: Lookup>(alloc: Global, collator: &Collator<L>, depth: Depth) ->
 }
 
 fn check_pair<L: Lookup>(
-    comparison: &mut NumberComparison,
+    comparison: &mut TextComparison,
     collator: &Collator<L>,
     pair: Pair,
 ) -> Result<(), Fail>
@@ -170,13 +180,13 @@ fn check_pair<L: Lookup>(
 {
     let (left, right, by_weights, identical) = pair;
     let found = comparison.compare(collator, settings_at(Weights), left, right)?;
-    holds(found == by_weights, left)?;
+    holds((found.order, found.level) == by_weights, left)?;
     let found = comparison.compare(collator, settings_at(Identical), left, right)?;
-    holds(found == identical, left)
+    holds((found.order, found.level) == identical, left)
 }
 
 fn check_pairs<L: Lookup>(alloc: Global, collator: &Collator<L>) -> Result<(), Fail> {
-    let mut comparison = NumberComparison::new(alloc, alloc);
+    let mut comparison = TextComparison::new(alloc, alloc);
     for pair in PAIRS {
         check_pair(&mut comparison, collator, pair)?;
     }
@@ -187,14 +197,19 @@ fn check_pairs<L: Lookup>(alloc: Global, collator: &Collator<L>) -> Result<(), F
 fn check_long_run<L: Lookup>(alloc: Global, collator: &Collator<L>) -> Result<(), Fail> {
     let marks = repeated(alloc, "\u{301}", 65)?;
     let run = format!(in alloc; "1{marks}")?;
-    let mut keys = NumberKeys::new(alloc, alloc, settings_at(Weights));
+    let mut keys = KeyMemory::new(alloc, alloc, settings_at(Weights));
     let found = keys.write(collator, &run);
-    holds(found == Err(TextFault::LongRun(2)), "a run of 65 accents")
+    holds(found == Err(TextFault::LongRun(2)), "a run of 65 accents")?;
+    let found = keys.write_beginning(collator, &run);
+    holds(
+        found == Err(TextFault::LongRun(2)),
+        "a run of 65 accents, judged",
+    )
 }
 
 fn check_right_text<L: Lookup>(alloc: Global, collator: &Collator<L>) -> Result<(), Fail> {
     let marks = repeated(alloc, "\u{301}", 65)?;
-    let mut comparison = NumberComparison::new(alloc, alloc);
+    let mut comparison = TextComparison::new(alloc, alloc);
     let found = comparison.compare(collator, settings_at(Weights), "1", &marks);
     let wanted = Err(PairFault::Right(TextFault::LongRun(0)));
     holds(found == wanted, "a run of 65 accents on the right")
@@ -203,7 +218,7 @@ fn check_right_text<L: Lookup>(alloc: Global, collator: &Collator<L>) -> Result<
 /// More zeros than a text may have code points are one zero by value.
 fn check_zeros<L: Lookup>(alloc: Global, collator: &Collator<L>) -> Result<(), Fail> {
     let zeros = repeated(alloc, "0", 1_048_577)?;
-    let mut keys = NumberKeys::new(alloc, alloc, settings_at(Weights));
+    let mut keys = KeyMemory::new(alloc, alloc, settings_at(Weights));
     check_written(&mut keys, collator, &zeros, ZERO)
 }
 

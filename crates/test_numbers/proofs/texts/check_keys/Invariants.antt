@@ -4,4 +4,4 @@ use Rattle.uca_plain.specs.PointCache.{AreTrueEntries}
 use Rattle.test_numbers.proofs.texts.check_keys.Given as goal
 
 abbrev pub invariant-loop-case : goal.invariant-loop-case
-invariant-loop-case g l = AreTrueEntries (collation_of g.L.Lookup.content l.collator) l.keys.known
+invariant-loop-case g l = AreTrueEntries (collation_of g.L.Lookup.content l.collator) l.keys.points.entries.items
