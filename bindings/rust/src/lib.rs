@@ -47,6 +47,11 @@ pub use opening::{Depth, Options, Weighting};
 pub use upgrade::{Upgrade, UpgradeFiles, UpgradeOptions};
 pub use upgrade_errors::{Condition, Place, UpgradeError, UpgradeFile};
 
+/// The programs of README.md are compiled with the tests.
+#[cfg(doctest)]
+#[doc = include_str!("../README.md")]
+struct Readme;
+
 /// The version of the library that was linked: major, minor and patch.
 ///
 /// ```
