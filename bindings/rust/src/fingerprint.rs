@@ -32,8 +32,8 @@ impl Fingerprint {
         &self.0
     }
 
-    /// The fingerprint of compact keys, by a book, from this one of the whole keys. The bytes of the book are not
-    /// judged.
+    /// The fingerprint of compact keys by a book, where this one is that of the whole keys. The bytes of the book are
+    /// not judged.
     ///
     /// ```
     /// use uca::Collator;
