@@ -10,7 +10,7 @@ First prove and build the program and the library: `tools/build.py uca uca_c`. T
 - `debian`: the packages in a fresh Debian system, which mmdebstrap makes in a temporary folder. The program alone comes first, without a network. Then the others come
   with what they need: C by pkg-config, Python with all tests of the module, SQLite, and a server of PostgreSQL. Each makes the keys of `uca keys`. After purging no file is left.
 - `wheel`: the wheel in a virtual environment, without a network: all tests of the module, its licenses, its version and its tag.
-- `crate`: the crate for Rust, without a network: its tests, `cargo clippy`, the documentation, and a program that uses it.
+- `crate`: the crate for Rust, without a network: its tests, `cargo clippy`, the documentation, the programs of docs/BINDINGS.md, and two programs that use it.
 
 `debian` needs to be run as root, and a network for Debian's own packages. --root names a folder that mmdebstrap has filled before, which is copied. The program that the
 packages have is always the one in crates/uca/out, and --uca names the one that they are compared with. The last line is `N passed, M failed`, and how many parts were
@@ -448,13 +448,28 @@ def crate_used(tests):
 
 
 def crate_page(tests):
-    """The program of docs/BINDINGS.md prints what its comments show."""
+    """The programs of docs/BINDINGS.md print what their comments show."""
     folder = f"{tests.work}/page"
-    (program,) = re.findall(r"```rust\n(.*?)```", content(f"{TOP}/docs/BINDINGS.md").decode(), re.S)
+    programs = re.findall(r"```rust\n(.*?)```", content(f"{TOP}/docs/BINDINGS.md").decode(), re.S)
+    same(len(programs), 2, "programs")
     write(f"{folder}/Cargo.toml", f'[package]\nname = "page"\nversion = "0.0.0"\nedition = "2021"\n[dependencies]\nuca = {{ path = "{TOP}/bindings/rust" }}\n')
-    write(f"{folder}/src/main.rs", program)
-    cargo(tests, "build", "-q", cwd=folder)
-    same(run([f"{tests.work}/target/debug/page"], cwd=TOP).decode().splitlines(), re.findall(r"// (\S.*)", program), "what the page's program prints")
+    for program in programs:
+        write(f"{folder}/src/main.rs", program)
+        cargo(tests, "build", "-q", cwd=folder)
+        same(run([f"{tests.work}/target/debug/page"], cwd=TOP).decode().splitlines(), re.findall(r"// (\S.*)", program), "what a program of the page prints")
+
+
+def crate_example(tests):
+    """The example of an upgrade prints the keys that `uca keys --lines` prints with the new edition."""
+    old, new = ([f"{folder}/table.txt", f"{folder}/data.txt"] for folder in (EXAMPLES, f"{EXAMPLES}/editions"))
+    found = [f"{EXAMPLES}/editions/{it}.txt" for it in ("changes", "certificate")]
+    cargo(tests, "build", "-q", "--example", "new_keys", cwd=unpacked_crate(tests))
+    kept = run([tests.program, "fingerprint", *old]).decode().strip()
+    for name in LINES:
+        lines = content(f"{EXAMPLES}/{name}")
+        stored = run([tests.program, "keys", "--lines", *old], input=lines)
+        made = run([f"{tests.work}/target/debug/examples/new_keys", kept, *old, *new, *found], input=stored)
+        same(made, run([tests.program, "keys", "--lines", *new], input=lines), f"keys of {name}")
 
 
 def crate_without_library(tests):
@@ -471,7 +486,8 @@ def crate(tests):
     tests.check("the crate of the repository", crate_of_repository, tests)
     tests.check("what the crate has", crate_content, tests)
     tests.check("a program over the crate", crate_used, tests)
-    tests.check("the page's program", crate_page, tests)
+    tests.check("the page's programs", crate_page, tests)
+    tests.check("the example of an upgrade", crate_example, tests)
     tests.check("no library", crate_without_library, tests)
 
 

@@ -1,6 +1,7 @@
-//! `uca.h` in Rust. `tests/header.rs` compares the two, and [`crate::Options::open`] tests the interface's number and
-//! the size.
+//! `uca.h` in Rust. `tests/header.rs` compares the two, and [`are_those_of_the_library`] tests the interface's number
+//! and the sizes.
 use std::ffi::c_void;
+use std::mem::size_of;
 use std::ptr::null_mut;
 
 pub const ABI: u32 = 1;
@@ -16,6 +17,9 @@ pub const SMALL: u32 = 10;
 pub const BOOK: u32 = 11;
 pub const NO_BOOK: u32 = 12;
 pub const NO_KEY: u32 = 13;
+pub const FILE: u32 = 14;
+pub const NOT_MET: u32 = 15;
+pub const NO_IMAGE: u32 = 16;
 
 pub const LOW: u32 = 0;
 pub const HIGH: u32 = 1;
@@ -39,6 +43,17 @@ impl Collator {
     pub const CLOSED: Self = Self { handle: Handle { inside: null_mut(), is_kept: false }, is_open: false };
 }
 
+/// `uca_upgrade`. Zeros are a closed one.
+#[repr(C)]
+pub struct Upgrade {
+    handle: Handle,
+    is_open: bool,
+}
+
+impl Upgrade {
+    pub const CLOSED: Self = Self { handle: Handle { inside: null_mut(), is_kept: false }, is_open: false };
+}
+
 #[repr(C)]
 #[derive(Default)]
 pub struct Error {
@@ -53,8 +68,26 @@ pub struct Comparison {
     pub level: u32,
 }
 
-/// A call that writes bytes: uca_key, uca_compact and uca_expand.
-pub type Writes = unsafe extern "C" fn(*mut Collator, *const u8, usize, *mut u8, usize, *mut usize) -> u32;
+#[repr(C)]
+#[derive(Default)]
+pub struct UpgradeError {
+    pub file: u32,
+    pub line: u32,
+    pub kind: u32,
+    pub condition: u32,
+    pub place: u32,
+    pub number: u32,
+}
+
+/// A call that writes bytes: uca_key, uca_compact and uca_expand of a collator, and uca_rekey of an upgrade.
+pub type Writes<Opened> = unsafe extern "C" fn(*mut Opened, *const u8, usize, *mut u8, usize, *mut usize) -> u32;
+
+/// Whether the library that was linked has the interface and the sizes of this file.
+pub fn are_those_of_the_library() -> bool {
+    // SAFETY: these calls take nothing.
+    let (abi, sizes) = unsafe { (uca_abi(), [uca_collator_size(), uca_upgrade_size()]) };
+    abi == ABI && sizes == [size_of::<Collator>(), size_of::<Upgrade>()]
+}
 
 extern "C" {
     pub fn uca_abi() -> u32;
@@ -152,4 +185,34 @@ extern "C" {
     ) -> u32;
     pub fn uca_compact_fingerprint(keys: *const u8, book: *const u8, book_length: usize, out: *mut u8);
     pub fn uca_close(collator: *mut Collator);
+    pub fn uca_upgrade_size() -> usize;
+    pub fn uca_open_upgrade(
+        upgrade: *mut Upgrade,
+        old_table: *const u8,
+        old_table_length: usize,
+        old_data: *const u8,
+        old_data_length: usize,
+        new_table: *const u8,
+        new_table_length: usize,
+        new_data: *const u8,
+        new_data_length: usize,
+        changes: *const u8,
+        changes_length: usize,
+        certificate: *const u8,
+        certificate_length: usize,
+        weighting: u32,
+        depth: u32,
+        error: *mut UpgradeError,
+    ) -> u32;
+    pub fn uca_affected(upgrade: *mut Upgrade, text: *const u8, length: usize, affected: *mut u32) -> u32;
+    pub fn uca_rekey(
+        upgrade: *mut Upgrade,
+        key: *const u8,
+        length: usize,
+        out: *mut u8,
+        room: usize,
+        needed: *mut usize,
+    ) -> u32;
+    pub fn uca_upgrade_fingerprints(upgrade: *mut Upgrade, old_out: *mut u8, new_out: *mut u8) -> u32;
+    pub fn uca_close_upgrade(upgrade: *mut Upgrade);
 }

@@ -1,12 +1,10 @@
 //! An open collator: keys, ranges of keys, and comparisons.
 use crate::calls;
+use crate::room::{self, append, with, Room};
 use crate::{Fingerprint, Options, StoredKeyError, TextError};
 use std::cmp::Ordering;
 use std::fmt;
 use std::ops::Range;
-
-/// The most bytes of room that a text gets before the library says what it needs.
-const MOST_ROOM: usize = 1 << 20;
 
 /// Which keys a range has. "The same letters" means that level 1 is the same, as for `cafe`, `Cafe` and `café`.
 #[derive(Clone, Copy, Debug, PartialEq, Eq, Hash)]
@@ -42,8 +40,7 @@ pub struct Collator {
     // It may be moved: uca.h allows that between two calls, if the old bytes are forgotten, as they are in Rust.
     inner: calls::Collator,
     fingerprint: Fingerprint,
-    /// Room for what a call writes, which the next call uses again.
-    room: Vec<u8>,
+    room: Room,
 }
 
 // SAFETY: by uca.h a collator may change threads between two calls. It is not `Sync`, since calls write to it.
@@ -62,7 +59,7 @@ impl Collator {
     }
 
     pub(crate) fn of_open(inner: calls::Collator, fingerprint: Fingerprint) -> Self {
-        Self { inner, fingerprint, room: Vec::new() }
+        Self { inner, fingerprint, room: Room::default() }
     }
 
     /// What keys are made by. Keep it beside stored keys.
@@ -77,7 +74,9 @@ impl Collator {
     ///
     /// [`TextError`] says why the text is rejected, or that memory ran out.
     pub fn key(&mut self, text: impl AsRef<[u8]>) -> Result<Vec<u8>, TextError> {
-        self.written(|it, out| it.append_key(text.as_ref(), out))
+        let text = text.as_ref();
+        let call = with(calls::uca_key, &mut self.inner, text);
+        self.room.written(room::for_bytes(text), call).map_err(TextError::of)
     }
 
     /// Writes the sort key of a text in place of what `key` has, and uses its memory again.
@@ -92,20 +91,11 @@ impl Collator {
 
     /// Writes the sort key of a text after what `keys` has. An error leaves `keys` as it was.
     pub(crate) fn append_key(&mut self, text: &[u8], keys: &mut Vec<u8>) -> Result<(), TextError> {
-        let inner = &mut self.inner;
-        append(keys, text.len(), |out, room, needed| {
-            // SAFETY: the text is borrowed for the call, and `room` bytes from `out` on belong to the call alone.
-            unsafe { calls::uca_key(inner, text.as_ptr(), text.len(), out, room, needed) }
-        })
-        .map_err(TextError::of)
+        append(keys, room::for_bytes(text), with(calls::uca_key, &mut self.inner, text)).map_err(TextError::of)
     }
 
     /// The range of the keys of this collator that a lookup by a text scans. A key is in it if it is not less than
     /// `start`, and less than `end`. So `map.range(range)` of a `BTreeMap` finds what belongs to these keys.
-    ///
-    /// The start of [`RangeOf::SameLetters`] is the same for two texts exactly if they have the same letters, and
-    /// that of [`RangeOf::SameAccents`] exactly if they have the same letters and accents. So a set of starts takes
-    /// no second such text.
     ///
     /// # Errors
     ///
@@ -115,15 +105,26 @@ impl Collator {
         Ok(self.end(text, of, calls::LOW)?..self.end(text, of, calls::HIGH)?)
     }
 
+    /// The start of a range alone.
+    ///
+    /// That of [`RangeOf::SameLetters`] is the same for two texts exactly if they have the same letters, and that of
+    /// [`RangeOf::SameAccents`] exactly if they have the same letters and accents. So a set of starts takes no second
+    /// such text.
+    ///
+    /// # Errors
+    ///
+    /// Those of [`Collator::key`].
+    pub fn range_start(&mut self, text: impl AsRef<[u8]>, of: RangeOf) -> Result<Vec<u8>, TextError> {
+        self.end(text.as_ref(), of, calls::LOW)
+    }
+
     fn end(&mut self, text: &[u8], of: RangeOf, end: u32) -> Result<Vec<u8>, TextError> {
-        self.written(|it, out| {
-            let inner = &mut it.inner;
-            append(out, text.len(), |out, room, needed| {
-                // SAFETY: as in `append_key`.
-                unsafe { calls::uca_range(inner, text.as_ptr(), text.len(), of as u32, end, out, room, needed) }
-            })
-            .map_err(TextError::of)
-        })
+        let inner = &mut self.inner;
+        let call = |out: *mut u8, room, needed: &mut usize| {
+            // SAFETY: the text is borrowed for the call, and `room` bytes from `out` on belong to the call alone.
+            unsafe { calls::uca_range(inner, text.as_ptr(), text.len(), of as u32, end, out, room, needed) }
+        };
+        self.room.written(room::for_bytes(text), call).map_err(TextError::of)
     }
 
     /// The compact key of a whole key, by the book.
@@ -133,7 +134,19 @@ impl Collator {
     /// [`StoredKeyError::NoKey`]: the bytes are no whole key of the weighting and the depth.
     /// [`StoredKeyError::NoBook`]; [`StoredKeyError::Memory`].
     pub fn compact(&mut self, key: &[u8]) -> Result<Vec<u8>, StoredKeyError> {
-        self.of_stored_key(key, calls::uca_compact)
+        let call = with(calls::uca_compact, &mut self.inner, key);
+        self.room.written(room::for_bytes(key), call).map_err(StoredKeyError::of)
+    }
+
+    /// Writes the compact key of a whole key in place of what `compact` has, and uses its memory again.
+    ///
+    /// # Errors
+    ///
+    /// Those of [`Collator::compact`]. Then `compact` is empty.
+    pub fn compact_into(&mut self, key: &[u8], compact: &mut Vec<u8>) -> Result<(), StoredKeyError> {
+        compact.clear();
+        let call = with(calls::uca_compact, &mut self.inner, key);
+        append(compact, room::for_bytes(key), call).map_err(StoredKeyError::of)
     }
 
     /// The whole key of a compact key, by the book.
@@ -143,37 +156,19 @@ impl Collator {
     /// [`StoredKeyError::NoKey`]: no whole key has this compact key. [`StoredKeyError::NoBook`];
     /// [`StoredKeyError::Memory`].
     pub fn expand(&mut self, key: &[u8]) -> Result<Vec<u8>, StoredKeyError> {
-        self.of_stored_key(key, calls::uca_expand)
+        let call = with(calls::uca_expand, &mut self.inner, key);
+        self.room.written(room::for_bytes(key), call).map_err(StoredKeyError::of)
     }
 
-    fn of_stored_key(&mut self, key: &[u8], call: calls::Writes) -> Result<Vec<u8>, StoredKeyError> {
-        self.written(|it, out| {
-            let inner = &mut it.inner;
-            // SAFETY: the key is borrowed for the call, and `room` bytes from `out` on belong to the call alone.
-            append(out, key.len(), |out, room, needed| unsafe {
-                call(inner, key.as_ptr(), key.len(), out, room, needed)
-            })
-            .map_err(StoredKeyError::of)
-        })
-    }
-
-    /// What a call writes, in a vector of its length. The call writes to the collator's own room.
-    fn written<E: OutOfMemory>(
-        &mut self,
-        call: impl FnOnce(&mut Self, &mut Vec<u8>) -> Result<(), E>,
-    ) -> Result<Vec<u8>, E> {
-        let mut room = std::mem::take(&mut self.room);
-        room.clear();
-        let done = call(self, &mut room);
-        let mut found = Vec::new();
-        let copied = done.and_then(|()| found.try_reserve_exact(room.len()).map_err(|_| E::OUT_OF_MEMORY));
-        if copied.is_ok() {
-            found.extend_from_slice(&room);
-        }
-        if room.capacity() <= MOST_ROOM {
-            self.room = room;
-        }
-        copied.map(|()| found)
+    /// Writes the whole key of a compact key in place of what `whole` has, and uses its memory again.
+    ///
+    /// # Errors
+    ///
+    /// Those of [`Collator::expand`]. Then `whole` is empty.
+    pub fn expand_into(&mut self, key: &[u8], whole: &mut Vec<u8>) -> Result<(), StoredKeyError> {
+        whole.clear();
+        let call = with(calls::uca_expand, &mut self.inner, key);
+        append(whole, room::for_bytes(key), call).map_err(StoredKeyError::of)
     }
 
     /// How two texts compare, without keys. A book changes nothing here.
@@ -232,36 +227,4 @@ pub fn compare_keys(left: &[u8], right: &[u8], levels: u8) -> Comparison {
     // SAFETY: the keys are borrowed for the call.
     unsafe { calls::uca_compare_keys(left.as_ptr(), left.len(), right.as_ptr(), right.len(), levels, &mut found) };
     found.into()
-}
-
-/// An error that says that memory ran out.
-trait OutOfMemory {
-    const OUT_OF_MEMORY: Self;
-}
-
-impl OutOfMemory for TextError {
-    const OUT_OF_MEMORY: Self = Self::Memory;
-}
-
-impl OutOfMemory for StoredKeyError {
-    const OUT_OF_MEMORY: Self = Self::Memory;
-}
-
-/// Appends what a call writes for `length` bytes. Where its room is too small, it is called again with what it needs.
-/// Otherwise than by [`calls::OK`] the vector stays as it was, and the status is the error.
-fn append(to: &mut Vec<u8>, length: usize, mut call: impl FnMut(*mut u8, usize, &mut usize) -> u32) -> Result<(), u32> {
-    let mut wanted = length.saturating_mul(8).saturating_add(64).min(MOST_ROOM);
-    loop {
-        to.try_reserve(wanted).map_err(|_| calls::MEMORY)?;
-        let (room, mut needed) = (to.spare_capacity_mut(), 0);
-        match call(room.as_mut_ptr().cast(), room.len(), &mut needed) {
-            calls::OK => {
-                // SAFETY: by uca.h the first `needed` bytes of the room are written.
-                unsafe { to.set_len(to.len() + needed) };
-                return Ok(());
-            }
-            calls::SMALL => wanted = needed,
-            status => return Err(status),
-        }
-    }
 }

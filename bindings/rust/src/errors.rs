@@ -4,6 +4,9 @@ use crate::Fingerprint;
 use std::error::Error;
 use std::fmt;
 
+pub(crate) const OUT_OF_MEMORY: &str = "out of memory";
+pub(crate) const OTHER_INTERFACE: &str = "the library of uca that was linked has another interface than this crate";
+
 /// A file that a collator is opened by.
 #[derive(Clone, Copy, Debug, PartialEq, Eq, Hash)]
 pub enum File {
@@ -43,6 +46,14 @@ pub enum FileErrorKind {
     Range,
     /// The file has more than a limit allows.
     Limit,
+    /// A run of a certificate has no weights.
+    MapEmpty,
+    /// A run of a certificate does not come after the one before it, by its old weights or by its new ones.
+    MapNotRising,
+    /// A run of a certificate has weights that its level cannot map.
+    MapOutOfRange,
+    /// By a certificate 0020 does not stay at level 2, or 0002 at level 3.
+    MapFixed,
     /// A kind of a later library, by its number in `uca.h`.
     Other(u32),
 }
@@ -57,8 +68,32 @@ impl FileErrorKind {
             5 => Self::DuplicateKey,
             6 => Self::Range,
             7 => Self::Limit,
+            10 => Self::MapEmpty,
+            11 => Self::MapNotRising,
+            12 => Self::MapOutOfRange,
+            13 => Self::MapFixed,
             other => Self::Other(other),
         }
+    }
+}
+
+/// The name that `uca` prints, such as `DuplicateKey` or `Map Empty`.
+impl fmt::Display for FileErrorKind {
+    fn fmt(&self, out: &mut fmt::Formatter<'_>) -> fmt::Result {
+        out.write_str(match self {
+            Self::Line => "Line",
+            Self::Order => "Order",
+            Self::CodePoint => "CodePoint",
+            Self::Weight => "Weight",
+            Self::DuplicateKey => "DuplicateKey",
+            Self::Range => "Range",
+            Self::Limit => "Limit",
+            Self::MapEmpty => "Map Empty",
+            Self::MapNotRising => "Map NotRising",
+            Self::MapOutOfRange => "Map OutOfRange",
+            Self::MapFixed => "Map Fixed",
+            Self::Other(number) => return write!(out, "kind {number}"),
+        })
     }
 }
 
@@ -91,14 +126,12 @@ pub enum OpenError {
 impl fmt::Display for OpenError {
     fn fmt(&self, out: &mut fmt::Formatter<'_>) -> fmt::Result {
         match self {
-            Self::Rejected { file, line, kind } => write!(out, "{file}, line {line}: {kind:?}"),
+            Self::Rejected { file, line, kind } => write!(out, "{file}, line {line}: {kind}"),
             Self::OtherFiles { wanted, found } => {
                 write!(out, "the files and settings have the fingerprint {found}, and not {wanted}")
             }
-            Self::Memory => out.write_str("out of memory"),
-            Self::Interface => {
-                out.write_str("the library of uca that was linked has another interface than this crate")
-            }
+            Self::Memory => out.write_str(OUT_OF_MEMORY),
+            Self::Interface => out.write_str(OTHER_INTERFACE),
         }
     }
 }
@@ -120,14 +153,14 @@ pub enum TextError {
 }
 
 impl TextError {
-    /// The error of a status, which is none of an open collator's otherwise.
+    /// The error of a status. An open collator or upgrade has no other one for a text.
     pub(crate) fn of(status: u32) -> Self {
         match status {
             calls::UTF8 => Self::Utf8,
             calls::TOO_LONG => Self::TooLong,
             calls::LONG_RUN => Self::LongRun,
             calls::MEMORY => Self::Memory,
-            other => unreachable!("uca.h has no status {other} for a text of an open collator"),
+            other => unreachable!("uca.h has no status {other} for a text"),
         }
     }
 }
@@ -136,9 +169,9 @@ impl fmt::Display for TextError {
     fn fmt(&self, out: &mut fmt::Formatter<'_>) -> fmt::Result {
         out.write_str(match self {
             Self::Utf8 => "the text is not UTF-8",
-            Self::TooLong => "the text has more than 1,048,576 code points",
-            Self::LongRun => "the text has more than 64 non-starters in a row",
-            Self::Memory => "out of memory",
+            Self::TooLong => "the text has more than 1,048,576 code points in Normalization Form D",
+            Self::LongRun => "the text has more than 64 non-starters in a row in Normalization Form D",
+            Self::Memory => OUT_OF_MEMORY,
         })
     }
 }
@@ -158,13 +191,13 @@ pub enum StoredKeyError {
 }
 
 impl StoredKeyError {
-    /// The error of a status, which is none of an open collator's otherwise.
+    /// The error of a status. An open collator has no other one for a stored key.
     pub(crate) fn of(status: u32) -> Self {
         match status {
             calls::NO_KEY => Self::NoKey,
             calls::NO_BOOK => Self::NoBook,
             calls::MEMORY => Self::Memory,
-            other => unreachable!("uca.h has no status {other} for a stored key of an open collator"),
+            other => unreachable!("uca.h has no status {other} for a stored key"),
         }
     }
 }
@@ -173,8 +206,8 @@ impl fmt::Display for StoredKeyError {
     fn fmt(&self, out: &mut fmt::Formatter<'_>) -> fmt::Result {
         out.write_str(match self {
             Self::NoKey => "the bytes are no key of this collator",
-            Self::NoBook => "the collator was opened without a book",
-            Self::Memory => "out of memory",
+            Self::NoBook => "the collator has no book",
+            Self::Memory => OUT_OF_MEMORY,
         })
     }
 }

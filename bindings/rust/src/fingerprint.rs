@@ -1,4 +1,5 @@
 //! The fingerprint of what keys are made by.
+use crate::calls;
 use std::error::Error;
 use std::fmt;
 use std::str::FromStr;
@@ -29,6 +30,25 @@ impl Fingerprint {
     /// The bytes of the fingerprint.
     pub const fn as_bytes(&self) -> &[u8; 32] {
         &self.0
+    }
+
+    /// The fingerprint of compact keys by a book, where this one is that of the whole keys. The bytes of the book are
+    /// not judged.
+    ///
+    /// ```
+    /// use uca::Collator;
+    /// # let (table, data) = (b"@version 1\n0061 ; [.1C47.0020.0002]\n", b"@data 1\n");
+    /// # let book = b"@book 1\n1 1C47\n1 1C48\n";
+    ///
+    /// let whole = Collator::options().open(table, data)?.fingerprint();
+    /// assert_eq!(Collator::options().book(book).open(table, data)?.fingerprint(), whole.with_book(book));
+    /// # Ok::<(), uca::OpenError>(())
+    /// ```
+    pub fn with_book(self, book: &[u8]) -> Self {
+        let mut bytes = [0; 32];
+        // SAFETY: the pointers and the length are those of bytes that are borrowed for the call, and 32 are written.
+        unsafe { calls::uca_compact_fingerprint(self.0.as_ptr(), book.as_ptr(), book.len(), bytes.as_mut_ptr()) };
+        Self(bytes)
     }
 }
 

@@ -22,9 +22,12 @@
 //! back each time that you open the files for these keys ([`Options::fingerprint`]): other files or settings are an
 //! error then.
 //!
+//! **A new edition of the table makes other keys.** An [`Upgrade`] says which texts need a new key, and makes the new
+//! keys of all others from the old ones.
+//!
 //! **What is proved.** The library for C that does the work has contracts, which are proved: for every table and
 //! text, its calls do what `uca.h` says. Nothing is proved of this crate, which is a small layer over these calls.
-//! Its tests are `tests/keys.rs`, and `tests/header.rs` in the repository.
+//! Its tests are `tests/keys.rs` and `tests/upgrades.rs`, and `tests/header.rs` in the repository.
 //!
 //! **Processors and systems.** The library is made for `x86_64-unknown-linux-gnu`, and for any processor of x86-64.
 mod calls;
@@ -32,12 +35,22 @@ mod collator;
 mod errors;
 mod fingerprint;
 mod opening;
+mod room;
 mod sorting;
+mod upgrade;
+mod upgrade_errors;
 
 pub use collator::{compare_keys, Collator, Comparison, RangeOf};
 pub use errors::{File, FileErrorKind, OpenError, StoredKeyError, TextError};
 pub use fingerprint::{Fingerprint, NoFingerprint};
 pub use opening::{Depth, Options, Weighting};
+pub use upgrade::{Upgrade, UpgradeFiles, UpgradeOptions};
+pub use upgrade_errors::{Condition, Place, UpgradeError, UpgradeFile};
+
+/// The programs of README.md are compiled with the tests.
+#[cfg(doctest)]
+#[doc = include_str!("../README.md")]
+struct Readme;
 
 /// The version of the library that was linked: major, minor and patch.
 ///

@@ -1,7 +1,6 @@
 //! How a collator is opened.
 use crate::calls;
 use crate::{Collator, File, FileErrorKind, Fingerprint, OpenError};
-use std::mem::size_of;
 
 /// How variable elements, such as spaces and punctuation, are weighted (UTS #10, section 4).
 #[derive(Clone, Copy, Debug, Default, PartialEq, Eq, Hash)]
@@ -66,10 +65,6 @@ impl<'a> Options<'a> {
     /// the book. [`OpenError::OtherFiles`]: the fingerprint is not the one that was named. [`OpenError::Memory`]:
     /// memory ran out.
     pub fn open(self, table: &[u8], data: &[u8]) -> Result<Collator, OpenError> {
-        // SAFETY: these calls take nothing.
-        if unsafe { calls::uca_abi() != calls::ABI || calls::uca_collator_size() != size_of::<calls::Collator>() } {
-            return Err(OpenError::Interface);
-        }
         let found = self.fingerprint_of(table, data)?;
         let (mut opened, mut error) = (calls::Collator::CLOSED, calls::Error::default());
         check(self.open_closed(&mut opened, table, data, &mut error), error)?;
@@ -108,8 +103,16 @@ impl<'a> Options<'a> {
         }
     }
 
-    /// The fingerprint of the files and settings. A book is not judged here.
-    fn fingerprint_of(self, table: &[u8], data: &[u8]) -> Result<Fingerprint, OpenError> {
+    /// The fingerprint of these files and settings, which a collator of them has. None is opened, and the fingerprint
+    /// of [`Options::fingerprint`] is not looked at.
+    ///
+    /// # Errors
+    ///
+    /// Those of [`Options::open`], but for a book, which is not judged, and for [`OpenError::OtherFiles`].
+    pub fn fingerprint_of(self, table: &[u8], data: &[u8]) -> Result<Fingerprint, OpenError> {
+        if !calls::are_those_of_the_library() {
+            return Err(OpenError::Interface);
+        }
         let (mut bytes, mut error) = ([0; 32], calls::Error::default());
         let (t, d, weighting, depth) = (table.as_ptr(), data.as_ptr(), self.weighting as u32, self.depth as u32);
         // SAFETY: the pointers and lengths are those of slices and values that are borrowed for the call, and 32
@@ -118,12 +121,8 @@ impl<'a> Options<'a> {
             calls::uca_fingerprint(t, table.len(), d, data.len(), weighting, depth, bytes.as_mut_ptr(), &mut error)
         };
         check(status, error)?;
-        let whole = bytes;
-        if let Some(book) = self.book {
-            // SAFETY: as above. The 32 bytes that are read are a copy of those that are written.
-            unsafe { calls::uca_compact_fingerprint(whole.as_ptr(), book.as_ptr(), book.len(), bytes.as_mut_ptr()) };
-        }
-        Ok(Fingerprint::from_bytes(bytes))
+        let whole = Fingerprint::from_bytes(bytes);
+        Ok(self.book.map_or(whole, |book| whole.with_book(book)))
     }
 }
 

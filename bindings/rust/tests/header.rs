@@ -1,10 +1,11 @@
-//! The crate declares and uses what `uca.h` of the repository says, but for upgrades. A packaged crate lacks this test,
-//! since it lacks the header.
+//! The crate declares and uses what `uca.h` of the repository says. A packaged crate lacks this test, since it lacks
+//! the header.
 use std::collections::BTreeSet;
 
 const HEADER: &str = include_str!("../../c/include/uca.h");
 const CALLS: &str = include_str!("../src/calls.rs");
 const ERRORS: &str = include_str!("../src/errors.rs");
+const UPGRADE_ERRORS: &str = include_str!("../src/upgrade_errors.rs");
 
 /// A text with one blank in place of blanks and line feeds.
 fn spaced(text: &str) -> String {
@@ -34,6 +35,8 @@ fn in_rust(declared: &str) -> String {
         "uca_collator" => "Collator",
         "uca_error" => "Error",
         "uca_comparison" => "Comparison",
+        "uca_upgrade" => "Upgrade",
+        "uca_upgrade_error" => "UpgradeError",
         other => panic!("{other}"),
     };
     format!(
@@ -50,10 +53,10 @@ fn in_rust(declared: &str) -> String {
     )
 }
 
-/// Each call of the header as `name(type, ..) -> type`, without those of an upgrade.
+/// Each call of the header as `name(type, ..) -> type`.
 fn calls_of_header() -> BTreeSet<String> {
     let text = header();
-    let calls = text.split(';').filter(|it| it.contains('(') && !it.contains("uca_upgrade"));
+    let calls = text.split(';').filter(|it| it.contains('('));
     let calls = calls.filter_map(|it| it.trim().split_once(" uca_"));
     calls
         .map(|(result, call)| {
@@ -101,7 +104,7 @@ fn numbers() {
         assert_eq!(value.parse::<u32>().expect("a number"), number(&format!("UCA_{name}")), "{name}");
         count += 1;
     }
-    assert_eq!(count, 15);
+    assert_eq!(count, 18);
 }
 
 #[test]
@@ -122,6 +125,12 @@ fn settings() {
     }
 }
 
+/// Whether a number of the header has its arm in the crate.
+fn has_arm(source: &str, name: &str, arm: &str) {
+    let arm = format!("{} => {arm},", number(name));
+    assert!(source.contains(&arm), "{name}: {arm}");
+}
+
 #[test]
 fn kinds() {
     for (name, kind) in [
@@ -132,8 +141,88 @@ fn kinds() {
         ("DUPLICATE_KEY", "DuplicateKey"),
         ("RANGE", "Range"),
         ("LIMIT", "Limit"),
+        ("MAP_EMPTY", "MapEmpty"),
+        ("MAP_NOT_RISING", "MapNotRising"),
+        ("MAP_OUT_OF_RANGE", "MapOutOfRange"),
+        ("MAP_FIXED", "MapFixed"),
     ] {
-        let arm = format!("{} => Self::{kind},", number(&format!("UCA_KIND_{name}")));
-        assert!(ERRORS.contains(&arm), "{arm}");
+        has_arm(ERRORS, &format!("UCA_KIND_{name}"), &format!("Self::{kind}"));
     }
+}
+
+#[test]
+fn errors_of_upgrades() {
+    for (name, arm) in [
+        ("OLD_TABLE", "Self::OldTable"),
+        ("OLD_DATA", "Self::OldData"),
+        ("NEW_TABLE", "Self::NewTable"),
+        ("NEW_DATA", "Self::NewData"),
+        ("CHANGES", "Self::Changes"),
+        ("CERTIFICATE", "Self::Certificate"),
+        ("OLD_ILL_FORMED", "Self::OldIllFormed"),
+        ("NEW_ILL_FORMED", "Self::NewIllFormed"),
+        ("RANGE_CHANGED", "Self::RangeChanged"),
+        ("UNCOVERED", "Self::Uncovered"),
+        ("ROW_CHANGED", "Self::RowChanged"),
+        ("ROW_MISSING", "Self::RowMissing"),
+        ("ROW_EXTRA", "Self::RowExtra"),
+        ("POINT_CHANGED", "Self::PointChanged"),
+        ("SETTING_CHANGED", "Self::SettingChanged"),
+        ("AT_OLD_ROW", "Some(Self::OldRow(number))"),
+        ("AT_NEW_ROW", "Some(Self::NewRow(number))"),
+        ("AT_CODE_POINT", "Some(Self::CodePoint(number))"),
+    ] {
+        has_arm(UPGRADE_ERRORS, &format!("UCA_{name}"), arm);
+    }
+}
+
+/// The texts of a function of the header, by their numbers.
+fn texts(function: &str) -> Vec<String> {
+    let text = header();
+    let (_, after) = text.split_once(&format!("*{function}(")).expect("the function");
+    let (_, after) = after.split_once("texts[] = {").expect("its texts");
+    let (texts, _) = after.split_once('}').expect("its texts end");
+    texts.split('"').skip(1).step_by(2).map(str::to_string).collect()
+}
+
+#[test]
+fn texts_of_statuses() {
+    use uca::{OpenError, StoredKeyError, TextError, UpgradeError};
+    let texts = texts("uca_status_text");
+    for (name, said) in [
+        ("UTF8", TextError::Utf8.to_string()),
+        ("TOO_LONG", TextError::TooLong.to_string()),
+        ("LONG_RUN", TextError::LongRun.to_string()),
+        ("NO_BOOK", StoredKeyError::NoBook.to_string()),
+        ("MEMORY", TextError::Memory.to_string()),
+        ("MEMORY", StoredKeyError::Memory.to_string()),
+        ("MEMORY", OpenError::Memory.to_string()),
+        ("MEMORY", UpgradeError::Memory.to_string()),
+    ] {
+        assert_eq!(said, texts[number(&format!("UCA_{name}")) as usize], "{name}");
+    }
+}
+
+#[test]
+fn texts_of_kinds_and_conditions() {
+    use uca::Condition::{self, *};
+    use uca::FileErrorKind::{self, *};
+    let kinds: [FileErrorKind; 11] =
+        [Line, Order, CodePoint, Weight, DuplicateKey, Range, Limit, MapEmpty, MapNotRising, MapOutOfRange, MapFixed];
+    let mut texts_of_kinds = texts("uca_kind_text");
+    // that there is no error, and Read and Memory, which are no kinds of the crate
+    texts_of_kinds.drain(8..10);
+    assert_eq!(kinds.map(|it| it.to_string())[..], texts_of_kinds[1..]);
+    let conditions: [Condition; 9] = [
+        OldIllFormed,
+        NewIllFormed,
+        RangeChanged,
+        Uncovered,
+        RowChanged,
+        RowMissing,
+        RowExtra,
+        PointChanged,
+        SettingChanged,
+    ];
+    assert_eq!(conditions.map(|it| it.to_string())[..], texts("uca_condition_text")[1..]);
 }

@@ -93,6 +93,7 @@ fn rejected_texts() {
         assert_eq!(collator.compare(&text, "a"), Err(error));
         assert_eq!(collator.compare("a", &text), Err(error));
         assert_eq!(collator.range(&text, RangeOf::SameLetters), Err(error));
+        assert_eq!(collator.range_start(&text, RangeOf::SameLetters), Err(error));
     }
     assert!(collator.key(format!("a{}", "\u{301}".repeat(64))).is_ok());
 }
@@ -191,9 +192,12 @@ fn ranges() {
             let found: Vec<_> = map.range(collator.range(text, of).unwrap()).map(|it| *it.1).collect();
             assert_eq!(found, wanted, "{text:?} {of:?}");
         }
-        let starts = ["a", "\u{E1}", "b"].map(|it| collator.range(it, RangeOf::SameLetters).unwrap().start);
+        let starts = ["a", "\u{E1}", "b"].map(|it| collator.range_start(it, RangeOf::SameLetters).unwrap());
         assert_eq!(starts[0], starts[1]);
         assert_ne!(starts[1], starts[2]);
+        for of in [RangeOf::SameLetters, RangeOf::SameAccents, RangeOf::Begins] {
+            assert_eq!(collator.range_start("\u{E1}b", of).unwrap(), collator.range("\u{E1}b", of).unwrap().start);
+        }
     }
 }
 
@@ -242,6 +246,26 @@ fn other_files_and_settings_are_an_error() {
             "{number}"
         );
     }
+}
+
+#[test]
+fn fingerprints_without_a_collator() {
+    for weighting in [Weighting::ByTable, Weighting::NonIgnorable, Weighting::Shifted] {
+        for depth in [Depth::Weights, Depth::Identical] {
+            let options = Collator::options().weighting(weighting).depth(depth);
+            for options in [options, options.book(BOOK)] {
+                let found = options.fingerprint_of(TABLE, DATA).unwrap();
+                assert_eq!(options.open(TABLE, DATA).unwrap().fingerprint(), found);
+            }
+        }
+    }
+    let whole = Collator::options().fingerprint_of(TABLE, DATA).unwrap();
+    assert_eq!(Collator::options().book(BOOK).fingerprint_of(TABLE, DATA), Ok(whole.with_book(BOOK)));
+    // what was named is not looked at, and a book is not judged
+    assert_eq!(Collator::options().fingerprint(whole.with_book(BOOK)).fingerprint_of(TABLE, DATA), Ok(whole));
+    assert!(Collator::options().book(b"").fingerprint_of(TABLE, DATA).is_ok());
+    let error = OpenError::Rejected { file: File::Table, line: 1, kind: FileErrorKind::Order };
+    assert_eq!(Collator::options().fingerprint_of(b"", DATA), Err(error));
 }
 
 #[test]
