@@ -1,5 +1,5 @@
 -- Steps of reading the levels of a stored key while its compact key is written.
-use Rattle.std.proofs.Common.{◌≡◌, ◌≢◌, ℕ, zero, suc, ◌+◌, ◌*◌, ◌-◌, ◌/◌, ◌%◌, ◌<◌, ◌≤◌, List, [], ◌∷◌, ◌++◌, Bool, true, false, cond, nat_eq, ◌&&◌, not, if◌then◌else◌, Option, Some, None, IfSome, length, length-append, length-drop, get_or, drop, refl, ap, sym, subst, subst₂, ⊎_elim, ◌∙◌, arith, append_assoc, append-nil}
+use Rattle.std.proofs.Common.{◌≡◌, ◌≢◌, ℕ, zero, suc, ◌+◌, ◌*◌, ◌-◌, ◌/◌, ◌<◌, ◌≤◌, List, [], ◌∷◌, ◌++◌, Bool, true, false, cond, nat_eq, nat_lt, ◌&&◌, not, if◌then◌else◌, Option, Some, None, IfSome, length, length-append, length-drop, get_or, drop, refl, ap, sym, subst, subst₂, ⊎_elim, ◌∙◌, arith, append_assoc, append-nil}
 use Rattle.std.specs.Bool.{OnTrue}
 use Rattle.std.specs.Ordering.{is_eq}
 use Rattle.std.specs.declared.cmp.Ordering.TheVariants.{Equal, Greater}
@@ -13,8 +13,8 @@ use Rattle.uca_compact.specs.declared.letters.Letters.{Letters}
 use Rattle.uca_compact.specs.declared.later_level.LaterLevel.{LaterLevel}
 use Rattle.uca_compact.specs.declared.stored.StoredEnd.{StoredEnd}
 use Rattle.uca_compact.specs.declared.stored.StoredEnd.TheVariants.{Next, Key, Single}
-use Rattle.uca_compact.specs.inside.StoredEnds.{level_of, next_of, weights_before}
-use Rattle.uca_compact.specs.inside.LevelsRead.{IsWrittenTo, IsFirstLevel, GoesOn, IsLaterLevel}
+use Rattle.uca_compact.specs.inside.StoredEnds.{level_of, next_of, weights_before, weight_of}
+use Rattle.uca_compact.specs.inside.LevelsRead.{IsWrittenTo, IsFirstLevel, AreFour, GoesOn, IsLaterLevel}
 use Rattle.uca_compact.proofs.OnlyLevels.{weight_code}
 use Rattle.uca_compact.proofs.StoredSteps.{two_at, level_step, weights_step}
 
@@ -84,6 +84,18 @@ one_written f key before out new at count more w lead none so_far within is some
           ∙ ap (λ (xs : List ℕ). before ++ level_code f end 0 xs) (sym (append_assoc front (w ∷ []) rest));
     }
 
+-- one that is no lead, after no lead
+pub known_written : (f : Form) (key out new : List ℕ) (at count next more w number : ℕ) (lead : Bool) → lead ≡ false → f.common ≡ 0
+    → IsWrittenTo f key [] out at count lead → at + 1 < length key → w ≡ weight_of key at → 0 < w → w < 0xFB00
+    → number ≡ first_cell f → new ≡ out ++ cell number 1 f.greater 65536 w → next ≡ at + 2 → more ≡ count + 1 → IsWrittenTo f key [] new next more lead
+known_written f key out new at count next more w number lead after_none none so_far within is some low first written after one =
+    let test : nat_lt w 0xFB00 ≡ true = grind (arith, nat_tests) in
+    let same : (not lead && is_lead w) ≡ lead = ap (λ (t : Bool). not t && is_lead w) after_none ∙ ap (λ (t : Bool). not t && nat_lt w 0xFC00) test ∙ sym after_none in
+    subst₂ (λ (n : ℕ) (t : Bool). IsWrittenTo f key [] new n more t) (sym after) same
+    (one_written f key [] out new at count more w lead none so_far within is (λ zero_is. omega (arith, zero_is, some)) (omega (arith, low))
+    (written ∙ ap (λ (n : ℕ). out ++ cell n 1 f.greater 65536 w) first)
+    (one ∙ ap (λ (t : Bool). count + (if t then 0 else 1)) (sym after_none)))
+
 -- 00 00 ends the level
 ended_level : (a b : ℕ) (bytes : List ℕ) (w : ℕ) → w ≡ 256 * a + b → w ≡ 0 → stored_level (a ∷ b ∷ bytes) ≡ Some (record { weights = []; rest = Some bytes })
 ended_level a b bytes w is none =
@@ -114,6 +126,22 @@ all_written f key before out at count w lead letters so_far within is none len c
       code = λ end. so_far.code end [] ∙ ap (λ (ws : List ℕ). before ++ level_code f end 0 ws) (append-nil front);
     }
 
+-- level 1 was written after other bytes
+pub after_bytes : (f : Form) (key before codes new : List ℕ) (letters : Letters) → IsFirstLevel f key [] codes letters → new ≡ before ++ codes
+    → IsFirstLevel f key before new letters
+after_bytes f key before codes new letters first added = record {
+  weights = first.weights;
+  read = first.read;
+  len = first.len;
+  count = first.count;
+  few = first.few;
+  within = first.within;
+  code = λ end.
+      ap (λ (xs : List ℕ). xs ++ level_code f end 0 []) added
+      ∙ append_assoc before codes (level_code f end 0 [])
+      ∙ ap (λ (xs : List ℕ). before ++ xs) (first.code end);
+}
+
 -- the key ends in level 1
 no_next : (front bytes : List ℕ) → length bytes ≤ 1 → next_of (weights_before front (stored_level bytes)) ≡ None
 no_next front [] few = refl
@@ -141,13 +169,13 @@ copies_length w zero = refl
 copies_length w (suc n) = ap suc (copies_length w n)
 
 -- nothing was compared yet
-pub goes_on_from_start : (bytes : List ℕ) (w count : ℕ) → GoesOn bytes (drop (2 * 0) bytes) w count (count - 0)
+pub goes_on_from_start : (bytes : List ℕ) (w count : ℕ) → GoesOn bytes (drop (8 * 0) bytes) w count (count - 4 * 0)
 goes_on_from_start bytes w count e h =
-    let none : count - 0 ≡ count = omega arith in
+    let none : count - 4 * 0 ≡ count = omega arith in
     h ∙ ap (λ (n : ℕ). level_of e (copies w n)) none
 
 -- one weight more is the same
-same_again : (bytes : List ℕ) (w count index found : ℕ) → 0 < w → count ≤ length bytes / 2 → index < count
+pub same_again : (bytes : List ℕ) (w count index found : ℕ) → 0 < w → count ≤ length bytes / 2 → index < count
     → found ≡ 256 * get_or bytes (2 * index) 0 + get_or bytes (2 * index + 1) 0 → found ≡ w
     → GoesOn bytes (drop (2 * index) bytes) w count (count - index) → GoesOn bytes (drop (2 * (index + 1)) bytes) w count (count - (index + 1))
 same_again bytes w count index found some fits more is same so_far e h =
@@ -164,51 +192,55 @@ same_again bytes w count index found some fits more is same so_far e h =
     ∙ ap (weight_then w) rest ∙ then_level w (copies w (count - index - 1)) e
     ∙ ap (level_of e) (one_copy w (count - index) (omega (arith, more))))
 
--- two weights more are the same
-pub same_twice : (bytes : List ℕ) (w count pair first second : ℕ) → 0 < w → w < 65536 → count ≤ length bytes / 2 → pair < count / 2 → second < 65536
-    → first ≡ 256 * get_or bytes (4 * pair) 0 + get_or bytes (4 * pair + 1) 0 → second ≡ 256 * get_or bytes (4 * pair + 2) 0 + get_or bytes (4 * pair + 2 + 1) 0
-    → 65536 * first + second ≡ 65536 * w + w → GoesOn bytes (drop (4 * pair) bytes) w count (count - 2 * pair)
-    → GoesOn bytes (drop (4 * (pair + 1)) bytes) w count (count - 2 * (pair + 1))
-same_twice bytes w count pair first second some small fits more short is_first is_second same so_far =
-    let one : first ≡ w = omega arith in
-    let two : second ≡ w = omega arith in
-    let at : 4 * pair ≡ 2 * (2 * pair) = omega arith in
-    let after : 4 * pair + 2 ≡ 2 * (2 * pair + 1) = omega arith in
-    let last : 2 * (2 * pair + 1 + 1) ≡ 4 * (pair + 1) = omega arith in
-    let left : count - (2 * pair + 1 + 1) ≡ count - 2 * (pair + 1) = omega arith in
-    subst₂ (λ (n m : ℕ). GoesOn bytes (drop n bytes) w count m) last left
-    (same_again bytes w count (2 * pair + 1) second some fits (omega (arith, more))
-    (subst (λ (n : ℕ). second ≡ 256 * get_or bytes n 0 + get_or bytes (n + 1) 0) after is_second) two
-    (same_again bytes w count (2 * pair) first some fits (omega (arith, more))
-    (subst (λ (n : ℕ). first ≡ 256 * get_or bytes n 0 + get_or bytes (n + 1) 0) at is_first) one
-    (subst (λ (n : ℕ). GoesOn bytes (drop n bytes) w count (count - 2 * pair)) at so_far)))
+-- numbers that are the same four times
+pub four_same : (a b c d w found : ℕ) → a < 65536 → b < 65536 → c < 65536 → d < 65536 → w < 65536
+    → found ≡ 0x1000000000000 * a + 0x100000000 * b + 0x10000 * c + d → found ≡ 0x1000100010001 * w → (a ≡ w) × (b ≡ w) × (c ≡ w) × (d ≡ w)
+four_same a b c d w found la lb lc ld lw is same =
+    let high : 65536 * a + b ≡ 65536 * w + w = omega arith in
+    let low : 65536 * c + d ≡ 65536 * w + w = omega arith in
+    (omega (arith, high), omega (arith, high), omega (arith, low), omega (arith, low))
+
+-- four weights more are the same
+pub same_four : (bytes : List ℕ) (w count four : ℕ) → 0 < w → count ≤ length bytes / 2 → four < count / 4 → AreFour bytes (8 * four) w
+    → GoesOn bytes (drop (8 * four) bytes) w count (count - 4 * four) → GoesOn bytes (drop (8 * (four + 1)) bytes) w count (count - 4 * (four + 1))
+same_four bytes w count four some fits more same so_far =
+    let i = 4 * four in
+    let step : (index : ℕ) → index < count → weight_of bytes (2 * index) ≡ w → GoesOn bytes (drop (2 * index) bytes) w count (count - index)
+        → GoesOn bytes (drop (2 * (index + 1)) bytes) w count (count - (index + 1)) =
+    λ index within here before. same_again bytes w count index (weight_of bytes (2 * index)) some fits within refl here before in
+    let first : 8 * four ≡ 2 * i = omega arith in
+    let second : 8 * four + 2 ≡ 2 * (i + 1) = omega arith in
+    let third : 8 * four + 4 ≡ 2 * (i + 1 + 1) = omega arith in
+    let fourth : 8 * four + 6 ≡ 2 * (i + 1 + 1 + 1) = omega arith in
+    let after : 2 * (i + 1 + 1 + 1 + 1) ≡ 8 * (four + 1) = omega arith in
+    let left : count - (i + 1 + 1 + 1 + 1) ≡ count - 4 * (four + 1) = omega arith in
+    subst₂ (λ (n m : ℕ). GoesOn bytes (drop n bytes) w count m) after left
+    (step (i + 1 + 1 + 1) (omega (arith, more)) (subst (λ (n : ℕ). weight_of bytes n ≡ w) fourth same.fourth)
+    (step (i + 1 + 1) (omega (arith, more)) (subst (λ (n : ℕ). weight_of bytes n ≡ w) third same.third)
+    (step (i + 1) (omega (arith, more)) (subst (λ (n : ℕ). weight_of bytes n ≡ w) second same.second)
+    (step i (omega (arith, more)) (subst (λ (n : ℕ). weight_of bytes n ≡ w) first same.first)
+    (subst (λ (n : ℕ). GoesOn bytes (drop n bytes) w count (count - 4 * four)) first so_far)))))
+
+-- those after all fours are next
+pub after_fours : (bytes : List ℕ) (w count four index : ℕ) → index ≡ 4 * four → GoesOn bytes (drop (8 * four) bytes) w count (count - 4 * four)
+    → GoesOn bytes (drop (2 * index) bytes) w count (count - index)
+after_fours bytes w count four index here so_far =
+    let at : 8 * four ≡ 2 * index = omega (arith, here) in
+    let left : count - 4 * four ≡ count - index = omega (arith, here) in
+    subst₂ (λ (n m : ℕ). GoesOn bytes (drop n bytes) w count m) at left so_far
+
+-- all weights are the same
+pub all_same : (bytes : List ℕ) (w count index : ℕ) → index ≡ count → GoesOn bytes (drop (2 * index) bytes) w count (count - index)
+    → GoesOn bytes (drop (2 * count) bytes) w count 0
+all_same bytes w count index end so_far =
+    let at : 2 * index ≡ 2 * count = omega (arith, end) in
+    let left : count - index ≡ 0 = omega (arith, end) in
+    subst₂ (λ (n m : ℕ). GoesOn bytes (drop n bytes) w count m) at left so_far
 
 -- what follows from a test
 pub by_test : {P : Type 0} (t : Bool) → (t ≡ true → P) → OnTrue t P
 by_test true h = h refl
 by_test false h = tt
-
--- all weights are the same, in pairs
-pub same_in_pairs : (bytes : List ℕ) (w count pair : ℕ) → pair ≡ count / 2 → count % 2 ≡ 0 → GoesOn bytes (drop (4 * pair) bytes) w count (count - 2 * pair)
-    → GoesOn bytes (drop (2 * count) bytes) w count 0
-same_in_pairs bytes w count pair end even so_far =
-    let at : 4 * pair ≡ 2 * count = omega arith in
-    let left : count - 2 * pair ≡ 0 = omega arith in
-    subst₂ (λ (n m : ℕ). GoesOn bytes (drop n bytes) w count m) at left so_far
-
--- all are, and the last one has no pair
-pub same_with_last : (bytes : List ℕ) (w count pair last : ℕ) → 0 < w → count ≤ length bytes / 2 → pair ≡ count / 2 → count % 2 ≢ 0
-    → last ≡ 256 * get_or bytes (2 * count - 2) 0 + get_or bytes (2 * count - 2 + 1) 0 → nat_eq last w ≡ true → GoesOn bytes (drop (4 * pair) bytes) w count (count - 2 * pair)
-    → GoesOn bytes (drop (2 * count) bytes) w count 0
-same_with_last bytes w count pair last some fits end odd is same so_far =
-    let at : 4 * pair ≡ 2 * (2 * pair) = omega arith in
-    let before : 2 * count - 2 ≡ 2 * (2 * pair) = omega arith in
-    let all : 2 * (2 * pair + 1) ≡ 2 * count = omega arith in
-    let left : count - (2 * pair + 1) ≡ 0 = omega arith in
-    subst₂ (λ (n m : ℕ). GoesOn bytes (drop n bytes) w count m) all left
-    (same_again bytes w count (2 * pair) last some fits (omega (arith, end, odd))
-    (subst (λ (n : ℕ). last ≡ 256 * get_or bytes n 0 + get_or bytes (n + 1) 0) before is) (grind (arith, nat_tests))
-    (subst (λ (n : ℕ). GoesOn bytes (drop n bytes) w count (count - 2 * pair)) at so_far))
 
 -- the level ends there
 pub same_ended : (bytes : List ℕ) (w count : ℕ) (o : Option StoredEnd) → GoesOn bytes (drop (2 * count) bytes) w count 0

@@ -11,9 +11,9 @@ ghost use Rattle.uca_compact.specs.StoredParts.{stored_parts, IsCompactOf, IsOfN
 
 use crate::book_forms::letters_form;
 use crate::buffers::Levels;
-use crate::cell_hints::CellHints;
 use crate::expander::expand;
 use crate::later_level::read_later;
+use crate::letter_buffers::LetterBuffers;
 use crate::letters::push_letters;
 use crate::stored::{StoredEnd, push_points_after};
 use crate::written_levels::{Orders, push_four, push_three};
@@ -23,13 +23,13 @@ use uca_books::Book;
 use uca_weights::{Depth, Settings, Weighting};
 
 /// Makes compact keys of stored keys, and stored keys of these again. It needs no text and no table. With its first
-/// compact key it takes 4,096 bytes for the cells of weights that it found.
+/// compact key it takes 4,096 bytes for the cells of weights that it found. It keeps room for level 1 of the longest key.
 #[derive(Drop)]
 pub struct KeyCompacter<A: Allocator = Global> {
     book: Book<A>,
     settings: Settings,
     levels: Levels<A>,
-    hints: CellHints<A>,
+    letters: LetterBuffers<A>,
 }
 
 impl<A: Allocator> Model for KeyCompacter<A> {
@@ -49,7 +49,7 @@ impl<A: Allocator + Copy> KeyCompacter<A> {
             book,
             settings,
             levels: Levels::new(alloc),
-            hints: CellHints::new(alloc),
+            letters: LetterBuffers::new(alloc),
         }
     }
 }
@@ -87,14 +87,13 @@ impl<A: Allocator> KeyCompacter<A> {
             (text_parts self.old.settings.depth self.old.settings.weighting t))) }
     {
         compact.clear();
-        self.hints.open()?;
         match self.settings.weighting {
             Weighting::NonIgnorable => write_three(
                 key,
                 self.settings.depth,
                 &self.book,
                 &mut self.levels,
-                &mut self.hints,
+                &mut self.letters,
                 compact,
             ),
             Weighting::Shifted => write_four(
@@ -102,7 +101,7 @@ impl<A: Allocator> KeyCompacter<A> {
                 self.settings.depth,
                 &self.book,
                 &mut self.levels,
-                &mut self.hints,
+                &mut self.letters,
                 compact,
             ),
         }
@@ -137,7 +136,7 @@ fn write_three<A: Allocator, B: Allocator>(
     depth: Depth,
     book: &Book<A>,
     levels: &mut Levels<A>,
-    hints: &mut CellHints<A>,
+    letters: &mut LetterBuffers<A>,
     compact: &mut Vec<u8, B>,
 ) -> Result<bool, AllocError>
     requires { compact.old.items ≡ [] }
@@ -145,7 +144,7 @@ fn write_three<A: Allocator, B: Allocator>(
         ≡ (if found then Some compact.new.items else None)) }
 {
     let form = letters_form(book, 2);
-    let Some(first) = push_letters(compact, &form, hints, key)? else {
+    let Some(first) = push_letters(compact, &form, letters, key)? else {
         return Ok(false);
     };
     let second = read_later(first.rest, 0x20, first.count, &mut levels.accents)?;
@@ -164,7 +163,7 @@ fn write_four<A: Allocator, B: Allocator>(
     depth: Depth,
     book: &Book<A>,
     levels: &mut Levels<A>,
-    hints: &mut CellHints<A>,
+    letters: &mut LetterBuffers<A>,
     compact: &mut Vec<u8, B>,
 ) -> Result<bool, AllocError>
     requires { compact.old.items ≡ [] }
@@ -172,7 +171,7 @@ fn write_four<A: Allocator, B: Allocator>(
         ≡ (if found then Some compact.new.items else None)) }
 {
     let form = letters_form(book, 3);
-    let Some(first) = push_letters(compact, &form, hints, key)? else {
+    let Some(first) = push_letters(compact, &form, letters, key)? else {
         return Ok(false);
     };
     let second = read_later(first.rest, 0x20, first.count, &mut levels.accents)?;

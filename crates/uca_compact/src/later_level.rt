@@ -6,10 +6,10 @@ ghost use Rattle.uca_compact.specs.Forms.{AreWeights};
 ghost use Rattle.uca_compact.specs.PlainLevels.{copies};
 ghost use Rattle.uca_compact.specs.StoredParts.{stored_level};
 ghost use Rattle.uca_compact.specs.inside.StoredEnds.{level_of};
-ghost use Rattle.uca_compact.specs.inside.LevelsRead.{GoesOn, IsLaterLevel};
+ghost use Rattle.uca_compact.specs.inside.LevelsRead.{AreFour, GoesOn, IsLaterLevel};
 
 use crate::plain::compare_run;
-use crate::stored::{StoredEnd, read_weights};
+use crate::stored::{StoredEnd, read_weights, weight_at};
 use std::alloc::{AllocError, Allocator};
 use std::cmp::Ordering;
 
@@ -39,34 +39,43 @@ fn end_at(bytes: &[u8], at: usize) -> Option<StoredEnd<'_>>
     None
 }
 
-// The weight at this position.
+// Whether four weights from this position on are all this one. They are compared as one number.
 #[inline(always)]
-fn weight_at(bytes: &[u8], at: usize) -> u32
-    requires { at + 1 < length bytes.now }
-    ensures is { result ≡ 256 * slice_index bytes.now at + slice_index bytes.now (at + 1) }
-    ensures small { result < 65536 }
+fn are_four(bytes: &[u8], at: usize, weight: u32) -> bool
+    requires small { weight < 65536 }
+    requires within { at + 7 < length bytes.now }
+    ensures { OnTrue result (AreFour bytes.now at weight) }
 {
-    256 * u32::from(bytes[at]) + u32::from(bytes[at + 1])
+    let found = 0x1_0000_0000_0000 * u64::from(weight_at(bytes, at))
+        + 0x1_0000_0000 * u64::from(weight_at(bytes, at + 2))
+        + 0x1_0000 * u64::from(weight_at(bytes, at + 4))
+        + u64::from(weight_at(bytes, at + 6));
+    found == 0x1_0001_0001_0001 * u64::from(weight)
 }
 
-// Whether these bytes begin with so many times one weight. Two weights are compared at a time.
+// Whether these bytes begin with so many times one weight. Four weights are compared at a time.
+#[inline(always)]
 fn begins_plain(bytes: &[u8], weight: u32, count: usize) -> bool
     requires some { 0 < weight }
     requires small { weight < 65536 }
     requires within { count ≤ length bytes.now / 2 }
     ensures { OnTrue result (GoesOn bytes.now (drop (2 * count) bytes.now) weight count 0) }
 {
-    let both = 65536 * weight + weight;
-    for pair in 0..count / 2 {
-        let at = 4 * pair;
-        if 65536 * weight_at(bytes, at) + weight_at(bytes, at + 2) != both {
+    for four in 0..count / 4 {
+        if !are_four(bytes, 8 * four, weight) {
             return false;
         }
     }
-    count % 2 == 0 || weight_at(bytes, 2 * count - 2) == weight
+    for index in count / 4 * 4..count {
+        if weight_at(bytes, 2 * index) != weight {
+            return false;
+        }
+    }
+    true
 }
 
 // How a level ends that is so many times one weight; `None` if these bytes begin another one.
+#[inline(always)]
 fn plain_end(bytes: &[u8], weight: u16, count: usize) -> Option<StoredEnd<'_>>
     requires { 0 < weight }
     ensures level { IfSome result (λ end. stored_level bytes.now ≡ level_of end (copies weight count)) }
@@ -79,6 +88,7 @@ fn plain_end(bytes: &[u8], weight: u16, count: usize) -> Option<StoredEnd<'_>>
 }
 
 // Reads a level with its weights, and compares it to so many times one weight.
+#[inline(never)]
 fn read_compared<'a, A: Allocator>(
     bytes: &'a [u8],
     weight: u16,
@@ -100,6 +110,7 @@ fn read_compared<'a, A: Allocator>(
 
 /// Reads a level, and compares it to the plain one: so many times one weight. Unless it is that one, its weights take
 /// the place of those that were there.
+#[inline(always)]
 pub(crate) fn read_later<'a, A: Allocator>(
     bytes: &'a [u8],
     weight: u16,

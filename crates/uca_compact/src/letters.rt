@@ -1,17 +1,20 @@
 //! Writes level 1 of a compact key while it is read from a stored key.
 
-ghost use Rattle.std.specs.Prelude.{◌≡◌, ◌+◌, ◌<◌, ◌≤◌, ◌++◌, None, length, IfNone, IfOk, IfSome, OnOk};
+ghost use Rattle.std.specs.Prelude.{◌≡◌, ℕ, ◌+◌, ◌-◌, ◌*◌, ◌/◌, ◌<◌, ◌≤◌, [], ◌∷◌, ◌++◌, None, false, length, take, IfNone, IfOk, IfSome};
+ghost use Rattle.std.specs.Bool.{OnTrue};
 ghost use Rattle.uca_compact.specs.Forms as forms;
 ghost use Rattle.uca_compact.specs.Forms.{AreRising, IsForm};
-ghost use Rattle.uca_compact.specs.CompactKeys.{cell};
+ghost use Rattle.uca_compact.specs.CompactKeys.{cell, offset_bytes};
 ghost use Rattle.uca_compact.specs.Programs.{form_of};
 ghost use Rattle.uca_compact.specs.StoredParts.{stored_level};
+ghost use Rattle.uca_compact.specs.inside.Places.{IsAlone, IsPlace};
 ghost use Rattle.uca_compact.specs.inside.StoredEnds.{next_of};
-ghost use Rattle.uca_compact.specs.inside.LevelsRead.{IsFirstLevel};
+ghost use Rattle.uca_compact.specs.inside.LevelsRead.{IsFirstLevel, IsWrittenTo};
 
-use crate::cell_hints::CellHints;
-use crate::levels::{LevelForm, cell_index, is_inner_place, push_in_cell};
+use crate::letter_buffers::{HINTS, LetterBuffers};
+use crate::levels::{LevelForm, cell_end, cell_index, cell_start};
 use crate::plain::{leads, with_letter};
+use crate::stored::weight_at;
 use std::alloc::{AllocError, Allocator};
 
 /// Level 1 of a stored key.
@@ -23,6 +26,14 @@ pub(crate) struct Letters<'a> {
     pub(crate) count: usize,
     /// The bytes after its 00 00.
     pub(crate) rest: &'a [u8],
+}
+
+/// Level 1 of a stored key whose weights were written.
+#[derive(Clone, Copy)]
+pub(crate) struct WrittenLetters<'a> {
+    pub(crate) letters: Letters<'a>,
+    /// How many bytes they take.
+    pub(crate) size: usize,
 }
 
 // The number of the first cell of level 1.
@@ -37,47 +48,168 @@ fn first_cell(form: &LevelForm) -> u8
     (longest * (u32::from(form.ends) + 1) + longest) as u8
 }
 
-// Writes a weight in its cell. The cell in which it was found before is tried first.
+// Puts the number of a cell at this position, and an offset in it after that. It returns the position after both.
 #[inline(always)]
-fn push_letter<A: Allocator, B: Allocator>(
-    out: &mut Vec<u8, B>,
-    number: u8,
-    starts: &[u16],
-    hints: &mut CellHints<A>,
-    weight: u16,
-) -> Result<(), AllocError>
-    requires rising { AreRising 1 starts.now 65536 }
-    requires bytes { number + length starts.now < 256 }
-    requires weight { 0 < weight }
-    ensures { OnOk result (out.new.items ≡ out.old.items ++ cell number 1 starts.now 65536 weight) }
+fn put_offset(codes: &mut [u8], at: usize, number: u8, width: u32, offset: u32) -> usize
+    requires two_bytes { offset < 65536 }
+    requires inside { offset < width }
+    requires room { at + 3 ≤ length codes.old }
+    ensures put { take result codes.new ≡ take at codes.old ++ (number ∷ offset_bytes width offset) }
+    ensures few { result ≤ at + 3 }
 {
-    let letter = u32::from(weight);
-    let hint = hints.get(weight);
-    if is_inner_place(1, starts, 0x1_0000, letter, hint) {
-        push_in_cell(out, number, 1, starts, 0x1_0000, letter, hint)
-    } else {
-        push_found(out, number, starts, hints, weight)
+    codes[at] = number;
+    if width < 2 {
+        return at + 1;
     }
+    if width < 257 {
+        codes[at + 1] = offset as u8;
+        return at + 2;
+    }
+    codes[at + 1] = (offset / 256) as u8;
+    codes[at + 2] = (offset % 256) as u8;
+    at + 3
 }
 
-// Finds the cell of a weight, keeps its index, and writes the weight.
-#[inline(never)]
-fn push_found<A: Allocator, B: Allocator>(
-    out: &mut Vec<u8, B>,
+// Puts a weight in its cell, which has this index, at this position. It returns the position after it.
+#[inline(always)]
+fn put_in_cell(
+    codes: &mut [u8],
+    at: usize,
     number: u8,
     starts: &[u16],
-    hints: &mut CellHints<A>,
+    weight: u32,
+    index: usize,
+) -> usize
+    requires rising { AreRising 1 starts.now 65536 }
+    requires bytes { number + length starts.now < 256 }
+    requires two_bytes { weight < 65536 }
+    requires place { IsPlace 1 starts.now 65536 weight index }
+    requires room { at + 3 ≤ length codes.old }
+    ensures put { take result codes.new ≡ take at codes.old ++ cell number 1 starts.now 65536 weight }
+    ensures few { result ≤ at + 3 }
+{
+    let first = cell_start(1, starts, index);
+    let width = cell_end(starts, 0x1_0000, index) - first;
+    put_offset(codes, at, number + index as u8, width, weight - first)
+}
+
+// Whether a weight is alone in the cell with this index, and this is neither the first cell nor the last.
+#[inline(always)]
+fn is_alone(starts: &[u16], weight: u32, index: usize) -> bool
+    requires { weight < 65536 }
+    ensures { OnTrue result (IsAlone starts.now weight index) }
+{
+    0 < index
+        && index < starts.len()
+        && cell_start(1, starts, index) == weight
+        && cell_end(starts, 0x1_0000, index) == weight + 1
+}
+
+// Puts a weight in its cell, which is found and whose index is kept.
+#[inline(never)]
+fn put_found(
+    codes: &mut [u8],
+    at: usize,
+    number: u8,
+    starts: &[u16],
+    hints: &mut [u8],
     weight: u16,
-) -> Result<(), AllocError>
+) -> usize
     requires rising { AreRising 1 starts.now 65536 }
     requires bytes { number + length starts.now < 256 }
     requires weight { 0 < weight }
-    ensures { OnOk result (out.new.items ≡ out.old.items ++ cell number 1 starts.now 65536 weight) }
+    requires room { at + 3 ≤ length codes.old }
+    requires hints { length hints.old ≡ 4096 }
+    ensures put { take result codes.new ≡ take at codes.old ++ cell number 1 starts.now 65536 weight }
+    ensures few { result ≤ at + 3 }
 {
     let letter = u32::from(weight);
-    let index = cell_index(1, starts, 0x1_0000, letter, hints.get(weight));
-    hints.keep(weight, index);
-    push_in_cell(out, number, 1, starts, 0x1_0000, letter, index)
+    let place = usize::from(weight) % HINTS;
+    let index = cell_index(1, starts, 0x1_0000, letter, usize::from(hints[place]));
+    hints[place] = index as u8;
+    put_in_cell(codes, at, number, starts, letter, index)
+}
+
+// Puts weights from a position of the key on, a byte each, as long as each is alone in the cell in which it was found
+// before. It returns how many these are. None of them is a lead, and after a lead there are none.
+#[inline(always)]
+fn put_known(
+    codes: &mut [u8],
+    size: usize,
+    number: u8,
+    form: &LevelForm,
+    hints: &[u8],
+    key: &[u8],
+    at: usize,
+    after_lead: bool,
+) -> usize
+    requires form { IsForm (form_of form.now) }
+    requires no_common { form.now.common ≡ 0 }
+    requires number { number ≡ forms.first_cell (form_of form.now) }
+    requires hints { length hints.now ≡ 4096 }
+    requires within { at ≤ length key.now }
+    requires room { size + (length key.now - at) / 2 ≤ length codes.old }
+    ensures put { (count : ℕ) → IsWrittenTo (form_of form.now) key.now [] (take size codes.old) at count after_lead
+        → IsWrittenTo (form_of form.now) key.now [] (take (size + result) codes.new) (at + 2 * result) (count + result) after_lead }
+    ensures few { result ≤ (length key.now - at) / 2 }
+{
+    let starts = form.greater;
+    let mut known = 0;
+    while !after_lead && at + 2 * known + 1 < key.len() {
+        let weight = weight_at(key, at + 2 * known);
+        let index = usize::from(hints[weight as usize % HINTS]);
+        if weight >= 0xFB00 || !is_alone(starts, weight, index) {
+            return known;
+        }
+        codes[size + known] = number + index as u8;
+        known += 1;
+    }
+    known
+}
+
+// Puts the weights of level 1 of a stored key, which have room. It returns `None` if no 00 00 ends the level.
+fn put_letters<'a>(
+    codes: &mut [u8],
+    form: &LevelForm,
+    hints: &mut [u8],
+    key: &'a [u8],
+) -> Option<WrittenLetters<'a>>
+    requires form { IsForm (form_of form.now) }
+    requires no_common { form.now.common ≡ 0 }
+    requires room { 3 * (length key.now / 2) ≤ length codes.old }
+    requires hints { length hints.old ≡ 4096 }
+    ensures level { IfSome result (λ written. IsFirstLevel (form_of form.now) key.now [] (take written.size codes.new) written.letters) }
+    ensures size { IfSome result (λ written. written.size ≤ length codes.new) }
+    ensures none { IfNone result (next_of (stored_level key.now) ≡ None) }
+{
+    let number = first_cell(form);
+    let mut size = 0;
+    let mut count = 0;
+    let mut after_lead = false;
+    let mut at = 0;
+    while at + 1 < key.len() {
+        let known = put_known(codes, size, number, form, hints, key, at, after_lead);
+        size += known;
+        count += known;
+        at += 2 * known;
+        if at + 1 >= key.len() {
+            return None;
+        }
+        let weight = weight_at(key, at) as u16;
+        if weight == 0 {
+            let letters = Letters {
+                len: at / 2,
+                count,
+                rest: &key[at + 2..],
+            };
+            return Some(WrittenLetters { letters, size });
+        }
+        size = put_found(codes, size, number, form.greater, hints, weight);
+        count = with_letter(count, after_lead);
+        after_lead = leads(after_lead, weight);
+        at += 2;
+    }
+    None
 }
 
 /// Writes the weights of level 1 of a stored key, without the end of the level. It returns `None` if no 00 00 ends it:
@@ -85,7 +217,7 @@ fn push_found<A: Allocator, B: Allocator>(
 pub(crate) fn push_letters<'a, A: Allocator, B: Allocator>(
     out: &mut Vec<u8, B>,
     form: &LevelForm,
-    hints: &mut CellHints<A>,
+    buffers: &mut LetterBuffers<A>,
     key: &'a [u8],
 ) -> Result<Option<Letters<'a>>, AllocError>
     requires form { IsForm (form_of form.now) }
@@ -93,23 +225,11 @@ pub(crate) fn push_letters<'a, A: Allocator, B: Allocator>(
     ensures level { IfOk result (λ letters. IfSome letters (IsFirstLevel (form_of form.now) key.now out.old.items out.new.items)) }
     ensures none { IfOk result (λ letters. IfNone letters (next_of (stored_level key.now) ≡ None)) }
 {
-    let number = first_cell(form);
-    let mut count = 0;
-    let mut after_lead = false;
-    let mut at = 0;
-    while at + 1 < key.len() {
-        let weight = 256 * u16::from(key[at]) + u16::from(key[at + 1]);
-        if weight == 0 {
-            return Ok(Some(Letters {
-                len: at / 2,
-                count,
-                rest: &key[at + 2..],
-            }));
-        }
-        push_letter(out, number, form.greater, hints, weight)?;
-        count = with_letter(count, after_lead);
-        after_lead = leads(after_lead, weight);
-        at += 2;
-    }
-    Ok(None)
+    buffers.open(key.len() / 2)?;
+    let codes = buffers.codes.as_mut_slice();
+    let Some(written) = put_letters(codes, form, buffers.hints.as_mut_slice(), key) else {
+        return Ok(None);
+    };
+    out.extend_from_slice(&buffers.codes.as_slice()[..written.size])?;
+    Ok(Some(written.letters))
 }

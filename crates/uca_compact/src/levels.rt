@@ -60,14 +60,6 @@ fn is_place(start: u32, later: &[u16], end: u32, weight: u32, index: usize) -> b
         && weight < cell_end(later, end, index)
 }
 
-/// Whether a weight is in the cell with this index, and this is neither the first cell nor the last. It takes fewer tests.
-#[inline(always)]
-pub(crate) fn is_inner_place(start: u32, later: &[u16], end: u32, weight: u32, index: usize) -> bool
-    ensures { OnTrue result (IsPlace start later.now end weight index) }
-{
-    0 < index && index < later.len() && is_place(start, later, end, weight, index)
-}
-
 // The index of the cell of a weight, by a search in halves.
 fn search_cell(start: u32, later: &[u16], end: u32, weight: u32) -> usize
     requires from { start ≤ weight }
@@ -125,9 +117,9 @@ pub(crate) fn cell_end(later: &[u16], end: u32, index: usize) -> u32
     u32::from(later[index])
 }
 
-/// Writes a weight in its cell, which has this index.
+// Writes a weight in its cell, which has this index.
 #[inline(always)]
-pub(crate) fn push_in_cell<A: Allocator>(
+fn push_in_cell<A: Allocator>(
     out: &mut Vec<u8, A>,
     number: u8,
     start: u32,

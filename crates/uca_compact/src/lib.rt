@@ -8,13 +8,13 @@
 
 mod book_forms;
 mod buffers;
-mod cell_hints;
 mod cells;
 mod compacter;
 mod expander;
 mod key_reader;
 mod later_level;
 pub mod laws;
+mod letter_buffers;
 mod letters;
 mod level_reader;
 pub mod levels;

@@ -1,10 +1,10 @@
 //! Reads the levels and the code points of stored keys.
 
-ghost use Rattle.std.specs.Prelude.{◌≡◌, ◌++◌, IfOk, OnOk, if◌then◌else◌, None, Some};
+ghost use Rattle.std.specs.Prelude.{◌≡◌, ◌+◌, ◌<◌, ◌++◌, length, IfOk, OnOk, if◌then◌else◌, None, Some};
 ghost use Rattle.std.specs.Char.{encode_utf8};
 ghost use Rattle.uca_compact.specs.Forms.{AreWeights};
 ghost use Rattle.uca_compact.specs.StoredParts.{stored_level, stored_points};
-ghost use Rattle.uca_compact.specs.inside.StoredEnds.{level_of, points_of, with_points};
+ghost use Rattle.uca_compact.specs.inside.StoredEnds.{level_of, points_of, weight_of, with_points};
 
 use std::alloc::{AllocError, Allocator};
 use uca_weights::Depth;
@@ -18,6 +18,16 @@ pub(crate) enum StoredEnd<'a> {
     Key,
     /// In a single byte.
     Single,
+}
+
+/// The weight at this position.
+#[inline(always)]
+pub(crate) fn weight_at(bytes: &[u8], at: usize) -> u32
+    requires { at + 1 < length bytes.now }
+    ensures is { result ≡ weight_of bytes.now at }
+    ensures small { result < 65536 }
+{
+    256 * u32::from(bytes[at]) + u32::from(bytes[at + 1])
 }
 
 /// Reads a level from the beginning of these bytes. Its weights take the place of those that were there.

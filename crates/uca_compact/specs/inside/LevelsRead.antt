@@ -9,7 +9,7 @@ use Rattle.uca_compact.specs.Forms.{Form, AreWeights}
 use Rattle.uca_compact.specs.PlainLevels.{copies, letters_after, letter_count}
 use Rattle.uca_compact.specs.CompactKeys.{level_code}
 use Rattle.uca_compact.specs.StoredParts.{stored_level}
-use Rattle.uca_compact.specs.inside.StoredEnds.{level_of, weights_before}
+use Rattle.uca_compact.specs.inside.StoredEnds.{level_of, weights_before, weight_of}
 
 -- the weights of level 1 before a position of the key were counted, and written after the bytes `before`
 pub record IsWrittenTo (f : Form) (key before out : List ℕ) (at count : ℕ) (lead : Bool) : Type 0 where
@@ -31,6 +31,13 @@ pub record IsFirstLevel (f : Form) (key before out : List ℕ) (letters : Letter
   pub few : letters.count ≤ letters.len
   pub within : letters.len ≤ length key
   pub code : (end : ℕ) → out ++ level_code f end 0 [] ≡ before ++ level_code f end 0 weights
+
+-- four weights from this position on are this one
+pub record AreFour (bytes : List ℕ) (at w : ℕ) : Type 0 where
+  pub first : weight_of bytes at ≡ w
+  pub second : weight_of bytes (at + 2) ≡ w
+  pub third : weight_of bytes (at + 4) ≡ w
+  pub fourth : weight_of bytes (at + 6) ≡ w
 
 -- These bytes begin a level that is so many times one weight, if the rest of them begins one that is it so many times
 -- less.

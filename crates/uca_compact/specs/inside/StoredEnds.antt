@@ -1,10 +1,14 @@
 -- How a program finds the levels of stored keys.
-use Rattle.std.specs.Prelude.{ℕ, List, ◌++◌, Option, Some, None, option_map}
+use Rattle.std.specs.Prelude.{ℕ, ◌+◌, ◌*◌, List, ◌++◌, get_or, Option, Some, None, option_map}
 use Rattle.std.specs.Str.{encode_utf8_all}
 use Rattle.uca_weights.specs.declared.Depth.{Depth}
 use Rattle.uca_compact.specs.declared.stored.StoredEnd.{StoredEnd}
 use Rattle.uca_compact.specs.declared.stored.StoredEnd.TheVariants.{Next, Key, Single}
 use Rattle.uca_compact.specs.StoredParts.{StoredLevel, points_after}
+
+-- the weight at this position of a key
+abbrev pub weight_of : (bytes : List ℕ) (at : ℕ) → ℕ
+weight_of bytes at = 256 * get_or bytes at 0 + get_or bytes (at + 1) 0
 
 -- the level with this end
 abbrev pub level_of : StoredEnd → List ℕ → Option StoredLevel

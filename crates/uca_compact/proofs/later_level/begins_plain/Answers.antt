@@ -1,22 +1,23 @@
--- No weight yet, two more, and all of them.
+-- No weight yet, four more, the weights after all fours, one more, and all of them.
 use Rattle.std.proofs.Common.{arith}
-use Rattle.uca_compact.proofs.LevelsRead.{by_test, goes_on_from_start, same_twice, same_in_pairs, same_with_last}
+use Rattle.uca_compact.proofs.LevelsRead.{goes_on_from_start, same_four, after_fours, same_again, all_same}
 use Rattle.uca_compact.proofs.later_level.begins_plain.Goals as goal
 
-pub loop-pair-init : goal.loop-pair-init
-loop-pair-init c = goes_on_from_start c.args.bytes.now c.args.weight c.args.count
+pub loop-four-init : goal.loop-four-init
+loop-four-init c = goes_on_from_start c.args.bytes.now c.args.weight c.args.count
 
-pub loop-pair-preserved : goal.loop-pair-preserved
-loop-pair-preserved c =
-    same_twice c.args.bytes.now c.args.weight c.args.count c.loop-pair.pair c.weight_at.result c.weight_at-in-loop-pair.result
-    c.requires.some c.requires.small c.requires.within c.loop-pair-test.true
-    c.weight_at-in-loop-pair.ensures.small c.weight_at.ensures.is c.weight_at-in-loop-pair.ensures.is c.if-weight_at-both.false c.loop-pair.invariant
+pub loop-four-preserved : goal.loop-four-preserved
+loop-four-preserved c =
+    same_four c.args.bytes.now c.args.weight c.args.count c.loop-four.four c.requires.some c.requires.within c.loop-four-test.true
+    c.if-not-are_four.ensures c.loop-four.invariant
 
-pub returns-then-count-eq0 : goal.returns-then-count-eq0
-returns-then-count-eq0 c =
-    by_test _ (λ all. same_in_pairs c.args.bytes.now c.args.weight c.args.count c.loop-pair.pair (omega arith) c.if-count-eq0.true c.loop-pair.invariant)
+pub loop-index-init : goal.loop-index-init
+loop-index-init c = after_fours c.args.bytes.now c.args.weight c.args.count c.loop-four.four _ (omega arith) c.loop-four.invariant
 
-pub returns-else-count-eq0 : goal.returns-else-count-eq0
-returns-else-count-eq0 c =
-    by_test _ (λ same. same_with_last c.args.bytes.now c.args.weight c.args.count c.loop-pair.pair c.weight_at-else-count-eq0.result c.requires.some
-    c.requires.within (omega arith) c.if-count-eq0.false c.weight_at-else-count-eq0.ensures.is same c.loop-pair.invariant)
+pub loop-index-preserved : goal.loop-index-preserved
+loop-index-preserved c =
+    same_again c.args.bytes.now c.args.weight c.args.count c.loop-index.index c.weight_at.result c.requires.some c.requires.within c.loop-index-test.true
+    c.weight_at.ensures.is c.if-weight_at-weight.false c.loop-index.invariant
+
+pub returns : goal.returns
+returns c = all_same c.args.bytes.now c.args.weight c.args.count c.loop-index.index (omega arith) c.loop-index.invariant
