@@ -160,8 +160,31 @@ fn push_cell<A: Allocator>(
     push_in_cell(out, number, start, later, end, weight, index)
 }
 
-// Writes a weight after a run, and returns the length of the run after it.
+// Writes a weight after a run, and returns the length of the run after it. Mostly it is the common one.
+#[inline(always)]
 fn push_weight<A: Allocator>(
+    out: &mut Vec<u8, A>,
+    form: &LevelForm,
+    run: u32,
+    weight: u32,
+) -> Result<u32, AllocError>
+    requires form { IsForm (form_of form.now) }
+    requires short { run < form.now.longest }
+    requires weight { 0 < weight }
+    requires two_bytes { weight < 65536 }
+    ensures run { IfOk result (λ after. after ≡ run_after (form_of form.now) run (nat_cmp weight form.now.common)) }
+    ensures short { IfOk result (λ after. after < form.now.longest) }
+    ensures bytes { OnOk result (out.new.items ≡ out.old.items ++ written (form_of form.now) run weight (nat_cmp weight form.now.common)) }
+{
+    if weight == u32::from(form.common) && run + 1 < u32::from(form.longest) {
+        return Ok(run + 1);
+    }
+    push_other(out, form, run, weight)
+}
+
+// Writes a weight after a run, and returns the length of the run after it.
+#[inline(never)]
+fn push_other<A: Allocator>(
     out: &mut Vec<u8, A>,
     form: &LevelForm,
     run: u32,
@@ -210,6 +233,7 @@ fn push_weight<A: Allocator>(
 /// # Errors
 ///
 /// An allocation failed.
+#[inline(never)]
 pub fn push_level<A: Allocator>(
     out: &mut Vec<u8, A>,
     form: &LevelForm,

@@ -66,6 +66,7 @@ fn push_point<A: Allocator>(out: &mut Vec<u8, A>, point: char) -> Result<(), All
 
 // Writes code points of three bytes each as UTF-8, and returns whether the bytes are such code points. If they are not,
 // what was written is unspecified.
+#[inline(never)]
 fn push_points<A: Allocator>(out: &mut Vec<u8, A>, bytes: &[u8]) -> Result<bool, AllocError>
     ensures { IfOk result (λ found. with_points out.old.items (stored_points bytes.now) ≡ (if found then Some out.new.items else None)) }
 {
@@ -84,6 +85,7 @@ fn push_points<A: Allocator>(out: &mut Vec<u8, A>, bytes: &[u8]) -> Result<bool,
 }
 
 /// Writes the code points after the last level of weights, which ends so, and returns whether a key may end so.
+#[inline(always)]
 pub(crate) fn push_points_after<A: Allocator>(
     out: &mut Vec<u8, A>,
     depth: Depth,

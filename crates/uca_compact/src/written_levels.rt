@@ -30,6 +30,7 @@ fn end_by(order: Ordering, all: u8, later: u8, more: u8) -> u8
 }
 
 // Writes a level after others, by how it compares to the plain one: a plain level is left out.
+#[inline(always)]
 fn push_later<A: Allocator>(
     out: &mut Vec<u8, A>,
     form: &LevelForm,
