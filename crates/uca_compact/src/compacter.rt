@@ -23,7 +23,8 @@ use uca_books::Book;
 use uca_weights::{Depth, Settings, Weighting};
 
 /// Makes compact keys of stored keys, and stored keys of these again. It needs no text and no table. With its first
-/// compact key it takes 4,096 bytes for the cells of weights that it found. It keeps room for level 1 of the longest key.
+/// compact key it takes 4,096 bytes for the cells of weights that it found. It keeps room for level 1 of the longest
+/// key: up to one and a half times its bytes.
 #[derive(Drop)]
 pub struct KeyCompacter<A: Allocator = Global> {
     book: Book<A>,

@@ -10,8 +10,8 @@ pub(crate) const HINTS: usize = 4096;
 /// Memory that is used again for level 1 of each key.
 #[derive(Drop)]
 pub(crate) struct LetterBuffers<A: Allocator> {
-    /// For each weight, the index of a cell that is tried before all cells are searched. No contract says that it is the
-    /// right one.
+    /// For each weight, the index of a cell that is tried before all cells are searched. No contract says that it is
+    /// the right one.
     pub(crate) hints: Vec<u8, A>,
     /// Room for what the weights are written as.
     pub(crate) codes: Vec<u8, A>,
