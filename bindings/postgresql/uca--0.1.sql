@@ -312,7 +312,9 @@ SET search_path = pg_catalog, pg_temp AS $$
         SELECT 1, depth, 'index', object::regclass::text, format('REINDEX INDEX %s', object::regclass), relowner
         FROM once JOIN pg_class c ON class = 'pg_class'::regclass AND c.oid = object WHERE relkind = 'i'
         UNION ALL
-        SELECT 2, depth, CASE WHEN attgenerated = 's' THEN 'generated column' ELSE 'default' END, format('%s.%I', attrelid::regclass, attname),
+        -- A range of uca_text has its lesser end first.
+        SELECT 2, depth, CASE WHEN attgenerated = 's' THEN 'generated column' WHEN atthasdef THEN 'default' ELSE 'column of ranges' END,
+            format('%s.%I', attrelid::regclass, attname),
             -- It is computed again where a column that it reads is written. A trigger or a rule could leave out rows. A foreign key could
             -- refer to another row afterwards, whose new key is the old one of its row.
             (SELECT format('UPDATE ONLY %s SET %I = %I', attrelid::regclass, b.attname, b.attname)
@@ -325,7 +327,7 @@ SET search_path = pg_catalog, pg_temp AS $$
                  AND NOT EXISTS (SELECT FROM pg_constraint WHERE contype = 'f' AND confrelid = adrelid AND a.attnum = ANY (confkey))
              ORDER BY b.attnum LIMIT 1), relowner
         FROM once JOIN pg_attribute a ON class = 'pg_class'::regclass AND part > 0 AND attrelid = object AND attnum = part
-            JOIN pg_class c ON c.oid = attrelid AND (relkind <> 'p' OR attgenerated = '')
+            JOIN pg_class c ON c.oid = attrelid AND (relkind <> 'p' OR attgenerated = '') AND (relkind NOT IN ('v', 'm') OR atthasdef)
         UNION ALL
         SELECT 3, depth, 'check', format('%I on %s', conname, coalesce(nullif(conrelid, 0)::regclass::text, contypid::regtype::text)),
             -- One that a parent has too is kept and not tested again, while the parent's is dropped and added. Nor is one tested that is NOT

@@ -4,7 +4,8 @@
    their bytes. So texts are equal exactly if their bytes are, whatever the files are. What depends on the files is what is before what.
 
    Each comparison is an error where the database is for other files than the server's, as uca_key(text) is. A scan of a whole index in its
-   order makes no comparison. So where the files are others, the planner does not get to see the indexes in this order. */
+   order makes no comparison. Nor does one of an index on keys, or of one with a condition, as on (id) WHERE name < 'c'. So where the files
+   are others, the planner does not get to see these indexes. */
 #include "uca_postgresql.h"
 
 #include "access/htup_details.h"
@@ -299,29 +300,31 @@ Datum uca_text_sort_support(PG_FUNCTION_ARGS)
 
 static get_relation_info_hook_type earlier_hook;
 
-/* Whether a function is uca_text_compare. Its library need not be loaded for that. */
-static bool is_order(Oid function)
+static bool ends_with(const char *text, const char *end)
 {
-    HeapTuple row = OidIsValid(function) ? SearchSysCache1(PROCOID, ObjectIdGetDatum(function)) : NULL;
-    bool is_null = true, is_it = false;
-    Datum source;
+    size_t length = strlen(text), end_length = strlen(end);
 
-    if (!HeapTupleIsValid(row))
-        return false;
-    source = SysCacheGetAttr(PROCOID, row, Anum_pg_proc_prosrc, &is_null);
-    if (!is_null && ((Form_pg_proc) GETSTRUCT(row))->prolang == ClanguageId) {
+    return length >= end_length && strcmp(text + length - end_length, end) == 0;
+}
+
+/* Whether a function in C is one of this extension that reads the files, and does not name them. Its library need not be loaded for that. */
+static bool reads_files(HeapTuple function)
+{
+    bool is_null = true, reads = false;
+    Datum source = SysCacheGetAttr(PROCOID, function, Anum_pg_proc_prosrc, &is_null);
+
+    if (!is_null && ((Form_pg_proc) GETSTRUCT(function))->prolang == ClanguageId) {
         char *name = TextDatumGetCString(source);
 
-        is_it = strcmp(name, "uca_text_compare") == 0;
+        reads = strncmp(name, "uca_", 4) == 0 && !ends_with(name, "_by_fingerprint") && !ends_with(name, "_by_fingerprints");
         pfree(name);
     }
-    ReleaseSysCache(row);
-    return is_it;
+    return reads;
 }
 
 static Oid order_in_type(Oid type);
 
-/* The function uca_text_compare by which values of a type of rows are ordered, or InvalidOid. */
+/* The function of the extension by which values of a type of rows are ordered, or InvalidOid. */
 static Oid order_in_row(Oid type)
 {
     TupleDesc row = lookup_rowtype_tupdesc(type, -1);
@@ -334,10 +337,21 @@ static Oid order_in_row(Oid type)
     return found;
 }
 
-/* The function uca_text_compare by which values of a type are ordered, or InvalidOid. Types may hold others: arrays, rows, ranges. */
+/* This function, if it is one of the extension that reads the files, or else InvalidOid. */
+static Oid if_of_files(Oid function)
+{
+    HeapTuple row = function >= FirstNormalObjectId ? SearchSysCache1(PROCOID, ObjectIdGetDatum(function)) : NULL;
+    bool reads = HeapTupleIsValid(row) && reads_files(row);
+
+    if (HeapTupleIsValid(row))
+        ReleaseSysCache(row);
+    return reads ? function : InvalidOid;
+}
+
+/* The function of the extension by which values of a type are ordered, or InvalidOid. Types may hold others: arrays, rows, ranges. */
 static Oid order_in_type(Oid type)
 {
-    Oid base = getBaseType(type), element = get_element_type(base), order;
+    Oid base = getBaseType(type), element = get_element_type(base);
 
     check_stack_depth();
     if (OidIsValid(element))
@@ -346,32 +360,60 @@ static Oid order_in_type(Oid type)
         return order_in_type(get_range_subtype(get_multirange_range(base)));
     if (type_is_range(base))
         return order_in_type(get_range_subtype(base));
-    if (base == RECORDOID)
+    if (base == RECORDOID || base < FirstNormalObjectId)
         return InvalidOid;
     if (type_is_rowtype(base))
         return order_in_row(base);
-    order = lookup_type_cache(base, TYPECACHE_CMP_PROC)->cmp_proc;
-    return is_order(order) ? order : InvalidOid;
+    return if_of_files(lookup_type_cache(base, TYPECACHE_CMP_PROC)->cmp_proc);
 }
 
-/* The function uca_text_compare by which an index is ordered, or InvalidOid. Most indexes have operator classes of PostgreSQL itself, over types
-   that hold no others. */
-static Oid order_in_index(const IndexOptInfo *index)
+/* Whether a function reads the files: one of the extension, or another one that is given values of uca_text. `context` is an Oid, which becomes that
+   of a function of the extension. */
+static bool is_of_files(Oid function, void *context)
 {
-    for (int at = 0; index->relam == BTREE_AM_OID && at < index->nkeycolumns; at++) {
-        Oid family = index->opfamily[at], type = index->opcintype[at], found = InvalidOid;
+    Oid *found = context;
+    HeapTuple row = function >= FirstNormalObjectId ? SearchSysCache1(PROCOID, ObjectIdGetDatum(function)) : NULL;
+    Form_pg_proc about;
+
+    if (!HeapTupleIsValid(row))
+        return false;
+    about = (Form_pg_proc) GETSTRUCT(row);
+    if (reads_files(row))
+        *found = function;
+    else if (about->prolang != INTERNALlanguageId)
+        for (int at = 0; at < about->pronargs && !OidIsValid(*found); at++)
+            *found = order_in_type(about->proargtypes.values[at]);
+    ReleaseSysCache(row);
+    return OidIsValid(*found);
+}
+
+/* Whether an expression calls such a function. */
+static bool calls_of_files(Node *node, void *context)
+{
+    return node && (check_functions_in_node(node, is_of_files, context) || expression_tree_walker(node, calls_of_files, context));
+}
+
+/* A function of the extension by which an index is ordered, or which its expressions or its condition call, or InvalidOid. Most indexes are of
+   columns, and have operator classes of PostgreSQL itself over types that hold no others. */
+static Oid function_of_index(const IndexOptInfo *index)
+{
+    Oid found = InvalidOid;
+
+    for (int at = 0; index->relam == BTREE_AM_OID && at < index->nkeycolumns && !OidIsValid(found); at++) {
+        Oid family = index->opfamily[at], type = index->opcintype[at];
 
         if (type == ANYARRAYOID || type == RECORDOID || type == ANYRANGEOID || type == ANYMULTIRANGEOID)
             found = order_in_type(exprType((Node *) list_nth_node(TargetEntry, index->indextlist, at)->expr));
         else if (family >= FirstNormalObjectId)
-            found = get_opfamily_proc(family, type, type, BTORDER_PROC);
-        if (is_order(found))
-            return found;
+            found = if_of_files(get_opfamily_proc(family, type, type, BTORDER_PROC));
     }
-    return InvalidOid;
+    if (!OidIsValid(found) && !calls_of_files((Node *) index->indexprs, &found))
+        calls_of_files((Node *) index->indpred, &found);
+    return found;
 }
 
-/* Leaves out the indexes of a table whose order may be that of other files than the server's. All other ways to read it compare. */
+/* Leaves out the indexes of a table whose order, values or rows may be those of other files than the server's. All other ways to read it call
+   functions of the extension. */
 static void leave_out_indexes(PlannerInfo *planner, Oid relation, bool is_parent, RelOptInfo *about)
 {
     ListCell *it;
@@ -379,9 +421,9 @@ static void leave_out_indexes(PlannerInfo *planner, Oid relation, bool is_parent
     if (earlier_hook)
         earlier_hook(planner, relation, is_parent, about);
     foreach(it, about->indexlist) {
-        Oid order = order_in_index(lfirst_node(IndexOptInfo, it));
+        Oid function = function_of_index(lfirst_node(IndexOptInfo, it));
 
-        if (OidIsValid(order) && !has_its_files(order))
+        if (OidIsValid(function) && !has_its_files(function))
             about->indexlist = foreach_delete_current(about->indexlist, it);
     }
 }
