@@ -257,7 +257,7 @@ RETURN $1 >=~ uca_prefix_low($2) AND $1 <~ uca_prefix_high($2);
 -- that in which the statements run. Where it is NULL, no one statement does it. It finds objects that depend on these functions, and on
 -- functions whose text names them without a fingerprint.
 CREATE FUNCTION uca_dependents(OUT kind text, OUT object text, OUT statement text, OUT owner regrole) RETURNS SETOF record LANGUAGE sql STABLE
-SET search_path = pg_catalog, pg_temp AS $$
+SET search_path = pg_catalog, pg_temp SET jit = off AS $$
     WITH RECURSIVE own(class, object) AS (
         SELECT d.classid, d.objid FROM pg_extension e JOIN pg_depend d ON d.refclassid = 'pg_extension'::regclass AND d.refobjid = e.oid AND d.deptype = 'e'
         WHERE e.extname = 'uca'
@@ -273,7 +273,7 @@ SET search_path = pg_catalog, pg_temp AS $$
         SELECT oid FROM pg_proc
         WHERE prosrc ~* '\muca_(key|any_key|range_low|range_high|prefix_low|prefix_high|expand|compact)\M' AND prosrc !~ '[0-9a-f]{64}'
             OR prosrc ~* '\muca_(text|text_[a-z_]+|begins)\M' AND prolang <> (SELECT oid FROM pg_language WHERE lanname = 'c')
-            OR EXISTS (SELECT FROM unnest(proargtypes) type JOIN holds USING (type))
+            OR proargtypes::oid[] && (SELECT array_agg(type) FROM holds)
                 AND NOT EXISTS (SELECT FROM own WHERE class = 'pg_proc'::regclass AND object = pg_proc.oid)
         UNION
         SELECT p.oid FROM own JOIN pg_proc p ON class = 'pg_proc'::regclass AND object = p.oid
