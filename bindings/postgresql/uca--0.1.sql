@@ -16,6 +16,8 @@ SELECT pg_catalog.pg_extension_config_dump('uca_files', '');
 
 -- Bytes that are here already may be keys of other files, as after DROP EXTENSION. So this row stays until uca_use_files() is called.
 -- Tables of users have numbers from 16384 on. Domains, arrays, rows and ranges hold bytea too.
+-- To compile this statement takes seconds, and to run it a moment.
+SET LOCAL jit = off;
 INSERT INTO uca_files SELECT 'unknown, since columns of type bytea were here before the extension' WHERE EXISTS (
     WITH RECURSIVE holds(type) AS (
         SELECT 'bytea'::regtype::oid
@@ -93,8 +95,10 @@ LANGUAGE C IMMUTABLE PARALLEL SAFE COST 20;
 -- - Other files or settings (a start after ALTER SYSTEM, a restore, pg_upgrade, a standby with its own postgresql.conf): each comparison, and each
 --   sort when it begins, looks at uca_files as uca_key(text) does. So a lookup in an index, an insertion, a sort, a merge join and the CHECK of
 --   a range partition are errors.
--- - A scan of a whole index in its order, or of the first rows of it, makes no comparison. While uca_files differs, the planner does not get to
---   see these indexes (leave_out_indexes in uca_text.c). So it sorts, which is an error. Indexes on arrays, rows and ranges of uca_text count too.
+-- - A scan of a whole index in its order, or of the first rows of it, makes no comparison. Nor does one of an index whose condition compares, as on
+--   (id) WHERE name < 'c', or whose expression does. While uca_files differs, the planner does not get to see these indexes (leave_out_indexes in
+--   uca_text.c). So it sorts or compares, which is an error. Indexes on arrays, rows and ranges of uca_text count too. A server that does not
+--   preload the library has no files, so that each comparison is an error, and what it reads in the order of an index is in the recorded order.
 -- - A plan that is kept: the server's files do not change while it runs. An index is made again in another order by REINDEX alone, which makes
 --   all plans again that read it, also on a standby.
 -- - Threads, parallel workers: a process of the server has one thread, and the collator that the server opened before it started any process.

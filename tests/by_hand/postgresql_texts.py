@@ -11,7 +11,7 @@ copy of the server's programs in a temporary folder. Each server has a folder of
   Each statement has to be an error, or to print what it printed before;
 - `uca_use_files(again => true)` afterwards, and amcheck of all indexes;
 - orders that have to be those of `uca sort`: of the lines of examples/, and of 100,000 words over Unicode's table and that table tailored for Danish. They are
-  sorted in memory, on disk and by parallel workers, and read from indexes that were built at once and row by row;
+  sorted in memory, on disk and by parallel workers, and read from indexes that were built at once and row by row. 20,000 random texts are in the order of keys;
 - the bytes of an index, and the time of a sort and of an index, beside those of a column with COLLATE "und-x-icu". The times are processor time, the least of some
   rounds in turn. Sorting may take as long as ICU's, and an index 1.2 times as long.
 
@@ -189,6 +189,9 @@ def casts(work):
         says("CREATE TABLE texts(word text); INSERT INTO texts SELECT name FROM words; INSERT INTO words(name) SELECT word FROM texts; DELETE FROM words WHERE id > 9;")
         # the order of the database is that of bytes, where A is before a
         same(says("SELECT string_agg(word, '|' ORDER BY word) FROM texts;"), "|A|a|b|c-h|cb|ch|á\n", "the order of text")
+        node = "SELECT relfilenode FROM pg_class WHERE relname = 'turned';"
+        found = says(f"CREATE TABLE turned AS SELECT word FROM texts; CREATE INDEX by_turned ON turned(word); {node} ALTER TABLE turned ALTER word TYPE uca_text; {node} SELECT word FROM turned ORDER BY word LIMIT 3;").split("\n")
+        same((found[0] == found[1], found[2:]), (True, ["", "a", "A", ""]), "a column whose type changes, and no row is written")
         fails_with(says, "SELECT string_agg(name, '|' ORDER BY name) FROM words;", "ERROR:  function string_agg(uca_text, unknown) does not exist")
         same(says("SELECT array_agg(name ORDER BY name) FROM words WHERE name < 'b';"), '{"",a,A,á}\n', "array_agg")
         same(says("SELECT count(*) FROM words WHERE name > 'A'::text; SELECT count(*) FROM texts WHERE word > 'A'; SELECT count(*) FROM texts JOIN words ON word < name;"), "5\n6\n28\n", "comparisons with texts")
@@ -216,6 +219,9 @@ def text_class(work):
             same(says(f"{before} SELECT coalesce(word, 'NULL') FROM words ORDER BY word USING <~;").replace("\n", "|"), f"{SORTED}|", "the order")
             same(says(f"{before} SELECT word FROM words WHERE word >=~ 'A' AND word <=~ 'b' ORDER BY word USING >~; SELECT count(*) FROM words WHERE word = 'á';"), "b\ná\nA\n1\n", "comparisons")
         has(plan(says, "SELECT word FROM words WHERE word = 'á'", BY_INDEX), "Index Only Scan using by_word", "equal texts")
+        merged = plan(says, "SELECT FROM words a JOIN words b ON a.word = b.word", "SET enable_hashjoin = off; SET enable_nestloop = off; SET enable_indexscan = off; SET enable_indexonlyscan = off;")
+        has(merged, "Merge Join", "a join of texts")
+        same([it for it in merged if "USING" in it], [], "a join of texts that is sorted by this order")
         says("CREATE UNIQUE INDEX each_once ON words(word uca_ops);")
         fails_with(says, "INSERT INTO words VALUES ('a');", "duplicate key value violates unique constraint")
         same(says("INSERT INTO words VALUES ('a'), ('d') ON CONFLICT (word) DO NOTHING; SELECT count(*) FROM words;"), "10\n", "ON CONFLICT")
@@ -323,6 +329,8 @@ def other_settings(work):
         server.call("pg_ctl", "-w", "-m", "fast", "stop")
         server.call("pg_ctl", "-w", "-o", f"-c listen_addresses='' -c unix_socket_directories='{server.folder}' -c fsync=off", "start")
         others_fail(says, wanted, "after ALTER SYSTEM")
+        dumped = run([f"{server.programs}/pg_dump", "-h", server.folder, "-U", "postgres", "postgres"]).decode()
+        same(dumped.count("\nCOPY public."), int(says("SELECT count(*) FROM pg_class WHERE relkind = 'r' AND relnamespace = 'public'::regnamespace;")), "tables of a dump")
         for other in (settings.replace("weighting = shifted", "weighting = 'non-ignorable'"), settings + "uca.identical = on\n", settings + f"uca.book_file = '{room}/book.txt'\n"):
             server.restart(other)
             others_fail(says, wanted, other, ordered=ORDERED[:8])
@@ -523,6 +531,46 @@ def words_like(program):
     return check
 
 
+# Ranges of code points of many kinds, whose ends are in them.
+KINDS = [(0x20, 0x7E), (0x61, 0x7A), (0x61, 0x66), (1, 0x1F), (0xA0, 0x24F), (0x300, 0x36F), (0x370, 0x5FF), (0x600, 0x6FF), (0x900, 0xDFF), (0x1100, 0x11FF), (0x2000, 0x2BFF), (0x3040, 0x30FF),
+         (0x4E00, 0x9FFF), (0xAC00, 0xD7A3), (0xE000, 0xE010), (0xF900, 0xFFFF), (0x10000, 0x1FFFF), (0x20000, 0x323AF), (0xE0100, 0xE01EF), (0x10FFF0, 0x10FFFF)]
+
+
+def random_text(chosen):
+    """A text of up to 12 code points of one or two kinds; one of a hundred has a run of marks that may be too long."""
+    kinds = chosen.choices(KINDS, k=2)
+    points = [chosen.randint(*chosen.choice(kinds)) for _ in range(chosen.randint(0, 12))]
+    if chosen.random() < 0.01:
+        points += [0x301] * chosen.randint(60, 70)
+    return "".join(map(chr, points))
+
+
+def random_like(program):
+    """Random texts of many scripts are in the order of their keys, and then of their bytes; rejected ones come last."""
+
+    def check(work):
+        data, tables = bindings.unicode_files(work, program)
+        chosen = random.Random(6)
+        texts = [random_text(chosen) for _ in range(20_000)]
+        escapes = {"\\": "\\\\", "\t": "\\t", "\n": "\\n", "\r": "\\r"}
+        copied = "".join("".join(escapes.get(it, it) for it in text) + "\n" for text in texts)
+        counted = "SELECT count(*), count(*) FILTER (WHERE left(uca_any_key(name::text)::text, 4) = '\\x01') > 50 FROM words;"
+        by_key = 'row_number() OVER (ORDER BY uca_any_key(name::text), name::text COLLATE "C") AS place FROM words'
+        # texts of the same bytes may change places
+        differ = f"SELECT count(*) FROM (SELECT name, row_number() OVER (ORDER BY name) AS place FROM words) a JOIN (SELECT name, {by_key}) b USING (place) WHERE a.name <> b.name;"
+        for weighting, book in (("shifted", None), ("non-ignorable", BOOK)):
+            with bindings.postgresql_server(work, tables[0], data, book) as (server, says, settings):
+                server.restart(settings.replace("weighting = shifted", f"weighting = '{weighting}'"))
+                says("SELECT uca_use_files();")
+                says(f"CREATE EXTENSION amcheck; CREATE TABLE words(name uca_text); COPY words FROM STDIN;\n{copied}\\.\nCREATE INDEX by_name ON words(name); VACUUM ANALYZE words;")
+                same(says(counted), "20000|t\n", "random texts, some of which are rejected")
+                for before in ("SET work_mem = '1GB';", "SET work_mem = '64kB';", BY_INDEX):
+                    same(says(f"SET jit = off; {before} {differ}"), "0\n", f"random texts in another place, {weighting}, {before}")
+                same(says(CHECKED), "by_name\n", "amcheck")
+
+    return check
+
+
 ROUNDS = 7
 
 
@@ -586,7 +634,7 @@ def main():
     program = os.path.realpath(given.uca)
     checks = {"statements": statements, "bad_texts": bad_texts, "unique": unique, "joins": joins, "begins": begins, "casts": casts, "text_class": text_class, "other_settings": other_settings,
               "dumps": dumps, "standby": standby, "transactions": inside_transactions, "roles": roles, "page": page, "orders": orders_like(program),
-              "words": words_like(program), "beside_icu": beside_icu(program)}
+              "words": words_like(program), "random": random_like(program), "beside_icu": beside_icu(program)}
     if unknown := {*given.names} - {*checks}:
         parser.error(f"no check is named {', '.join(sorted(unknown))}: they are {', '.join(checks)}")
     run(["make", "-s", "-C", bindings.C])
