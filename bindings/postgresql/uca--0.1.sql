@@ -16,6 +16,8 @@ SELECT pg_catalog.pg_extension_config_dump('uca_files', '');
 
 -- Bytes that are here already may be keys of other files, as after DROP EXTENSION. So this row stays until uca_use_files() is called.
 -- Tables of users have numbers from 16384 on. Domains, arrays, rows and ranges hold bytea too.
+-- To compile this statement takes seconds, and to run it a moment.
+SET LOCAL jit = off;
 INSERT INTO uca_files SELECT 'unknown, since columns of type bytea were here before the extension' WHERE EXISTS (
     WITH RECURSIVE holds(type) AS (
         SELECT 'bytea'::regtype::oid
@@ -84,20 +86,213 @@ LANGUAGE C IMMUTABLE PARALLEL SAFE COST 20;
 CREATE FUNCTION uca_compact(bytea, fingerprint text) RETURNS bytea AS 'MODULE_PATHNAME', 'uca_compact_by_fingerprint'
 LANGUAGE C IMMUTABLE PARALLEL SAFE COST 20;
 
+-- ---- Texts in order: the type uca_text, and the operator class uca_ops of text
+
+-- A value of uca_text is a text, byte by byte. Nothing in it depends on files. What depends on files is the order: that of an index, of the
+-- ranges of a partitioned table, and what a CHECK, a generated column or a materialized view made by comparing. So the order has the guard that
+-- uca_key(text) has, the table uca_files. These are the attacks, and why none of them gives a wrong order without an error:
+--
+-- - Other files or settings (a start after ALTER SYSTEM, a restore, pg_upgrade, a standby with its own postgresql.conf): each comparison, and each
+--   sort when it begins, looks at uca_files as uca_key(text) does. So a lookup in an index, an insertion, a sort, a merge join and the CHECK of
+--   a range partition are errors.
+-- - A scan of a whole index in its order, or of the first rows of it, makes no comparison. Nor does one of an index whose condition compares, as on
+--   (id) WHERE name < 'c', or whose expression does. While uca_files differs, the planner does not get to see these indexes (leave_out_indexes in
+--   uca_text.c). So it sorts or compares, which is an error. Indexes on arrays, rows and ranges of uca_text count too. A server that does not
+--   preload the library has no files, so that each comparison is an error, and what it reads in the order of an index is in the recorded order.
+-- - A plan that is kept: the server's files do not change while it runs. An index is made again in another order by REINDEX alone, which makes
+--   all plans again that read it, also on a standby.
+-- - Threads, parallel workers: a process of the server has one thread, and the collator that the server opened before it started any process.
+-- - Another administrator: the settings cannot be set for a session, a role or a database. uca_use_files() makes again all that is ordered, or
+--   is an error, as for keys.
+-- - Hash joins, hash indexes, hash partitions, DISTINCT, foreign keys, UNIQUE: texts are equal exactly if their bytes are. So what is equal does
+--   not depend on files. This is why texts with equal keys and other bytes are not equal here, and why an index takes each value once.
+-- - The order of text, which comes without an error where PostgreSQL takes a uca_text for a text: it never does so by itself. A cast to text is
+--   written (name::text), or is that of an assignment. With an implicit one, max(name), string_agg(name, ', ' ORDER BY name), and each operator
+--   with a search_path without this schema would be in the order of text. Now they are ours, or an error.
+-- - Collations: uca_text has none, so COLLATE is an error. An index by uca_ops for a nondeterministic collation is an error, since it has other
+--   equal texts.
+CREATE TYPE uca_text;
+CREATE FUNCTION uca_text_in(cstring) RETURNS uca_text AS 'textin' LANGUAGE internal IMMUTABLE STRICT PARALLEL SAFE;
+CREATE FUNCTION uca_text_out(uca_text) RETURNS cstring AS 'textout' LANGUAGE internal IMMUTABLE STRICT PARALLEL SAFE;
+CREATE FUNCTION uca_text_receive(internal) RETURNS uca_text AS 'textrecv' LANGUAGE internal STABLE STRICT PARALLEL SAFE;
+CREATE FUNCTION uca_text_send(uca_text) RETURNS bytea AS 'textsend' LANGUAGE internal STABLE STRICT PARALLEL SAFE;
+CREATE TYPE uca_text (
+    INPUT = uca_text_in, OUTPUT = uca_text_out, RECEIVE = uca_text_receive, SEND = uca_text_send,
+    INTERNALLENGTH = VARIABLE, STORAGE = extended, CATEGORY = 'S');
+CREATE CAST (text AS uca_text) WITHOUT FUNCTION AS IMPLICIT;
+CREATE CAST (varchar AS uca_text) WITHOUT FUNCTION AS IMPLICIT;
+CREATE CAST (uca_text AS text) WITHOUT FUNCTION AS ASSIGNMENT;
+CREATE CAST (uca_text AS varchar) WITHOUT FUNCTION AS ASSIGNMENT;
+
+-- Texts are equal if their bytes are.
+CREATE FUNCTION uca_text_equal(uca_text, uca_text) RETURNS boolean AS 'byteaeq' LANGUAGE internal IMMUTABLE STRICT LEAKPROOF PARALLEL SAFE;
+CREATE FUNCTION uca_text_differ(uca_text, uca_text) RETURNS boolean AS 'byteane' LANGUAGE internal IMMUTABLE STRICT LEAKPROOF PARALLEL SAFE;
+CREATE FUNCTION uca_text_hash(uca_text) RETURNS integer AS 'hashvarlena' LANGUAGE internal IMMUTABLE STRICT PARALLEL SAFE;
+CREATE FUNCTION uca_text_hash(uca_text, bigint) RETURNS bigint AS 'hashvarlenaextended' LANGUAGE internal IMMUTABLE STRICT PARALLEL SAFE;
+CREATE OPERATOR = (
+    LEFTARG = uca_text, RIGHTARG = uca_text, FUNCTION = uca_text_equal, COMMUTATOR = =, NEGATOR = <>,
+    RESTRICT = eqsel, JOIN = eqjoinsel, HASHES, MERGES);
+CREATE OPERATOR <> (
+    LEFTARG = uca_text, RIGHTARG = uca_text, FUNCTION = uca_text_differ, COMMUTATOR = <>, NEGATOR = =, RESTRICT = neqsel, JOIN = neqjoinsel);
+CREATE OPERATOR CLASS uca_text_ops DEFAULT FOR TYPE uca_text USING hash AS
+    OPERATOR 1 =, FUNCTION 1 uca_text_hash(uca_text), FUNCTION 2 uca_text_hash(uca_text, bigint);
+
+-- The order of texts is that of their keys, and then of their bytes. Rejected texts come after all others.
+CREATE FUNCTION uca_text_compare(uca_text, uca_text) RETURNS integer AS 'MODULE_PATHNAME', 'uca_text_compare'
+LANGUAGE C IMMUTABLE STRICT PARALLEL SAFE COST 10;
+CREATE FUNCTION uca_text_less(uca_text, uca_text) RETURNS boolean AS 'MODULE_PATHNAME', 'uca_text_less'
+LANGUAGE C IMMUTABLE STRICT PARALLEL SAFE COST 10;
+CREATE FUNCTION uca_text_not_greater(uca_text, uca_text) RETURNS boolean AS 'MODULE_PATHNAME', 'uca_text_not_greater'
+LANGUAGE C IMMUTABLE STRICT PARALLEL SAFE COST 10;
+CREATE FUNCTION uca_text_not_less(uca_text, uca_text) RETURNS boolean AS 'MODULE_PATHNAME', 'uca_text_not_less'
+LANGUAGE C IMMUTABLE STRICT PARALLEL SAFE COST 10;
+CREATE FUNCTION uca_text_greater(uca_text, uca_text) RETURNS boolean AS 'MODULE_PATHNAME', 'uca_text_greater'
+LANGUAGE C IMMUTABLE STRICT PARALLEL SAFE COST 10;
+CREATE OPERATOR < (
+    LEFTARG = uca_text, RIGHTARG = uca_text, FUNCTION = uca_text_less, COMMUTATOR = >, NEGATOR = >=,
+    RESTRICT = scalarltsel, JOIN = scalarltjoinsel);
+CREATE OPERATOR <= (
+    LEFTARG = uca_text, RIGHTARG = uca_text, FUNCTION = uca_text_not_greater, COMMUTATOR = >=, NEGATOR = >,
+    RESTRICT = scalarlesel, JOIN = scalarlejoinsel);
+CREATE OPERATOR >= (
+    LEFTARG = uca_text, RIGHTARG = uca_text, FUNCTION = uca_text_not_less, COMMUTATOR = <=, NEGATOR = <,
+    RESTRICT = scalargesel, JOIN = scalargejoinsel);
+CREATE OPERATOR > (
+    LEFTARG = uca_text, RIGHTARG = uca_text, FUNCTION = uca_text_greater, COMMUTATOR = <, NEGATOR = <=,
+    RESTRICT = scalargtsel, JOIN = scalargtjoinsel);
+
+-- A text is also compared with bytes: its key with an end of a range, as uca_prefix_low makes it. A rejected text is after all bytes.
+CREATE FUNCTION uca_text_compare(left_text uca_text, right_key bytea) RETURNS integer AS 'MODULE_PATHNAME', 'uca_text_compare_key'
+LANGUAGE C IMMUTABLE STRICT PARALLEL SAFE COST 10;
+CREATE FUNCTION uca_text_less(left_text uca_text, right_key bytea) RETURNS boolean AS 'MODULE_PATHNAME', 'uca_text_less_key'
+LANGUAGE C IMMUTABLE STRICT PARALLEL SAFE COST 10;
+CREATE FUNCTION uca_text_not_greater(left_text uca_text, right_key bytea) RETURNS boolean AS 'MODULE_PATHNAME', 'uca_text_not_greater_key'
+LANGUAGE C IMMUTABLE STRICT PARALLEL SAFE COST 10;
+CREATE FUNCTION uca_text_not_less(left_text uca_text, right_key bytea) RETURNS boolean AS 'MODULE_PATHNAME', 'uca_text_not_less_key'
+LANGUAGE C IMMUTABLE STRICT PARALLEL SAFE COST 10;
+CREATE FUNCTION uca_text_greater(left_text uca_text, right_key bytea) RETURNS boolean AS 'MODULE_PATHNAME', 'uca_text_greater_key'
+LANGUAGE C IMMUTABLE STRICT PARALLEL SAFE COST 10;
+CREATE OPERATOR < (
+    LEFTARG = uca_text, RIGHTARG = bytea, FUNCTION = uca_text_less, NEGATOR = >=, RESTRICT = scalarltsel, JOIN = scalarltjoinsel);
+CREATE OPERATOR <= (
+    LEFTARG = uca_text, RIGHTARG = bytea, FUNCTION = uca_text_not_greater, NEGATOR = >, RESTRICT = scalarlesel, JOIN = scalarlejoinsel);
+CREATE OPERATOR >= (
+    LEFTARG = uca_text, RIGHTARG = bytea, FUNCTION = uca_text_not_less, NEGATOR = <, RESTRICT = scalargesel, JOIN = scalargejoinsel);
+CREATE OPERATOR > (
+    LEFTARG = uca_text, RIGHTARG = bytea, FUNCTION = uca_text_greater, NEGATOR = <=, RESTRICT = scalargtsel, JOIN = scalargtjoinsel);
+
+CREATE FUNCTION uca_text_sort_support(internal) RETURNS void AS 'MODULE_PATHNAME', 'uca_text_sort_support' LANGUAGE C IMMUTABLE STRICT PARALLEL SAFE;
+CREATE OPERATOR CLASS uca_text_ops DEFAULT FOR TYPE uca_text USING btree AS
+    OPERATOR 1 <, OPERATOR 2 <=, OPERATOR 3 =, OPERATOR 4 >=, OPERATOR 5 >,
+    FUNCTION 1 uca_text_compare(uca_text, uca_text), FUNCTION 2 uca_text_sort_support(internal), FUNCTION 4 btequalimage(oid),
+    OPERATOR 1 < (uca_text, bytea), OPERATOR 2 <= (uca_text, bytea),
+    OPERATOR 4 >= (uca_text, bytea), OPERATOR 5 > (uca_text, bytea),
+    FUNCTION 1 (uca_text, bytea) uca_text_compare(uca_text, bytea);
+
+CREATE FUNCTION uca_text_least(uca_text, uca_text) RETURNS uca_text AS 'MODULE_PATHNAME', 'uca_text_least'
+LANGUAGE C IMMUTABLE STRICT PARALLEL SAFE COST 10;
+CREATE FUNCTION uca_text_greatest(uca_text, uca_text) RETURNS uca_text AS 'MODULE_PATHNAME', 'uca_text_greatest'
+LANGUAGE C IMMUTABLE STRICT PARALLEL SAFE COST 10;
+CREATE AGGREGATE min(uca_text) (SFUNC = uca_text_least, STYPE = uca_text, COMBINEFUNC = uca_text_least, SORTOP = <, PARALLEL = SAFE);
+CREATE AGGREGATE max(uca_text) (SFUNC = uca_text_greatest, STYPE = uca_text, COMBINEFUNC = uca_text_greatest, SORTOP = >, PARALLEL = SAFE);
+
+-- Whether a text begins with these letters: level 1 of its key begins with theirs. The planner puts the body in its place, so an index serves it.
+CREATE FUNCTION uca_begins(uca_text, beginning text) RETURNS boolean LANGUAGE sql IMMUTABLE PARALLEL SAFE
+RETURN $1 >= uca_prefix_low($2) AND $1 < uca_prefix_high($2);
+CREATE OPERATOR ^@ (LEFTARG = uca_text, RIGHTARG = text, FUNCTION = uca_begins, RESTRICT = matchingsel, JOIN = matchingjoinsel);
+
+-- Keys of such texts.
+CREATE FUNCTION uca_key(uca_text) RETURNS bytea AS 'MODULE_PATHNAME', 'uca_key_of_text' LANGUAGE C IMMUTABLE STRICT PARALLEL SAFE COST 20;
+CREATE FUNCTION uca_key(uca_text, levels integer) RETURNS bytea AS 'MODULE_PATHNAME', 'uca_range_low_of_text'
+LANGUAGE C IMMUTABLE STRICT PARALLEL SAFE COST 20;
+
+-- The same order for columns of type text, by operators of other names. Equal texts are those of text itself.
+CREATE FUNCTION uca_text_compare(text, text) RETURNS integer AS 'MODULE_PATHNAME', 'uca_text_compare'
+LANGUAGE C IMMUTABLE STRICT PARALLEL SAFE COST 10;
+CREATE FUNCTION uca_text_less(text, text) RETURNS boolean AS 'MODULE_PATHNAME', 'uca_text_less'
+LANGUAGE C IMMUTABLE STRICT PARALLEL SAFE COST 10;
+CREATE FUNCTION uca_text_not_greater(text, text) RETURNS boolean AS 'MODULE_PATHNAME', 'uca_text_not_greater'
+LANGUAGE C IMMUTABLE STRICT PARALLEL SAFE COST 10;
+CREATE FUNCTION uca_text_not_less(text, text) RETURNS boolean AS 'MODULE_PATHNAME', 'uca_text_not_less'
+LANGUAGE C IMMUTABLE STRICT PARALLEL SAFE COST 10;
+CREATE FUNCTION uca_text_greater(text, text) RETURNS boolean AS 'MODULE_PATHNAME', 'uca_text_greater'
+LANGUAGE C IMMUTABLE STRICT PARALLEL SAFE COST 10;
+CREATE OPERATOR <~ (
+    LEFTARG = text, RIGHTARG = text, FUNCTION = uca_text_less, COMMUTATOR = >~, NEGATOR = >=~,
+    RESTRICT = scalarltsel, JOIN = scalarltjoinsel);
+CREATE OPERATOR <=~ (
+    LEFTARG = text, RIGHTARG = text, FUNCTION = uca_text_not_greater, COMMUTATOR = >=~, NEGATOR = >~,
+    RESTRICT = scalarlesel, JOIN = scalarlejoinsel);
+CREATE OPERATOR >=~ (
+    LEFTARG = text, RIGHTARG = text, FUNCTION = uca_text_not_less, COMMUTATOR = <=~, NEGATOR = <~,
+    RESTRICT = scalargesel, JOIN = scalargejoinsel);
+CREATE OPERATOR >~ (
+    LEFTARG = text, RIGHTARG = text, FUNCTION = uca_text_greater, COMMUTATOR = <~, NEGATOR = <=~,
+    RESTRICT = scalargtsel, JOIN = scalargtjoinsel);
+CREATE FUNCTION uca_text_compare(left_text text, right_key bytea) RETURNS integer AS 'MODULE_PATHNAME', 'uca_text_compare_key'
+LANGUAGE C IMMUTABLE STRICT PARALLEL SAFE COST 10;
+CREATE FUNCTION uca_text_less(left_text text, right_key bytea) RETURNS boolean AS 'MODULE_PATHNAME', 'uca_text_less_key'
+LANGUAGE C IMMUTABLE STRICT PARALLEL SAFE COST 10;
+CREATE FUNCTION uca_text_not_greater(left_text text, right_key bytea) RETURNS boolean AS 'MODULE_PATHNAME', 'uca_text_not_greater_key'
+LANGUAGE C IMMUTABLE STRICT PARALLEL SAFE COST 10;
+CREATE FUNCTION uca_text_not_less(left_text text, right_key bytea) RETURNS boolean AS 'MODULE_PATHNAME', 'uca_text_not_less_key'
+LANGUAGE C IMMUTABLE STRICT PARALLEL SAFE COST 10;
+CREATE FUNCTION uca_text_greater(left_text text, right_key bytea) RETURNS boolean AS 'MODULE_PATHNAME', 'uca_text_greater_key'
+LANGUAGE C IMMUTABLE STRICT PARALLEL SAFE COST 10;
+CREATE OPERATOR <~ (
+    LEFTARG = text, RIGHTARG = bytea, FUNCTION = uca_text_less, NEGATOR = >=~, RESTRICT = scalarltsel, JOIN = scalarltjoinsel);
+CREATE OPERATOR <=~ (
+    LEFTARG = text, RIGHTARG = bytea, FUNCTION = uca_text_not_greater, NEGATOR = >~, RESTRICT = scalarlesel, JOIN = scalarlejoinsel);
+CREATE OPERATOR >=~ (
+    LEFTARG = text, RIGHTARG = bytea, FUNCTION = uca_text_not_less, NEGATOR = <~, RESTRICT = scalargesel, JOIN = scalargejoinsel);
+CREATE OPERATOR >~ (
+    LEFTARG = text, RIGHTARG = bytea, FUNCTION = uca_text_greater, NEGATOR = <=~, RESTRICT = scalargtsel, JOIN = scalargtjoinsel);
+CREATE OPERATOR CLASS uca_ops FOR TYPE text USING btree AS
+    OPERATOR 1 <~, OPERATOR 2 <=~, OPERATOR 3 =, OPERATOR 4 >=~, OPERATOR 5 >~,
+    FUNCTION 1 uca_text_compare(text, text), FUNCTION 2 uca_text_sort_support(internal), FUNCTION 4 btequalimage(oid),
+    OPERATOR 1 <~ (text, bytea), OPERATOR 2 <=~ (text, bytea),
+    OPERATOR 4 >=~ (text, bytea), OPERATOR 5 >~ (text, bytea),
+    FUNCTION 1 (text, bytea) uca_text_compare(text, bytea);
+
+CREATE FUNCTION uca_begins(text, beginning text) RETURNS boolean LANGUAGE sql IMMUTABLE PARALLEL SAFE
+RETURN $1 >=~ uca_prefix_low($2) AND $1 <~ uca_prefix_high($2);
+
 -- What keeps keys of functions that name no files, or depends on these, the statement that makes it again, and who owns it. The order is
 -- that in which the statements run. Where it is NULL, no one statement does it. It finds objects that depend on these functions, and on
 -- functions whose text names them without a fingerprint.
 CREATE FUNCTION uca_dependents(OUT kind text, OUT object text, OUT statement text, OUT owner regrole) RETURNS SETOF record LANGUAGE sql STABLE
-SET search_path = pg_catalog, pg_temp AS $$
-    WITH RECURSIVE start AS (
+SET search_path = pg_catalog, pg_temp SET jit = off AS $$
+    WITH RECURSIVE own(class, object) AS (
+        SELECT d.classid, d.objid FROM pg_extension e JOIN pg_depend d ON d.refclassid = 'pg_extension'::regclass AND d.refobjid = e.oid AND d.deptype = 'e'
+        WHERE e.extname = 'uca'
+    ), holds(type) AS (
+        -- uca_text, and what has its values: domains, arrays, rows and ranges
+        SELECT oid FROM own JOIN pg_type ON class = 'pg_type'::regclass AND object = oid WHERE typname = 'uca_text'
+        UNION
+        SELECT t.oid FROM holds h JOIN pg_type t ON h.type IN (t.typbasetype, t.typelem)
+            OR EXISTS (SELECT FROM pg_attribute a WHERE a.attrelid = t.typrelid AND a.atttypid = h.type)
+            OR EXISTS (SELECT FROM pg_range r WHERE t.oid IN (r.rngtypid, r.rngmultitypid) AND r.rngsubtype = h.type)
+    ), start AS (
+        -- Functions of the extension that read the files are in C. Others may call them, or compare values of uca_text.
         SELECT oid FROM pg_proc
         WHERE prosrc ~* '\muca_(key|any_key|range_low|range_high|prefix_low|prefix_high|expand|compact)\M' AND prosrc !~ '[0-9a-f]{64}'
+            OR prosrc ~* '\muca_(text|text_[a-z_]+|begins)\M' AND prolang <> (SELECT oid FROM pg_language WHERE lanname = 'c')
+            OR proargtypes::oid[] && (SELECT array_agg(type) FROM holds)
+                AND NOT EXISTS (SELECT FROM own WHERE class = 'pg_proc'::regclass AND object = pg_proc.oid)
         UNION
-        SELECT p.oid FROM pg_extension e JOIN pg_depend d ON d.refclassid = 'pg_extension'::regclass AND d.refobjid = e.oid AND d.deptype = 'e'
-            JOIN pg_proc p ON d.classid = 'pg_proc'::regclass AND d.objid = p.oid
-        WHERE e.extname = 'uca' AND p.provolatile = 'i' AND 'fingerprint' <> ALL (coalesce(p.proargnames, '{}'))
+        SELECT p.oid FROM own JOIN pg_proc p ON class = 'pg_proc'::regclass AND object = p.oid
+        WHERE p.prolang = (SELECT oid FROM pg_language WHERE lanname = 'c') AND p.provolatile = 'i' AND 'fingerprint' <> ALL (coalesce(p.proargnames, '{}'))
     ), found(class, object, part, depth) AS (
-        SELECT 'pg_proc'::regclass::oid, oid, 0, 0 FROM start
+        (SELECT 'pg_proc'::regclass::oid, oid, 0, 0 FROM start
+         UNION ALL
+         -- Arrays, rows and ranges of uca_text are ordered by operators of PostgreSQL itself.
+         SELECT 'pg_class'::regclass::oid, c.oid, 0, 0
+         FROM pg_index i JOIN pg_class c ON c.oid = i.indexrelid JOIN pg_am m ON m.oid = c.relam AND m.amname <> 'hash'
+             JOIN pg_attribute a ON a.attrelid = c.oid AND a.attnum <= i.indnkeyatts JOIN holds ON type = a.atttypid
+         UNION ALL
+         SELECT 'pg_class'::regclass::oid, p.partrelid, 0, 0
+         FROM pg_partitioned_table p JOIN pg_attribute a ON a.attrelid = p.partrelid AND a.attnum = ANY (p.partattrs) AND p.partstrat <> 'h'
+             JOIN holds ON type = a.atttypid)
         UNION
         -- What depends on it, and what it is a part of, as a rule is of its view; in place of a default, its column. The depth counts
         -- materialized views, since one is made after those that it reads. Paths are not kept, since views over views have too many.
@@ -121,7 +316,9 @@ SET search_path = pg_catalog, pg_temp AS $$
         SELECT 1, depth, 'index', object::regclass::text, format('REINDEX INDEX %s', object::regclass), relowner
         FROM once JOIN pg_class c ON class = 'pg_class'::regclass AND c.oid = object WHERE relkind = 'i'
         UNION ALL
-        SELECT 2, depth, CASE WHEN attgenerated = 's' THEN 'generated column' ELSE 'default' END, format('%s.%I', attrelid::regclass, attname),
+        -- A range of uca_text has its lesser end first.
+        SELECT 2, depth, CASE WHEN attgenerated = 's' THEN 'generated column' WHEN atthasdef THEN 'default' ELSE 'column of ranges' END,
+            format('%s.%I', attrelid::regclass, attname),
             -- It is computed again where a column that it reads is written. A trigger or a rule could leave out rows. A foreign key could
             -- refer to another row afterwards, whose new key is the old one of its row.
             (SELECT format('UPDATE ONLY %s SET %I = %I', attrelid::regclass, b.attname, b.attname)
@@ -134,7 +331,7 @@ SET search_path = pg_catalog, pg_temp AS $$
                  AND NOT EXISTS (SELECT FROM pg_constraint WHERE contype = 'f' AND confrelid = adrelid AND a.attnum = ANY (confkey))
              ORDER BY b.attnum LIMIT 1), relowner
         FROM once JOIN pg_attribute a ON class = 'pg_class'::regclass AND part > 0 AND attrelid = object AND attnum = part
-            JOIN pg_class c ON c.oid = attrelid AND (relkind <> 'p' OR attgenerated = '')
+            JOIN pg_class c ON c.oid = attrelid AND (relkind <> 'p' OR attgenerated = '') AND (relkind NOT IN ('v', 'm') OR atthasdef)
         UNION ALL
         SELECT 3, depth, 'check', format('%I on %s', conname, coalesce(nullif(conrelid, 0)::regclass::text, contypid::regtype::text)),
             -- One that a parent has too is kept and not tested again, while the parent's is dropped and added. Nor is one tested that is NOT

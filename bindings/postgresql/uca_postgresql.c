@@ -43,7 +43,7 @@
 #include "utils/rel.h"
 #include "utils/snapmgr.h"
 
-#include "uca.h"
+#include "uca_postgresql.h"
 
 PG_MODULE_MAGIC;
 
@@ -54,9 +54,6 @@ void _PG_init(void);
 
 /* The bytes that a bytea can have. */
 #define MOST_VALUE (MaxAllocSize - VARHDRSZ)
-
-/* A text with more bytes has more than 1,048,576 code points, since each has four at most. So it is too long. */
-#define MOST_TEXT (4 * 1048576)
 
 /* A table, a data file or a book with more bytes is rejected. */
 #define MOST_FILE (64 * 1024 * 1024)
@@ -261,6 +258,11 @@ static bool has_next(void)
     return *next_names.table || *next_names.data || *next_names.book || *changes_name || *certificate_name;
 }
 
+static bool has_names(void)
+{
+    return *names.table || *names.data || *names.book || has_next();
+}
+
 /* Reads the present edition, and then the next one, if there is one. */
 static void read_files(void)
 {
@@ -313,11 +315,10 @@ void _PG_init(void)
     MarkGUCPrefixReserved("uca");
     if (has_old_names)
         strlcpy(present.reason, "uca: the settings uca.table and uca.data are now uca.table_file and uca.data_file", REASON);
-    else if (*names.table || *names.data || *names.book || has_next())
+    else if (has_names())
         read_files();
-    else
-        return;
-    if (!present.collator.is_open)
+    start_texts();
+    if (!present.collator.is_open && (has_old_names || has_names()))
         ereport(WARNING, (errmsg("%s", present.reason)));
     else if (has_next() && !upgrade.is_open)
         ereport(WARNING, (errmsg("%s", next.reason)));
@@ -355,18 +356,21 @@ static Oid files_of(Oid function)
     return found;
 }
 
-/* Opens that table. A number that was found is kept, until its table is dropped. */
+/* Opens that table. Numbers that were found are kept, until their table is dropped. */
 static Relation open_files_of(Oid function)
 {
-    static Oid known_function = InvalidOid, known_table = InvalidOid;
-    Relation files = function == known_function ? try_table_open(known_table, AccessShareLock) : NULL;
+    static struct {
+        Oid function, table;
+    } kept[16];
+    Oid *known_function = &kept[function % lengthof(kept)].function, *known_table = &kept[function % lengthof(kept)].table;
+    Relation files = function == *known_function ? try_table_open(*known_table, AccessShareLock) : NULL;
 
     if (!files) {
-        known_table = files_of(function);
-        known_function = function;
-        if (!OidIsValid(known_table))
+        *known_table = files_of(function);
+        *known_function = function;
+        if (!OidIsValid(*known_table))
             ereport(ERROR, (errcode(ERRCODE_OBJECT_NOT_IN_PREREQUISITE_STATE), errmsg("uca: the extension has no table uca_files")));
-        files = table_open(known_table, AccessShareLock);
+        files = table_open(*known_table, AccessShareLock);
     }
     if (RelationGetDescr(files)->natts != 1 || TupleDescAttr(RelationGetDescr(files), 0)->atttypid != TEXTOID)
         ereport(ERROR, (errcode(ERRCODE_OBJECT_NOT_IN_PREREQUISITE_STATE),
@@ -423,25 +427,49 @@ static char *other_fingerprint(Oid function, Snapshot now)
     return rows == 0 ? "none" : other;
 }
 
-/* The database of this process has to be for the server's files and settings: uca_files has rows, and each is their fingerprint. */
-static void need_files(Oid function)
+/* A fingerprint of the database that is not the server's, or NULL: uca_files has rows, and each is the server's. */
+static char *found_other(Oid function)
 {
     Snapshot now = ActiveSnapshotSet() ? GetActiveSnapshot() : GetTransactionSnapshot();
     Seen seen = {MyProc->lxid, GetCurrentSubTransactionId(), now->xmax, now->xcnt, now->subxcnt, now->curcid};
     char *other;
 
-    need_open();
     if (checked.transaction == seen.transaction && checked.inside == seen.inside && checked.end == seen.end &&
         checked.running == seen.running && checked.running_inside == seen.running_inside && checked.commands == seen.commands)
-        return;
+        return NULL;
     other = other_fingerprint(function, now);
+    if (!other)
+        checked = seen;
+    return other;
+}
+
+void need_files(Oid function)
+{
+    char *other;
+
+    need_open();
+    other = found_other(function);
     if (other)
         ereport(ERROR, (errcode(ERRCODE_OBJECT_NOT_IN_PREREQUISITE_STATE),
                         errmsg("uca: the server has other files or settings than those by which this database's keys were made"),
                         errdetail("The database's fingerprint is %s. The server's is %s.", other, present.fingerprint),
                         errhint("Give the server the old files and settings. Or call uca_use_files(), and make all stored keys and "
                                 "indexes on keys again.")));
-    checked = seen;
+}
+
+bool has_its_files(Oid function)
+{
+    return present.collator.is_open && GetDatabaseEncoding() == PG_UTF8 && !found_other(function);
+}
+
+uca_collator *present_collator(void)
+{
+    return &present.collator;
+}
+
+bool has_present_book(void)
+{
+    return present.has_book;
 }
 
 /* An argument that is a fingerprint, and not NULL. */

@@ -27,6 +27,7 @@ TESTS = {
     "books": [],
     "tool_errors": [],
     "bindings": [],
+    "postgresql_texts": [],
     "page_heap": [],
     "page": [],
     "other_languages": [],

@@ -1,0 +1,34 @@
+/* What both parts of the extension share: uca_postgresql.c has the files, the settings and the keys, and uca_text.c the order of texts. */
+#ifndef UCA_POSTGRESQL_H
+#define UCA_POSTGRESQL_H
+
+#include "postgres.h"
+
+#include "fmgr.h"
+
+#include "uca.h"
+
+/* A text with more bytes has more than 1,048,576 code points, since each has four at most. So it is too long. */
+#define MOST_TEXT (4 * 1048576)
+
+/* Not for other extensions of the same server. */
+#pragma GCC visibility push(hidden)
+
+/* What keys are made and texts are ordered by, for as long as the server runs. It is closed if the server has no files. */
+extern uca_collator *present_collator(void);
+
+/* Whether keys are compact. */
+extern bool has_present_book(void);
+
+/* The database of this process has to be for the server's files and settings. The function is one of the extension in this database. */
+extern void need_files(Oid function);
+
+/* Whether it is. */
+extern bool has_its_files(Oid function);
+
+/* Prepares sorting, and begins to look at the indexes of each table that is planned. The files have been read. */
+extern void start_texts(void);
+
+#pragma GCC visibility pop
+
+#endif
