@@ -10,7 +10,7 @@ use uca_lookups::{
     write_same_compact_letters_range, write_same_compact_levels_range, write_same_letters_range,
     write_same_levels_range,
 };
-use uca_weights::{Depth, Settings, Weighting};
+use uca_weights::{Depth, Numbers, Settings, Weighting};
 
 /// The levels 1C47 1C60, 0020 0020 and 0002 0002.
 const KEY: &[u8] = &[
@@ -139,6 +139,7 @@ fn three_compact_levels(rt: HostRuntime) -> Result<(), Fail> {
     let settings = Settings {
         weighting: Weighting::NonIgnorable,
         depth: Depth::Weights,
+        numbers: Numbers::AsText,
     };
     let rows = [
         Row {
@@ -186,6 +187,7 @@ fn four_compact_levels(rt: HostRuntime) -> Result<(), Fail> {
     let settings = Settings {
         weighting: Weighting::Shifted,
         depth: Depth::Identical,
+        numbers: Numbers::AsText,
     };
     // each key has an identical level of one code point
     let acute = &[

@@ -3,6 +3,7 @@ use Rattle.std.specs.Prelude.{◌≡◌, ◌⊎◌, ℕ, ◌+◌, ◌^◌, ◌<�
 use Rattle.std.specs.List.{flat_map}
 use Rattle.std.specs.Io.KnownBytes.{Appends}
 use Rattle.uca_weights.specs.declared.Depth.{Depth}
+use Rattle.uca_weights.specs.declared.Numbers.TheVariants.{AsText}
 use Rattle.uca_weights.specs.declared.Settings.{Settings}
 use Rattle.uca_weights.specs.declared.Weighting.{Weighting}
 use Rattle.uca_weights.specs.Streams.{SourceState, SinkState}
@@ -88,11 +89,11 @@ ChangesByBook becomes headers none olds news input input_new out out_new result 
 -- A run that compacts the keys of lines by a book. `OtherKey` is its error at a key that is none of this weighting and
 -- depth.
 abbrev pub CompactsLines : {A : Type 0} → Weighting → Depth → List SourceState → List SourceState → SourceState → SourceState → SinkState → SinkState → Result A RunFault → Type 0
-CompactsLines weighting depth = ChangesByBook (compacts (record { weighting = weighting; depth = depth })) None kinds.OtherKey
+CompactsLines weighting depth = ChangesByBook (compacts (record { weighting = weighting; depth = depth; numbers = AsText })) None kinds.OtherKey
 
 -- A run that expands the compact keys of lines. `NoCompactKey` is its error at bytes that no key has.
 abbrev pub ExpandsLines : {A : Type 0} → Weighting → Depth → List SourceState → List SourceState → SourceState → SourceState → SinkState → SinkState → Result A RunFault → Type 0
-ExpandsLines weighting depth = ChangesByBook (expands (record { weighting = weighting; depth = depth })) None kinds.NoCompactKey
+ExpandsLines weighting depth = ChangesByBook (expands (record { weighting = weighting; depth = depth; numbers = AsText })) None kinds.NoCompactKey
 
 -- ---- Compact keys after a header
 
@@ -107,9 +108,11 @@ from_compact settings from to = record { old = compact_header settings from; new
 -- A run that compacts the keys of the lines after a header.
 abbrev pub CompactsHeaded : {A : Type 0} → Weighting → Depth → List ℕ → List ℕ → List SourceState → List SourceState → SourceState → SourceState → SinkState → SinkState → Result A RunFault → Type 0
 CompactsHeaded weighting depth from to =
-    ChangesByBook (compacts (record { weighting = weighting; depth = depth })) (Some (to_compact (record { weighting = weighting; depth = depth }) from to)) kinds.OtherKey
+    let settings : Settings = record { weighting = weighting; depth = depth; numbers = AsText } in
+    ChangesByBook (compacts settings) (Some (to_compact settings from to)) kinds.OtherKey
 
 -- A run that expands the compact keys of the lines after a header.
 abbrev pub ExpandsHeaded : {A : Type 0} → Weighting → Depth → List ℕ → List ℕ → List SourceState → List SourceState → SourceState → SourceState → SinkState → SinkState → Result A RunFault → Type 0
 ExpandsHeaded weighting depth from to =
-    ChangesByBook (expands (record { weighting = weighting; depth = depth })) (Some (from_compact (record { weighting = weighting; depth = depth }) from to)) kinds.NoCompactKey
+    let settings : Settings = record { weighting = weighting; depth = depth; numbers = AsText } in
+    ChangesByBook (expands settings) (Some (from_compact settings from to)) kinds.NoCompactKey

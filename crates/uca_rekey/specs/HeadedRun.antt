@@ -3,6 +3,7 @@ use Rattle.std.specs.Prelude.{◌≡◌, ◌≢◌, ◌⊎◌, ℕ, List, [], �
 use Rattle.std.specs.List.{flat_map}
 use Rattle.std.specs.Io.KnownBytes.{Appends}
 use Rattle.uca_weights.specs.declared.Depth.{Depth}
+use Rattle.uca_weights.specs.declared.Numbers.TheVariants.{AsText}
 use Rattle.uca_weights.specs.declared.Settings.{Settings}
 use Rattle.uca_weights.specs.declared.Weighting.{Weighting}
 use Rattle.uca_weights.specs.Streams.{SourceState, SinkState}
@@ -62,4 +63,4 @@ RunsHeaded settings from to input input_new out out_new result certificate =
 -- A run that rekeys the lines after a header. The old and the new header have the fingerprints `from` and `to`.
 abbrev pub RekeysHeaded : {A : Type 0} → Weighting → Depth → List ℕ → List ℕ → List SourceState → List SourceState → SourceState → SourceState → SinkState → SinkState → Result A RunFault → Type 0
 RekeysHeaded weighting depth from to olds news input input_new out out_new result =
-    PrintsEach certificate_file (roles.Certificate ∷ []) (RunsHeaded (record { weighting = weighting; depth = depth }) from to input input_new out out_new result) olds news input input_new out out_new result
+    PrintsEach certificate_file (roles.Certificate ∷ []) (RunsHeaded (record { weighting = weighting; depth = depth; numbers = AsText }) from to input input_new out out_new result) olds news input input_new out out_new result

@@ -4,6 +4,7 @@ use Rattle.std.specs.List.{flat_map}
 use Rattle.std.specs.Prelude.{None}
 use Rattle.std.specs.Io.KnownBytes.{Appends}
 use Rattle.uca_weights.specs.declared.Depth.{Depth}
+use Rattle.uca_weights.specs.declared.Numbers.TheVariants.{AsText}
 use Rattle.uca_weights.specs.declared.Settings.{Settings}
 use Rattle.uca_weights.specs.declared.Weighting.{Weighting}
 use Rattle.uca_weights.specs.Streams.{SourceState, SinkState}
@@ -88,4 +89,4 @@ RunsRekey settings input input_new out out_new result certificate =
 -- A run that rekeys lines.
 abbrev pub RekeysLines : {A : Type 0} → Weighting → Depth → List SourceState → List SourceState → SourceState → SourceState → SinkState → SinkState → Result A RunFault → Type 0
 RekeysLines weighting depth olds news input input_new out out_new result =
-    PrintsEach certificate_file (roles.Certificate ∷ []) (RunsRekey (record { weighting = weighting; depth = depth }) input input_new out out_new result) olds news input input_new out out_new result
+    PrintsEach certificate_file (roles.Certificate ∷ []) (RunsRekey (record { weighting = weighting; depth = depth; numbers = AsText }) input input_new out out_new result) olds news input input_new out out_new result

@@ -2,6 +2,7 @@
 -- none.
 use Rattle.std.specs.Prelude.{ℕ, List, [], ◌∷◌, ◌++◌, Some, None, codes}
 use Rattle.uca_weights.specs.declared.Depth.TheVariants.{Weights}
+use Rattle.uca_weights.specs.declared.Numbers.TheVariants.{AsText}
 use Rattle.uca_weights.specs.declared.Settings.{Settings}
 use Rattle.uca_weights.specs.declared.Weighting.TheVariants.{NonIgnorable}
 use Rattle.uca_compact.specs.WorkedKeys.{small_book}
@@ -10,7 +11,7 @@ use Rattle.uca_rekey.specs.ChangedLines.{LineBecomes, LinesBecomeAfter, compacts
 use Rattle.uca_rekey.specs.ChangeRun.{IsChangeCause}
 
 abbrev pub three_levels : Settings
-three_levels = record { weighting = NonIgnorable; depth = Weights }
+three_levels = record { weighting = NonIgnorable; depth = Weights; numbers = AsText }
 
 -- the key of a line, a tab and `a b`
 abbrev pub with_text : List ℕ → List ℕ

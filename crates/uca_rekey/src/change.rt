@@ -22,7 +22,7 @@ use std::io::{Read, Write};
 use uca_compact::{KeyCompacter, KeyExpander};
 use uca_fingerprint::KeyHeader;
 use uca_run_parts::{RunFault, StoredKeyKind, read_book_file};
-use uca_weights::{Depth, Settings, Sink, Source, Weighting};
+use uca_weights::{Depth, Numbers, Settings, Sink, Source, Weighting};
 
 // Changes the keys of the lines of an input, and writes the new lines.
 fn run_changes<A: Allocator + Copy, C: ChangesKeys, I: Read, W: Write>(
@@ -117,7 +117,11 @@ pub fn run_compact<A: Allocator + Copy, B: Read, I: Read, W: Write>(
 ) -> Result<(), RunFault>
     ensures { CompactsLines weighting depth (book.old ∷ []) (book.new ∷ []) input.old input.new out.old out.new result }
 {
-    let settings = Settings { weighting, depth };
+    let settings = Settings {
+        weighting,
+        depth,
+        numbers: Numbers::AsText,
+    };
     compact_by_book(alloc, book, input, out, settings, None)
 }
 
@@ -141,7 +145,11 @@ pub fn run_headed_compact<A: Allocator + Copy, B: Read, I: Read, W: Write>(
 ) -> Result<(), RunFault>
     ensures { CompactsHeaded weighting depth from.now to.now (book.old ∷ []) (book.new ∷ []) input.old input.new out.old out.new result }
 {
-    let settings = Settings { weighting, depth };
+    let settings = Settings {
+        weighting,
+        depth,
+        numbers: Numbers::AsText,
+    };
     let old_header = KeyHeader::new(settings, from);
     let new_header = KeyHeader::compact(settings, to);
     compact_by_book(
@@ -174,7 +182,11 @@ pub fn run_expand<A: Allocator + Copy, B: Read, I: Read, W: Write>(
 ) -> Result<(), RunFault>
     ensures { ExpandsLines weighting depth (book.old ∷ []) (book.new ∷ []) input.old input.new out.old out.new result }
 {
-    let settings = Settings { weighting, depth };
+    let settings = Settings {
+        weighting,
+        depth,
+        numbers: Numbers::AsText,
+    };
     expand_by_book(alloc, book, input, out, settings, None)
 }
 
@@ -197,7 +209,11 @@ pub fn run_headed_expand<A: Allocator + Copy, B: Read, I: Read, W: Write>(
 ) -> Result<(), RunFault>
     ensures { ExpandsHeaded weighting depth from.now to.now (book.old ∷ []) (book.new ∷ []) input.old input.new out.old out.new result }
 {
-    let settings = Settings { weighting, depth };
+    let settings = Settings {
+        weighting,
+        depth,
+        numbers: Numbers::AsText,
+    };
     let old_header = KeyHeader::compact(settings, from);
     let new_header = KeyHeader::new(settings, to);
     expand_by_book(

@@ -18,7 +18,7 @@ use uca_certificates::Certificate;
 use uca_fingerprint::KeyHeader;
 use uca_images::KeyMover;
 use uca_run_parts::{Role, RunFault, read_certificate_file};
-use uca_weights::{Depth, Settings, Sink, Source, Weighting};
+use uca_weights::{Depth, Numbers, Settings, Sink, Source, Weighting};
 
 // The maps of the certificate, the lines of the input, and those that were written.
 #[derive(Drop)]
@@ -188,7 +188,11 @@ pub fn run_rekey<A: Allocator + Copy, C: Read, I: Read, W: Write>(
 ) -> Result<(), RunFault>
     ensures { RekeysLines weighting depth (certificate.old ∷ []) (certificate.new ∷ []) input.old input.new out.old out.new result }
 {
-    let settings = Settings { weighting, depth };
+    let settings = Settings {
+        weighting,
+        depth,
+        numbers: Numbers::AsText,
+    };
     match begin(alloc, certificate, settings) {
         Ok(mut run) => {
             let end = run.rekey_rest(input, out);
@@ -219,7 +223,11 @@ pub fn run_headed_rekey<A: Allocator + Copy, C: Read, I: Read, W: Write>(
 ) -> Result<(), RunFault>
     ensures { RekeysHeaded weighting depth from.now to.now (certificate.old ∷ []) (certificate.new ∷ []) input.old input.new out.old out.new result }
 {
-    let settings = Settings { weighting, depth };
+    let settings = Settings {
+        weighting,
+        depth,
+        numbers: Numbers::AsText,
+    };
     match begin(alloc, certificate, settings) {
         Ok(mut run) => {
             let old_header = KeyHeader::new(settings, from);

@@ -6,7 +6,7 @@ use Rattle.uca_weights.specs.declared.Settings.{Settings}
 use Rattle.uca_weights.specs.declared.Weighting.{Weighting}
 use Rattle.uca_values.specs.Content.{DataContent, properties_of}
 use Rattle.uca_text.specs.Texts.{nfd_text}
-use Rattle.uca_order.specs.Keyings.{Keying, keying, key_of_bytes}
+use Rattle.uca_order.specs.Keyings.{as_text, Keying, keying, key_of_bytes}
 use Rattle.uca_certificates.specs.Certificates.{CertificateContent}
 use Rattle.uca_tailorings.specs.Inputs.{maps_of}
 use Rattle.uca_tailorings.specs.Moves.{moved_key}
@@ -48,10 +48,10 @@ rekeyed_in upgrade key = moved_key (maps_of upgrade.certificate) upgrade.setting
 
 -- what keys go by under the old table and its data file, and under the new ones
 abbrev pub old_keying : Change → Option Weighting → Depth → Keying
-old_keying change asked depth = keying asked depth change.old change.old_properties
+old_keying change asked depth = keying (as_text asked depth) change.old change.old_properties
 
 abbrev pub new_keying : Change → Option Weighting → Depth → Keying
-new_keying change asked depth = keying asked depth change.new change.new_properties
+new_keying change asked depth = keying (as_text asked depth) change.new change.new_properties
 
 -- What is true of stored keys by an upgrade from the old edition of a change to its new one.
 pub record KeysAreRenewed (change : Change) (asked : Option Weighting) (depth : Depth) (upgrade : UpgradeState) : Type 0 where

@@ -1,6 +1,7 @@
 //! Which texts an upgrade affects, and the keys of all others.
 
 ghost use Rattle.std.specs.Prelude.{◌≡◌, IfOk, IfErr, OnOk, OnErr, Some, None, false, if◌then◌else◌};
+ghost use Rattle.uca_weights.specs.declared.Numbers.TheVariants.{AsText};
 ghost use Rattle.uca_values.specs.Content.{properties_of};
 ghost use Rattle.uca_owned.specs.Causes.{IsAcceptedText, IsKeyCause};
 ghost use Rattle.uca_upgrade.specs.Upgrades.{is_affected_in, rekeyed_in};
@@ -20,8 +21,8 @@ impl OwnedUpgrade {
     /// is no key of such a text.
     pub fn affected(&mut self, text: &[u8]) -> Result<bool, KeyFault>
         ensures affected { IfOk result (λ affected. affected ≡ is_affected_in self.old text.now) }
-        ensures accepted { OnOk result (IsAcceptedText (properties_of self.old.data_file) text.now) }
-        ensures fault { IfErr result (IsKeyCause (properties_of self.old.data_file) text.now) }
+        ensures accepted { OnOk result (IsAcceptedText AsText (properties_of self.old.data_file) text.now) }
+        ensures fault { IfErr result (IsKeyCause AsText (properties_of self.old.data_file) text.now) }
         ensures upgrade { self.new ≡ self.old }
     {
         let Ok(text) = str::from_utf8(text) else {

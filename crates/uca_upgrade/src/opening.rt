@@ -2,7 +2,7 @@
 
 ghost use Rattle.std.specs.Prelude.{◌≡◌, IfOk, IfErr, MatchResult};
 ghost use Rattle.uca_changes.specs.Changes.{Change};
-ghost use Rattle.uca_order.specs.Keyings.{settings_by};
+ghost use Rattle.uca_order.specs.Keyings.{as_text, settings_by};
 ghost use Rattle.uca_upgrade.specs.Causes.{IsUpgradeCause, IsUpgradeStop};
 ghost use Rattle.uca_upgrade.specs.Files.{MeanChange};
 ghost use Rattle.uca_upgrade.specs.Opening.{IsUpgradeOf, OpensUpgrade};
@@ -20,7 +20,7 @@ use uca_fingerprint::fingerprint;
 use uca_images::KeyMover;
 use uca_text::Normal;
 use uca_values::Header;
-use uca_weights::{Depth, Settings, Weighting};
+use uca_weights::{Depth, Numbers, Settings, Weighting};
 
 impl OwnedUpgrade {
     /// Reads the six files from their bytes, audits the change that they mean, and keeps what an upgrade of stored keys
@@ -120,10 +120,11 @@ fn kept(
 
 // The settings of keys under a table: the weighting that was asked for, or else that of the table, or else shifted.
 fn settings_under(asked: Option<Weighting>, header: &Header, depth: Depth) -> Settings
-    ensures { result ≡ settings_by asked header.now.setting depth }
+    ensures { result ≡ settings_by (as_text asked depth) header.now.setting }
 {
     Settings {
         weighting: asked.or(header.setting).unwrap_or(Weighting::Shifted),
         depth,
+        numbers: Numbers::AsText,
     }
 }

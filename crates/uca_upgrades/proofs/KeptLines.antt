@@ -20,7 +20,7 @@ use Rattle.uca_rekey.specs.Laws.{AreBytes, LinesMove}
 use Rattle.uca_rekey.specs.RekeyedLines.{rekeyed}
 use Rattle.uca_rekey.proofs.MovedLines.{lines_move}
 use Rattle.uca_elements.specs.Collations.{collation_under}
-use Rattle.uca_order.specs.Keyings.{Keying, keying}
+use Rattle.uca_order.specs.Keyings.{as_text, Keying, keying}
 use Rattle.uca_key_runs.specs.Keys.{keyed_line, printed_key}
 use Rattle.uca_key_runs.proofs.NormalLines.{normal_line}
 use Rattle.uca_upgrades.specs.Upgrades.{Upgrade, AreUnaffectedLines, IsRekeyed, IsStoredLineKey, IsUnaffectedLine, KeepsOrder, new_key, new_keying, new_weighting, old_key, old_keying, stored_weighting}
@@ -46,7 +46,7 @@ KeepsWeighting upgrade = (asked : Option Weighting) → new_weighting upgrade as
 
 -- what keys go by under some files, by this weighting
 abbrev keying_under : TableAndData → Depth → Weighting → Keying
-keying_under files depth weighting = keying (Some weighting) depth files.table files.properties
+keying_under files depth weighting = keying (as_text (Some weighting) depth) files.table files.properties
 
 module _ (upgrade : Upgrade) (is : IsTable upgrade.old.table) (moves : Moves upgrade) (keeps : KeepsWeighting upgrade) (asked : Option Weighting)
     (depth : Depth) where

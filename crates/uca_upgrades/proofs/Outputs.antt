@@ -7,10 +7,8 @@ use Rattle.uca_weights.specs.declared.Depth.TheVariants.{Weights, Identical}
 use Rattle.uca_lines.specs.Lines.{Lacks, ended, is_lf, lines_of}
 use Rattle.uca_lines.specs.Numbers.{upper_digit}
 use Rattle.uca_lines.proofs.LineLemmas.{Lacks-append}
-use Rattle.uca_text.specs.Texts.{nfd_text}
-use Rattle.uca_elements.specs.Collations.{elements_of}
 use Rattle.uca_order.specs.Levels.{key_bytes}
-use Rattle.uca_order.specs.Depths.{point_bytes}
+use Rattle.uca_order.specs.Depths.{point_bytes, read_points}
 use Rattle.uca_run_parts.specs.Print.{byte_digits, groups, printed_after, printed_groups, spaced_point}
 use Rattle.uca_run_parts.proofs.LineCuts.{lines_of-ended}
 use Rattle.uca_rekey.specs.RekeyRun.{AreRekeyed}
@@ -104,8 +102,8 @@ output_rekeyed moved old_bytes old new_bytes new old_prints new_prints lines lac
 -- the line of output of a line, without its LF: its key alone, or before it
 pub printed_body : Keying → List ℕ → List ℕ
 printed_body c line =
-    let text = nfd_text c.collation.properties (chars line) in
-    printed_groups (key_bytes c.settings.weighting (elements_of c.collation text)) ++ printed_after c.settings.depth text.points
+    let text = read_points c.collation c.settings.numbers (chars line) in
+    printed_groups (key_bytes c.settings.weighting text.elements) ++ printed_after c.settings.depth text.points
 
 pub keyed_body : Keying → List ℕ → List ℕ
 keyed_body c line = flat_map byte_digits (key_of_bytes c line) ++ 9 ∷ line
@@ -113,8 +111,8 @@ keyed_body c line = flat_map byte_digits (key_of_bytes c line) ++ 9 ∷ line
 pub printed_is : (c : Keying) → Prints (printed_key c) (printed_body c)
 unfolding printed_body
 printed_is c line =
-    let text = nfd_text c.collation.properties (chars line) in
-    sym (append_assoc (printed_groups (key_bytes c.settings.weighting (elements_of c.collation text))) (printed_after c.settings.depth text.points) (10 ∷ []))
+    let text = read_points c.collation c.settings.numbers (chars line) in
+    sym (append_assoc (printed_groups (key_bytes c.settings.weighting text.elements)) (printed_after c.settings.depth text.points) (10 ∷ []))
 
 pub keyed_is : (c : Keying) → Prints (keyed_line c) (keyed_body c)
 unfolding keyed_body
@@ -123,8 +121,8 @@ keyed_is c line = sym (append_assoc (flat_map byte_digits (key_of_bytes c line))
 pub printed_body_lacks : (c : Keying) (line : List ℕ) → Lacks is_lf (printed_body c line)
 unfolding printed_body
 printed_body_lacks c line =
-    let text = nfd_text c.collation.properties (chars line) in
-    printed_lacks c.settings.depth (key_bytes c.settings.weighting (elements_of c.collation text)) text.points
+    let text = read_points c.collation c.settings.numbers (chars line) in
+    printed_lacks c.settings.depth (key_bytes c.settings.weighting text.elements) text.points
 
 pub keyed_body_lacks : (c : Keying) (line : List ℕ) → Lacks is_lf line → Lacks is_lf (keyed_body c line)
 unfolding keyed_body

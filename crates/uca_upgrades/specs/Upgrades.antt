@@ -15,7 +15,7 @@ use Rattle.uca_tailorings.specs.Images.{Maps, AreImages}
 use Rattle.uca_tailorings.specs.Moves.{moved_key}
 use Rattle.uca_tailorings.specs.Tailorings.{Tailoring}
 use Rattle.uca_changes.specs.Changes.{Change}
-use Rattle.uca_order.specs.Keyings.{weighting_by, Keying, keying, key_of_bytes, bytes_compared}
+use Rattle.uca_order.specs.Keyings.{as_text, weighting_by, Keying, keying, key_of_bytes, bytes_compared}
 use Rattle.uca_run_parts.specs.AffectedRun.{is_affected, line_if}
 use Rattle.uca_run_parts.specs.Files.{TableAndData, table_with}
 use Rattle.uca_run_parts.specs.Input.{cause_of}
@@ -56,10 +56,10 @@ tailoring_upgrade tailoring = record {
 -- What keys go by under the old files, and under the new ones. Both runs are asked for this weighting, or for none: then each goes
 -- by what its table says, or else shifted.
 abbrev pub old_keying : Upgrade → Option Weighting → Depth → Keying
-old_keying upgrade asked depth = keying asked depth upgrade.old.table upgrade.old.properties
+old_keying upgrade asked depth = keying (as_text asked depth) upgrade.old.table upgrade.old.properties
 
 abbrev pub new_keying : Upgrade → Option Weighting → Depth → Keying
-new_keying upgrade asked depth = keying asked depth upgrade.new.table upgrade.new.properties
+new_keying upgrade asked depth = keying (as_text asked depth) upgrade.new.table upgrade.new.properties
 
 -- the weighting that the keys of a store were made by under the old files, and that of new keys
 abbrev pub stored_weighting : Upgrade → Option Weighting → Weighting

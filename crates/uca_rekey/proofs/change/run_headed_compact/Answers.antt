@@ -1,5 +1,6 @@
 -- The headers are those of the settings and the two fingerprints.
 use Rattle.std.proofs.Common.{[], ◌∷◌, ℕ, List, Some, subst₂}
+use Rattle.uca_weights.specs.declared.Numbers.TheVariants.{AsText}
 use Rattle.uca_weights.specs.declared.Settings.{Settings}
 use Rattle.uca_run_parts.specs.declared.faults.StoredKeyKind.TheVariants.{OtherKey}
 use Rattle.uca_rekey.specs.ChangedLines.{compacts}
@@ -9,7 +10,7 @@ use Rattle.uca_rekey.proofs.change.run_headed_compact.Goals as goal
 
 pub returns : goal.returns
 returns g c =
-    let settings : Settings = record { weighting = c.args.weighting; depth = c.args.depth } in
+    let settings : Settings = record { weighting = c.args.weighting; depth = c.args.depth; numbers = AsText } in
     let ends = c.compact_by_book in
     subst₂ (λ (old new : List ℕ). ChangesByBook (compacts settings) (Some (header_pair old new)) OtherKey (c.args.book.now ∷ []) (ends.new.book ∷ []) c.args.input.now ends.new.input
     c.args.out.now ends.new.out ends.result) c.new-old_header.ensures.line c.compact-new_header.ensures.line ends.ensures

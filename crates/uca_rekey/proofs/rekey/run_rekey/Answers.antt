@@ -1,6 +1,7 @@
 -- The whole run, from what its certificate means and what is written of its lines.
 use Rattle.std.specs.Prelude.{⊤}
 use Rattle.std.proofs.Common.{◌≡◌, ◌||◌, [], ◌∷◌, Err, sym, subst}
+use Rattle.uca_weights.specs.declared.Numbers.TheVariants.{AsText}
 use Rattle.uca_weights.specs.declared.Settings.{Settings}
 use Rattle.uca_run_parts.specs.ReadFiles.{certificate_file}
 use Rattle.uca_run_parts.specs.declared.faults.Role.TheVariants as roles
@@ -15,7 +16,7 @@ use Rattle.uca_rekey.proofs.rekey.run_rekey.Goals as goal
 pub returns-in-Ok : goal.returns-in-Ok
 returns-in-Ok g c =
     let run = c.in-Ok.run' in
-    let settings : Settings = record { weighting = c.args.weighting; depth = c.args.depth } in
+    let settings : Settings = record { weighting = c.args.weighting; depth = c.args.depth; numbers = AsText } in
     let input = c.args.input.now in
     let out = c.args.out.now in
     let input_new = c.rekey_rest-end.new.input in
@@ -39,7 +40,7 @@ returns-in-Ok g c =
 
 pub returns-in-Err : goal.returns-in-Err
 returns-in-Err g c =
-    let settings : Settings = record { weighting = c.args.weighting; depth = c.args.depth } in
+    let settings : Settings = record { weighting = c.args.weighting; depth = c.args.depth; numbers = AsText } in
     let fault = c.in-Err.fault in
     let input = c.args.input.now in
     let out = c.args.out.now in
