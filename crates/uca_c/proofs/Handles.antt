@@ -7,6 +7,7 @@ use mir.Raw.{raw as bare}
 use mir.Syntax.{w64}
 use Rattle.uca_weights.specs.declared.Weighting.TheVariants.{Shifted}
 use Rattle.uca_weights.specs.declared.Depth.TheVariants.{Weights}
+use Rattle.uca_weights.specs.declared.Numbers.TheVariants.{AsText}
 use mir.Val.{Val, vptr, vbool, vint, vstruct, vcons, vnil, of_list}
 use base.Logic.{never, fst∗}
 use types.Logic.{Logic, sem}
@@ -61,7 +62,7 @@ nobody = record {
     lookup = record { keys = record { root = record { pages = []; numbers = [] }; nodes = [] }; rows = [] };
     ranges = [];
     data_file = record { classes = []; core = []; other = [] };
-    settings = record { weighting = Shifted; depth = Weights };
+    settings = record { weighting = Shifted; depth = Weights; numbers = AsText };
     key = [];
   };
   book = None;

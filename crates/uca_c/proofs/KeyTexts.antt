@@ -3,12 +3,11 @@ use Rattle.std.proofs.Common.{◌≡◌, ◌∙◌, ℕ, List, Option, Some, opt
 use Rattle.std.specs.Prelude.{◌⊎◌, IfSome}
 use Rattle.std.specs.Str.{IsUtf8}
 use Rattle.uca_weights.specs.declared.Settings.{Settings}
-use Rattle.uca_values.specs.Content.{Properties}
 use Rattle.uca_text.specs.declared.normalize.TextFault.TheVariants.{Memory}
-use Rattle.uca_order.specs.Keyings.{key_of_bytes}
+use Rattle.uca_order.specs.Keyings.{Keying, key_of_bytes}
 use Rattle.uca_compact.specs.CompactKeys.{compact_key, text_parts}
 use Rattle.uca_compact.specs.Programs.{CompacterState}
-use Rattle.uca_owned.specs.Causes.{IsAcceptedText}
+use Rattle.uca_owned.specs.Causes.{IsAcceptedBy}
 use Rattle.uca_owned.specs.Owned.{OwnedState, keying_in}
 use Rattle.uca_owned.specs.declared.faults.KeyFault.TheVariants.{Text}
 use Rattle.uca_c.specs.declared.statuses.TheConstants.{OK, SMALL, MEMORY}
@@ -39,8 +38,8 @@ compact_by c o m text is has =
     ∙ ap (λ (it : Option CompacterState). key_by (keying_in c) (option_map (λ m. m.book) it) text) (sym is)
 
 -- the status of an accepted text
-pub key_status_by : (properties : Properties) (text : List ℕ) (status : ℕ) → IsAcceptedText properties text
-    → (status ≡ OK) ⊎ (status ≡ SMALL) ⊎ (status ≡ MEMORY) → IsKeyStatus properties text status
-key_status_by properties text status accepted (inl ok) = inl (accepted, inl ok)
-key_status_by properties text status accepted (inr (inl small)) = inl (accepted, inr small)
-key_status_by properties text status accepted (inr (inr memory)) = inr (record { fault = Text Memory; cause = (accepted.utf8, tt); same = memory })
+pub key_status_by : (k : Keying) (text : List ℕ) (status : ℕ) → IsAcceptedBy k text
+    → (status ≡ OK) ⊎ (status ≡ SMALL) ⊎ (status ≡ MEMORY) → IsKeyStatus k text status
+key_status_by k text status accepted (inl ok) = inl (accepted, inl ok)
+key_status_by k text status accepted (inr (inl small)) = inl (accepted, inr small)
+key_status_by k text status accepted (inr (inr memory)) = inr (record { fault = Text Memory; cause = (accepted.utf8, tt); same = memory })

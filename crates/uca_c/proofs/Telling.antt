@@ -2,7 +2,7 @@
 use Rattle.std.proofs.Common.{◌≡◌, ◌∙◌, ℕ, List, Option, Some, ap, inl, inr, refl}
 use Rattle.uca_weights.specs.declared.Depth.{Depth}
 use Rattle.uca_weights.specs.declared.Weighting.{Weighting}
-use Rattle.uca_order.specs.Keyings.{keying}
+use Rattle.uca_order.specs.Keyings.{as_text, keying}
 use Rattle.uca_owned.specs.declared.faults.OpenFault.{OpenFault}
 use Rattle.uca_owned.specs.declared.faults.OpenFault.TheVariants as faults
 use Rattle.uca_owned.specs.Opening.{IsOpenCause, IsOpenStop}
@@ -27,7 +27,7 @@ told_cause weighting depth asked at table_bytes data_bytes faults.Memory line ki
     inr (inr (inr (
       told.2,
       (
-        keying asked at cause.0 cause.1,
+        keying (as_text asked at) cause.0 cause.1,
         record {
           asked = asked;
           at = at;

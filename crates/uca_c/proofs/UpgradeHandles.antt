@@ -6,6 +6,7 @@ use mir.Raw.{raw as bare}
 use mir.Syntax.{w64}
 use Rattle.uca_weights.specs.declared.Weighting.TheVariants.{Shifted}
 use Rattle.uca_weights.specs.declared.Depth.TheVariants.{Weights}
+use Rattle.uca_weights.specs.declared.Numbers.TheVariants.{AsText}
 use mir.Val.{Val, vptr, vbool, vint, vstruct, of_list}
 use base.Logic.{never, fst∗}
 use types.Logic.{Logic, sem}
@@ -56,7 +57,7 @@ abbrev pub nobody : X U
 nobody = record {
   list = record { texts = []; ranges = [] };
   certificate = record { primary = []; secondary = []; tertiary = [] };
-  settings = record { weighting = Shifted; depth = Weights };
+  settings = record { weighting = Shifted; depth = Weights; numbers = AsText };
   data_file = record { classes = []; core = []; other = [] };
   old_fingerprint = [];
   new_fingerprint = [];

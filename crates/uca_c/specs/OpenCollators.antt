@@ -1,7 +1,6 @@
 -- What an open collator of C's keys texts by, and the keys of texts by it.
 use Rattle.std.specs.Prelude.{ℕ, List, Option, Some, None, chars}
-use Rattle.uca_text.specs.Texts.{nfd_text}
-use Rattle.uca_order.specs.Depths.{ReadText, read_text}
+use Rattle.uca_order.specs.Depths.{ReadText, read_points}
 use Rattle.uca_order.specs.Keyings.{Keying, key_of_bytes}
 use Rattle.uca_books.specs.Books.{BookContent}
 use Rattle.uca_compact.specs.CompactKeys.{KeyParts, text_parts, compact_key}
@@ -18,7 +17,7 @@ keying_at c = keying_in c.collator
 
 -- what a text that is given as bytes of UTF-8 is keyed by
 abbrev pub text_of : Keying → List ℕ → ReadText
-text_of k bytes = read_text k.collation (nfd_text k.collation.properties (chars bytes))
+text_of k bytes = read_points k.collation k.settings.numbers (chars bytes)
 
 -- its levels, and its code points where the depth has them
 abbrev pub parts_of : Keying → List ℕ → KeyParts

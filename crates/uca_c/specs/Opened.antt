@@ -5,7 +5,7 @@ use Rattle.uca_weights.specs.declared.Weighting.{Weighting}
 use Rattle.uca_values.specs.Content.{TableContent, Properties}
 use Rattle.uca_values.specs.declared.faults.FaultKind.TheVariants.{Read, Memory}
 use Rattle.uca_values.specs.declared.faults.TableFault.{TableFault}
-use Rattle.uca_order.specs.Keyings.{Keying}
+use Rattle.uca_order.specs.Keyings.{as_text, Keying}
 use Rattle.uca_books.specs.Books.{BookContent}
 use Rattle.uca_books.specs.BookTexts as books
 use Rattle.uca_owned.specs.Opening.{HasFingerprint, MeanFiles, Opens, IsOpenCause}
@@ -20,7 +20,7 @@ pub record OpensBy (weighting depth : ℕ) (table_bytes data_bytes : List ℕ) (
   pub at : Depth
   pub is_weighting : weighting_of weighting ≡ Some asked
   pub is_depth : depth_of depth ≡ Some at
-  pub opens : Opens asked at table_bytes data_bytes k
+  pub opens : Opens (as_text asked at) table_bytes data_bytes k
 
 -- the numbers ask for a weighting and a depth, and this is the fingerprint of what texts are keyed by
 pub record FingerprintsBy (weighting depth : ℕ) (table_bytes data_bytes sum : List ℕ) : Type 0 where
@@ -28,7 +28,7 @@ pub record FingerprintsBy (weighting depth : ℕ) (table_bytes data_bytes sum : 
   pub at : Depth
   pub is_weighting : weighting_of weighting ≡ Some asked
   pub is_depth : depth_of depth ≡ Some at
-  pub has : HasFingerprint asked at table_bytes data_bytes sum
+  pub has : HasFingerprint (as_text asked at) table_bytes data_bytes sum
 
 -- an error in a file, by its line and the number of its kind
 pub record IsFileError (Rejects : TableFault → Type 0) (at number : ℕ) : Type 0 where

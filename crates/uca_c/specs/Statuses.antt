@@ -1,8 +1,8 @@
 -- What the status of a call says of its texts.
 use Rattle.std.specs.Prelude.{◌≡◌, ◌⊎◌, ℕ, List}
-use Rattle.uca_values.specs.Content.{Properties}
 use Rattle.uca_text.specs.declared.normalize.TextFault.TheVariants.{TooLong, LongRun, Memory}
-use Rattle.uca_owned.specs.Causes.{IsAcceptedText, IsKeyCause, IsCompareCause}
+use Rattle.uca_order.specs.Keyings.{Keying}
+use Rattle.uca_owned.specs.Causes.{IsAcceptedBy, IsKeyCause, IsCompareCause}
 use Rattle.uca_owned.specs.declared.faults.KeyFault.{KeyFault}
 use Rattle.uca_owned.specs.declared.faults.KeyFault.TheVariants.{Utf8, Text}
 use Rattle.uca_owned.specs.declared.faults.CompareFault.{CompareFault}
@@ -26,11 +26,11 @@ pub record IsErrorStatus {F : Type 0} (IsCause : F → Type 0) (status_of : F �
   pub same : status ≡ status_of fault
 
 -- the text is accepted, and its key is written or has no room; or it is rejected
-abbrev pub IsKeyStatus : Properties → List ℕ → ℕ → Type 0
-IsKeyStatus properties text status = (IsAcceptedText properties text × ((status ≡ OK) ⊎ (status ≡ SMALL)))
-    ⊎ IsErrorStatus (IsKeyCause properties text) key_status status
+abbrev pub IsKeyStatus : Keying → List ℕ → ℕ → Type 0
+IsKeyStatus k text status = (IsAcceptedBy k text × ((status ≡ OK) ⊎ (status ≡ SMALL)))
+    ⊎ IsErrorStatus (IsKeyCause k.settings.numbers k.collation.properties text) key_status status
 
 -- both texts are accepted, or one is rejected
-abbrev pub IsCompareStatus : Properties → List ℕ → List ℕ → ℕ → Type 0
-IsCompareStatus properties left right status = (IsAcceptedText properties left × IsAcceptedText properties right × (status ≡ OK))
-    ⊎ IsErrorStatus (IsCompareCause properties left right) compare_status status
+abbrev pub IsCompareStatus : Keying → List ℕ → List ℕ → ℕ → Type 0
+IsCompareStatus k left right status = (IsAcceptedBy k left × IsAcceptedBy k right × (status ≡ OK))
+    ⊎ IsErrorStatus (IsCompareCause k.settings.numbers k.collation.properties left right) compare_status status

@@ -2,6 +2,7 @@
 use Rattle.std.specs.Borrow.{Bor}
 use Rattle.std.specs.Prelude.{◌≡◌, ◌⊎◌, ℕ, List, Option, Some, None}
 use Rattle.uca_weights.specs.declared.Depth.{Depth}
+use Rattle.uca_weights.specs.declared.Numbers.TheVariants.{AsText}
 use Rattle.uca_weights.specs.declared.Weighting.{Weighting}
 use Rattle.uca_values.specs.Content.{Properties}
 use Rattle.uca_changes.specs.Changes.{Change}
@@ -55,7 +56,7 @@ IsUpgradeOpenStatus weighting depth files error status =
 -- the text is accepted, or it is rejected
 abbrev pub IsTextStatus : Properties → List ℕ → ℕ → Type 0
 IsTextStatus properties text status =
-    (IsAcceptedText properties text × (status ≡ OK)) ⊎ IsErrorStatus (IsKeyCause properties text) key_status status
+    (IsAcceptedText AsText properties text × (status ≡ OK)) ⊎ IsErrorStatus (IsKeyCause AsText properties text) key_status status
 
 -- a key put through the maps of the upgrade is this one
 abbrev pub IsRekeyed : UpgradeState → (key made : List ℕ) → Type 0

@@ -5,7 +5,7 @@ ghost use Rattle.uca_weights.specs.declared.Depth.{Depth};
 ghost use Rattle.uca_weights.specs.declared.Weighting.{Weighting};
 ghost use Rattle.uca_values.specs.Content.{TableContent, Properties};
 ghost use Rattle.uca_fingerprint.specs.Fingerprints as fingerprints;
-ghost use Rattle.uca_order.specs.Keyings.{keying};
+ghost use Rattle.uca_order.specs.Keyings.{as_text, keying};
 ghost use Rattle.uca_books.specs.Books.{BookContent};
 ghost use Rattle.uca_books.specs.BookTexts as books;
 ghost use Rattle.uca_c.specs.CompactCalls.{HasCompactKey, IsNoCompactKey, IsOneTooSmall, WritesOne};
@@ -40,7 +40,7 @@ pub extern "C" fn uca_open_compact(
     ensures same { result ≢ OK → collator.new ≡ collator.old }
     ensures only { (asked : Option Weighting) (at : Depth) (meant : TableContent) (properties : Properties) (content : BookContent) →
         collator.old.full ≡ false → Asks weighting depth table.now data_file.now asked at meant properties → books.Means book.now content →
-        ((result ≡ OK) × (keying_at collator.new.handle.kept ≡ keying asked at meant properties) × (collator.new.handle.kept.book ≡ Some content))
+        ((result ≡ OK) × (keying_at collator.new.handle.kept ≡ keying (as_text asked at) meant properties) × (collator.new.handle.kept.book ≡ Some content))
         ⊎ IsCompactStopStatus result error.new.kind }
     ensures no_error { (result ≡ OK) ⊎ (result ≡ ALREADY_OPEN) → IsNoFileError error.new.line error.new.kind }
     ensures rejected { result ≢ OK → result ≢ ALREADY_OPEN →
@@ -136,7 +136,7 @@ pub extern "C" fn uca_range(
     ensures argument { collator.old.full ≡ true → (result ≡ ARGUMENT) ↔ AsksNoEnd range end }
     ensures ok { result ≡ OK → WritesOne (IsEndOf (keying_at collator.old.handle.kept) collator.old.handle.kept.book range end text.now) out.old out.new needed.new }
     ensures small { result ≡ SMALL → IsOneTooSmall (IsEndOf (keying_at collator.old.handle.kept) collator.old.handle.kept.book range end text.now) out.old needed.new }
-    ensures rejected { collator.old.full ≡ true → result ≢ ARGUMENT → IsKeyStatus (keying_at collator.old.handle.kept).collation.properties text.now result }
+    ensures rejected { collator.old.full ≡ true → result ≢ ARGUMENT → IsKeyStatus (keying_at collator.old.handle.kept) text.now result }
     ensures unwritten { result ≢ OK → out.new ≡ out.old }
     ensures none { result ≢ OK → result ≢ SMALL → needed.new ≡ 0 }
     ensures full { collator.new.full ≡ collator.old.full }

@@ -6,7 +6,7 @@ ghost use Rattle.uca_weights.specs.declared.Weighting.{Weighting};
 ghost use Rattle.uca_values.specs.Content.{TableContent, Properties};
 ghost use Rattle.uca_order.specs.Levels.{lexicographic};
 ghost use Rattle.uca_order.specs.StoredKeys.{stored_level};
-ghost use Rattle.uca_order.specs.Keyings.{keying, bytes_compared};
+ghost use Rattle.uca_order.specs.Keyings.{as_text, keying, bytes_compared};
 ghost use Rattle.uca_owned.specs.Opening.{fingerprint_by};
 ghost use Rattle.uca_c.specs.Numbers.{order_number};
 ghost use Rattle.uca_c.specs.OpenCollators.{keying_at, key_by};
@@ -63,7 +63,7 @@ pub extern "C" fn uca_open(
     ensures same { result ≢ OK → collator.new ≡ collator.old }
     ensures only { (asked : Option Weighting) (at : Depth) (meant : TableContent) (properties : Properties) → collator.old.full ≡ false →
         Asks weighting depth table.now data_file.now asked at meant properties →
-        ((result ≡ OK) × (keying_at collator.new.handle.kept ≡ keying asked at meant properties)) ⊎ IsStopStatus result error.new.kind }
+        ((result ≡ OK) × (keying_at collator.new.handle.kept ≡ keying (as_text asked at) meant properties)) ⊎ IsStopStatus result error.new.kind }
     ensures no_error { (result ≡ OK) ⊎ (result ≡ ALREADY_OPEN) → IsNoFileError error.new.line error.new.kind }
     ensures rejected { result ≢ OK → result ≢ ALREADY_OPEN →
         IsOpenStatus weighting depth table.now data_file.now error.new.line error.new.kind result }
@@ -93,7 +93,7 @@ pub extern "C" fn uca_key(
     ensures closed { (result ≡ CLOSED) ↔ (collator.old.full ≡ false) }
     ensures ok { result ≡ OK → WritesKey (key_by (keying_at collator.old.handle.kept) collator.old.handle.kept.book text.now) out.old out.new needed.new }
     ensures small { result ≡ SMALL → IsTooSmall (key_by (keying_at collator.old.handle.kept) collator.old.handle.kept.book text.now) out.old needed.new }
-    ensures rejected { collator.old.full ≡ true → IsKeyStatus (keying_at collator.old.handle.kept).collation.properties text.now result }
+    ensures rejected { collator.old.full ≡ true → IsKeyStatus (keying_at collator.old.handle.kept) text.now result }
     ensures unwritten { result ≢ OK → out.new ≡ out.old }
     ensures none { result ≢ OK → result ≢ SMALL → needed.new ≡ 0 }
     ensures full { collator.new.full ≡ collator.old.full }
@@ -123,7 +123,7 @@ pub extern "C" fn uca_compare(
     ensures ok { result ≡ OK → IsComparison (bytes_compared (keying_at collator.old.handle.kept) left.now right.now)
         comparison.new.order comparison.new.level }
     ensures rejected { collator.old.full ≡ true →
-        IsCompareStatus (keying_at collator.old.handle.kept).collation.properties left.now right.now result }
+        IsCompareStatus (keying_at collator.old.handle.kept) left.now right.now result }
     ensures none { result ≢ OK → (comparison.new.order ≡ pos 0) × (comparison.new.level ≡ 0) }
     ensures full { collator.new.full ≡ collator.old.full }
     ensures keying { collator.old.full ≡ true → keying_at collator.new.handle.kept ≡ keying_at collator.old.handle.kept }
@@ -198,7 +198,7 @@ pub extern "C" fn uca_fingerprint(
     ensures ok { result ≡ OK → FingerprintsBy weighting depth table.now data_file.now out.new }
     ensures only { (asked : Option Weighting) (at : Depth) (meant : TableContent) (properties : Properties) →
         Asks weighting depth table.now data_file.now asked at meant properties →
-        ((result ≡ OK) × (out.new ≡ fingerprint_by (keying asked at meant properties) table.now data_file.now)) ⊎ IsStopStatus result error.new.kind }
+        ((result ≡ OK) × (out.new ≡ fingerprint_by (keying (as_text asked at) meant properties) table.now data_file.now)) ⊎ IsStopStatus result error.new.kind }
     ensures unwritten { result ≢ OK → out.new ≡ out.old }
     ensures no_error { result ≡ OK → IsNoFileError error.new.line error.new.kind }
     ensures rejected { result ≢ OK → IsOpenStatus weighting depth table.now data_file.now error.new.line error.new.kind result }

@@ -5,7 +5,7 @@ ghost use Rattle.uca_weights.specs.declared.Depth.{Depth};
 ghost use Rattle.uca_weights.specs.declared.Weighting.{Weighting};
 ghost use Rattle.uca_values.specs.Content.{TableContent, Properties};
 ghost use Rattle.uca_values.specs.declared.faults.FaultKind.TheVariants as kinds;
-ghost use Rattle.uca_order.specs.Keyings.{keying};
+ghost use Rattle.uca_order.specs.Keyings.{as_text, keying};
 ghost use Rattle.uca_books.specs.Books.{BookContent};
 ghost use Rattle.uca_books.specs.BookTexts as books;
 ghost use Rattle.uca_owned.specs.Opening.{fingerprint_by};
@@ -24,7 +24,7 @@ use std::alloc::Global;
 use uca_books::{Book, read_book};
 use uca_owned::{OpenFault, OwnedCollator, fingerprint_of, in_memory};
 use uca_values::TableFault;
-use uca_weights::Source;
+use uca_weights::{Asked, Depth, Numbers, Source, Weighting};
 
 fn file_error(fault: TableFault) -> FileError
     ensures line { result.line ≡ fault.line }
@@ -56,6 +56,17 @@ fn tell(fault: OpenFault, error: &mut FileError) -> u32
     }
 }
 
+// What is asked for where numbers compare as any other text.
+fn asked_as_text(weighting: Option<Weighting>, depth: Depth) -> Asked
+    ensures { result ≡ as_text weighting depth }
+{
+    Asked {
+        weighting,
+        depth,
+        numbers: Numbers::AsText,
+    }
+}
+
 // A collator of these bytes, or the status of the call.
 fn open_texts(
     alloc: Global,
@@ -68,7 +79,7 @@ fn open_texts(
     ensures found { IfOk result (λ collator. OpensBy weighting depth table.now data_file.now (keying_in collator)) }
     ensures only { (asked : Option Weighting) (at : Depth) (meant : TableContent) (properties : Properties) →
         Asks weighting depth table.now data_file.now asked at meant properties →
-        MatchResult result (λ collator. keying_in collator ≡ keying asked at meant properties) (λ status. IsStopStatus status error.new.kind) }
+        MatchResult result (λ collator. keying_in collator ≡ keying (as_text asked at) meant properties) (λ status. IsStopStatus status error.new.kind) }
     ensures no_error { OnOk result (IsNoFileError error.new.line error.new.kind) }
     ensures rejected { IfErr result (IsOpenStatus weighting depth table.now data_file.now error.new.line error.new.kind) }
 {
@@ -79,7 +90,7 @@ fn open_texts(
     let Some(depth) = asked_depth(depth) else {
         return Err(ARGUMENT);
     };
-    match OwnedCollator::open(alloc, table, data_file, asked, depth) {
+    match OwnedCollator::open(alloc, table, data_file, asked_as_text(asked, depth)) {
         Ok(opened) => Ok(opened),
         Err(fault) => Err(tell(fault, error)),
     }
@@ -110,7 +121,7 @@ pub fn open(
     ensures book { IfOk result (λ kept. kept.value.book ≡ None) }
     ensures only { (asked : Option Weighting) (at : Depth) (meant : TableContent) (properties : Properties) →
         Asks weighting depth table.now data_file.now asked at meant properties →
-        MatchResult result (λ kept. keying_at kept.value ≡ keying asked at meant properties) (λ status. IsStopStatus status error.new.kind) }
+        MatchResult result (λ kept. keying_at kept.value ≡ keying (as_text asked at) meant properties) (λ status. IsStopStatus status error.new.kind) }
     ensures no_error { OnOk result (IsNoFileError error.new.line error.new.kind) }
     ensures rejected { IfErr result (IsOpenStatus weighting depth table.now data_file.now error.new.line error.new.kind) }
 {
@@ -134,7 +145,7 @@ pub fn open_compact(
     ensures book { IfOk result (λ kept. HasBook book.now kept.value.book) }
     ensures only { (asked : Option Weighting) (at : Depth) (meant : TableContent) (properties : Properties) (content : BookContent) →
         Asks weighting depth table.now data_file.now asked at meant properties → books.Means book.now content →
-        MatchResult result (λ kept. (keying_at kept.value ≡ keying asked at meant properties) × (kept.value.book ≡ Some content))
+        MatchResult result (λ kept. (keying_at kept.value ≡ keying (as_text asked at) meant properties) × (kept.value.book ≡ Some content))
         (λ status. IsCompactStopStatus status error.new.kind) }
     ensures no_error { OnOk result (IsNoFileError error.new.line error.new.kind) }
     ensures rejected { IfErr result (IsCompactOpenStatus weighting depth table.now data_file.now book.now error.new.line error.new.kind) }
@@ -164,7 +175,7 @@ pub fn fingerprint(
     ensures found { IfOk result (FingerprintsBy weighting depth table.now data_file.now) }
     ensures only { (asked : Option Weighting) (at : Depth) (meant : TableContent) (properties : Properties) →
         Asks weighting depth table.now data_file.now asked at meant properties →
-        MatchResult result (λ sum. sum ≡ fingerprint_by (keying asked at meant properties) table.now data_file.now)
+        MatchResult result (λ sum. sum ≡ fingerprint_by (keying (as_text asked at) meant properties) table.now data_file.now)
         (λ status. IsStopStatus status error.new.kind) }
     ensures no_error { OnOk result (IsNoFileError error.new.line error.new.kind) }
     ensures rejected { IfErr result (IsOpenStatus weighting depth table.now data_file.now error.new.line error.new.kind) }
@@ -176,7 +187,7 @@ pub fn fingerprint(
     let Some(depth) = asked_depth(depth) else {
         return Err(ARGUMENT);
     };
-    match fingerprint_of(alloc, table, data_file, asked, depth) {
+    match fingerprint_of(alloc, table, data_file, asked_as_text(asked, depth)) {
         Ok(sum) => Ok(sum),
         Err(fault) => Err(tell(fault, error)),
     }

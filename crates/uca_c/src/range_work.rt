@@ -8,7 +8,7 @@ ghost use Rattle.uca_c.specs.OpenCollators.{keying_at, text_of};
 ghost use Rattle.uca_c.specs.declared.numbers.End.{End};
 ghost use Rattle.uca_c.specs.declared.numbers.RangeOf.{RangeOf};
 ghost use Rattle.uca_c.specs.RangeCalls.{letters_in, whole_end, compact_end, end_by, AsksNoEnd, IsEndOf};
-ghost use Rattle.uca_owned.specs.Causes.{IsAcceptedText, IsKeyCause};
+ghost use Rattle.uca_owned.specs.Causes.{IsAcceptedBy, IsKeyCause};
 ghost use Rattle.uca_owned.specs.Owned.{key_in};
 ghost use Rattle.uca_c.specs.Statuses.{IsErrorStatus, IsKeyStatus, key_status};
 ghost use Rattle.uca_c.specs.inside.TextKeys.{IsKeyOf, IsTextKey};
@@ -174,8 +174,9 @@ fn last_end(
 // Makes the key of a text.
 fn make_key(collator: &mut OpenCollator, text: &[u8]) -> Result<(), u32>
     ensures key { OnOk result (IsKeyOf (keying_at collator.old).settings (text_of (keying_at collator.old) text.now) (key_in collator.new.collator)) }
-    ensures accepted { OnOk result (IsAcceptedText (keying_at collator.old).collation.properties text.now) }
-    ensures rejected { IfErr result (IsErrorStatus (IsKeyCause (keying_at collator.old).collation.properties text.now) key_status) }
+    ensures accepted { OnOk result (IsAcceptedBy (keying_at collator.old) text.now) }
+    ensures rejected { let k = keying_at collator.old in
+        IfErr result (IsErrorStatus (IsKeyCause k.settings.numbers k.collation.properties text.now) key_status) }
     ensures keying { keying_at collator.new ≡ keying_at collator.old }
     ensures book { collator.new.book ≡ collator.old.book }
 {
@@ -198,7 +199,7 @@ pub fn write_end(
     ensures argument { (result ≡ ARGUMENT) ↔ AsksNoEnd range end }
     ensures ok { result ≡ OK → WritesOne (IsEndOf (keying_at collator.old) collator.old.book range end text.now) out.old out.new needed.new }
     ensures small { result ≡ SMALL → IsOneTooSmall (IsEndOf (keying_at collator.old) collator.old.book range end text.now) out.old needed.new }
-    ensures rejected { result ≢ ARGUMENT → IsKeyStatus (keying_at collator.old).collation.properties text.now result }
+    ensures rejected { result ≢ ARGUMENT → IsKeyStatus (keying_at collator.old) text.now result }
     ensures unwritten { result ≢ OK → out.new ≡ out.old }
     ensures none { result ≢ OK → result ≢ SMALL → needed.new ≡ 0 }
     ensures keying { keying_at collator.new ≡ keying_at collator.old }

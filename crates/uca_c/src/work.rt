@@ -83,7 +83,7 @@ pub fn write_key(
 ) -> u32
     ensures ok { result ≡ OK → WritesKey (key_by (keying_at collator.old) collator.old.book text.now) out.old out.new needed.new }
     ensures small { result ≡ SMALL → IsTooSmall (key_by (keying_at collator.old) collator.old.book text.now) out.old needed.new }
-    ensures rejected { IsKeyStatus (keying_at collator.old).collation.properties text.now result }
+    ensures rejected { IsKeyStatus (keying_at collator.old) text.now result }
     ensures unwritten { result ≢ OK → out.new ≡ out.old }
     ensures none { result ≢ OK → result ≢ SMALL → needed.new ≡ 0 }
     ensures keying { keying_at collator.new ≡ keying_at collator.old }
@@ -108,7 +108,7 @@ fn compare_texts(
     comparison: &mut Comparison,
 ) -> u32
     ensures ok { result ≡ OK → IsComparison (bytes_compared (keying_in collator.old) left.now right.now) comparison.new.order comparison.new.level }
-    ensures rejected { IsCompareStatus (keying_in collator.old).collation.properties left.now right.now result }
+    ensures rejected { IsCompareStatus (keying_in collator.old) left.now right.now result }
     ensures none { result ≢ OK → (comparison.new.order ≡ pos 0) × (comparison.new.level ≡ 0) }
     ensures keying { keying_in collator.new ≡ keying_in collator.old }
 {
@@ -133,7 +133,7 @@ pub fn compare(
     comparison: &mut Comparison,
 ) -> u32
     ensures ok { result ≡ OK → IsComparison (bytes_compared (keying_at collator.old) left.now right.now) comparison.new.order comparison.new.level }
-    ensures rejected { IsCompareStatus (keying_at collator.old).collation.properties left.now right.now result }
+    ensures rejected { IsCompareStatus (keying_at collator.old) left.now right.now result }
     ensures none { result ≢ OK → (comparison.new.order ≡ pos 0) × (comparison.new.level ≡ 0) }
     ensures keying { keying_at collator.new ≡ keying_at collator.old }
     ensures book { collator.new.book ≡ collator.old.book }

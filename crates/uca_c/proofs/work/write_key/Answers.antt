@@ -54,5 +54,5 @@ returns-in-Some-clause-small c is_small =
 
 pub returns-in-Some-clause-rejected : goal.returns-in-Some-clause-rejected
 returns-in-Some-clause-rejected c =
-    subst (λ (s : OpenState). IsKeyStatus (keying_at s).collation.properties c.args.text.now c.write_compact_key.result) c.collator.view_is
-    (key_status_by (keying_in c.collator.inside.collator).collation.properties c.args.text.now c.write_compact_key.result c.in_default.ensures.accepted c.write_compact_key.ensures.statuses)
+    subst (λ (s : OpenState). IsKeyStatus (keying_at s) c.args.text.now c.write_compact_key.result) c.collator.view_is
+    (key_status_by (keying_in c.collator.inside.collator) c.args.text.now c.write_compact_key.result c.in_default.ensures.accepted c.write_compact_key.ensures.statuses)
