@@ -21,8 +21,8 @@ use uca_tailor::{TailorFault, tailor};
 use uca_text::{Normal, TextFault};
 use uca_values::{ClassRange, CodePointRange, Data, RangeFault, Table, TableFault};
 use uca_weights::Depth::{Identical, Weights};
-use uca_weights::Settings;
 use uca_weights::Weighting::Shifted;
+use uca_weights::{Numbers, Settings};
 
 // What is said of a result.
 fn said<E: Display + Drop>(ample: Global, answer: Result<(), E>) -> Result<String, Fail> {
@@ -349,11 +349,7 @@ fn writes_key(
     collator: &Collator<RowList>,
     text: &Normal,
 ) -> Result<(), AllocError> {
-    let settings = Settings {
-        weighting: Shifted,
-        depth: Identical,
-    };
-    let mut buffer = KeyBuffer::new(memory.tried, settings);
+    let mut buffer = KeyBuffer::new(memory.tried, Shifted, Identical);
     let written = write_twice(&mut buffer, collator, text);
     if written.is_ok() {
         show(streams, buffer.bytes());
@@ -381,6 +377,7 @@ fn writes_by_writer(
     let settings = Settings {
         weighting: Shifted,
         depth: Weights,
+        numbers: Numbers::AsText,
     };
     let mut writer = KeyWriter::new(memory.tried, memory.ample, *collator, settings);
     let written = write_by_writer_twice(&mut writer);

@@ -13,12 +13,13 @@ use uca_match::{Collator, Lookup};
 use uca_text::TextFault;
 use uca_weights::Depth::{Identical, Weights};
 use uca_weights::Weighting::{NonIgnorable, Shifted};
-use uca_weights::{Settings, Weighting};
+use uca_weights::{Numbers, Settings, Weighting};
 
 /// The settings of the comparers of long texts.
 const SETTINGS: Settings = Settings {
     weighting: NonIgnorable,
     depth: Weights,
+    numbers: Numbers::AsText,
 };
 
 /// A comparer at each depth.
@@ -36,10 +37,12 @@ fn at_each_depth<'a, L: Lookup>(
     let weights = Settings {
         weighting,
         depth: Weights,
+        numbers: Numbers::AsText,
     };
     let identical = Settings {
         weighting,
         depth: Identical,
+        numbers: Numbers::AsText,
     };
     Comparers {
         weights: TextComparer::new(alloc, alloc, *collator, weights),

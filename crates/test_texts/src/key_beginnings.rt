@@ -10,7 +10,7 @@ use uca_key::KeyWriter;
 use uca_match::{Collator, Lookup};
 use uca_text::TextFault;
 use uca_weights::Weighting::{NonIgnorable, Shifted};
-use uca_weights::{Depth, Settings, Weighting};
+use uca_weights::{Depth, Numbers, Settings, Weighting};
 
 /// Texts and the first sixteen bytes of their keys under each weighting, or all bytes of a shorter key. There are texts with
 /// fewer than eight weights at level 1, with eight, and with more. A contraction, a mark or a letter with a class is at the
@@ -60,7 +60,16 @@ fn check_cases<L: Lookup>(
     cases: &str,
 ) -> Result<(), Fail> {
     for weighting in [NonIgnorable, Shifted] {
-        check_settings(alloc, collator, Settings { weighting, depth }, cases)?;
+        check_settings(
+            alloc,
+            collator,
+            Settings {
+                weighting,
+                depth,
+                numbers: Numbers::AsText,
+            },
+            cases,
+        )?;
     }
     Ok(())
 }
@@ -180,6 +189,7 @@ impl Check for Longer {
         let settings = Settings {
             weighting: NonIgnorable,
             depth: Depth::Weights,
+            numbers: Numbers::AsText,
         };
         let mut writer = KeyWriter::new(alloc, alloc, *collator, settings);
         let checked = check_longer(alloc, &mut writer);

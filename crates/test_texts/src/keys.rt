@@ -10,7 +10,7 @@ use uca_match::{Collator, Lookup};
 use uca_text::Normal;
 use uca_values::Table;
 use uca_weights::Weighting::{NonIgnorable, Shifted};
-use uca_weights::{Depth, Element, Settings, Weighting};
+use uca_weights::{Depth, Element, Numbers, Settings, Weighting};
 
 /// The elements that are written so in a row.
 pub fn elements_of(alloc: Global, text: &str) -> Result<Vec<Element>, Fail> {
@@ -158,8 +158,9 @@ impl<'a> Check for Keys<'a> {
             let settings = Settings {
                 weighting,
                 depth: self.depth,
+                numbers: Numbers::AsText,
             };
-            let mut buffer = KeyBuffer::new(alloc, settings);
+            let mut buffer = KeyBuffer::new(alloc, weighting, self.depth);
             for case in self.cases.lines() {
                 check_case(alloc, collator, settings, &mut buffer, case)?;
             }

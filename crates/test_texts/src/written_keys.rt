@@ -9,7 +9,7 @@ use uca_key::KeyWriter;
 use uca_match::{Collator, Lookup};
 use uca_text::TextFault;
 use uca_weights::Weighting::{NonIgnorable, Shifted};
-use uca_weights::{Depth, Settings, Weighting};
+use uca_weights::{Depth, Numbers, Settings, Weighting};
 
 /// `ab` and `c` with an acute accent are contractions.
 pub const TABLE: &str = "@version 1\n\
@@ -70,6 +70,7 @@ fn check_weighting<L: Lookup>(
     let settings = Settings {
         weighting,
         depth: Depth::Weights,
+        numbers: Numbers::AsText,
     };
     let mut writer = KeyWriter::new(alloc, alloc, *collator, settings);
     let checked = check_cases(alloc, &mut writer, weighting);
@@ -123,6 +124,7 @@ impl Check for LongRun {
         let settings = Settings {
             weighting: NonIgnorable,
             depth: Depth::Weights,
+            numbers: Numbers::AsText,
         };
         let mut writer = KeyWriter::new(alloc, alloc, *collator, settings);
         let checked = check_long_run(alloc, &mut writer);
