@@ -80,7 +80,7 @@ weights_of_read c weighting left right us vs xs ys (Err fault) is = tt
 
 -- ---- After the weights
 
--- the walk that would say the same of the weights
+-- the walk that would say this of the weights
 abbrev walked_of : Compared → Walked
 walked_of compared = record {
   order = compared.order;
