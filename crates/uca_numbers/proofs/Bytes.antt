@@ -1,8 +1,9 @@
 -- In UTF-8 the byte of a digit is part of no other code point.
-use Rattle.std.proofs.Common.{◌≡◌, ℕ, suc, ◌<◌, ◌≤◌, List, [], ◌∷◌, length, get_or, Bool, true, false, ◌||◌, chars, refl, sym, ap, ap₂, ◌∙◌, arith, append-nil, inl, inr}
+use Rattle.std.proofs.Common.{◌≡◌, ℕ, suc, ◌<◌, ◌≤◌, List, [], ◌∷◌, length, take, drop, get_or, Bool, true, false, ◌||◌, chars, refl, sym, ap, ap₂, ◌∙◌, arith, append-nil, inl, inr}
 use Rattle.std.specs.Str.{IsUtf8}
 use Rattle.std.proofs.lemmas.Bool.{cases_lt, cases_Bool}
 use Rattle.std.proofs.lemmas.Bool.Decides.{nat_tests}
+use Rattle.std.proofs.lemmas.List.{take-append-drop}
 use Rattle.std.proofs.lemmas.List.Folds.{list_any-append}
 use Rattle.std.proofs.lemmas.Str.{encode_ascii, inside_one, encodes-chars}
 use lib.Utf8.{encode, encodes}
@@ -43,6 +44,13 @@ digits_of_chars : (cs : List ℕ) → has_digit (encodes cs) ≡ has_digit cs
 digits_of_chars [] = refl
 digits_of_chars (c ∷ cs) =
     list_any-append is_digit (encode c) (encodes cs) ∙ ap₂ (λ a b. a || b) (digit_of_char c) (digits_of_chars cs)
+
+-- the front of some bytes, and what comes after it
+pub front_and_more : (n : ℕ) (bytes front more : List ℕ) → front ≡ take n bytes → more ≡ drop n bytes → has_digit bytes ≡ (has_digit front || has_digit more)
+front_and_more n bytes front more front_is more_is =
+    ap has_digit (sym (take-append-drop n bytes))
+    ∙ list_any-append is_digit (take n bytes) (drop n bytes)
+    ∙ ap₂ (λ a b. has_digit a || has_digit b) (sym front_is) (sym more_is)
 
 pub digits_of_bytes : (bs : List ℕ) → IsUtf8 bs → has_digit bs ≡ has_digit (chars bs)
 digits_of_bytes bs utf8 = ap has_digit (sym (encodes-chars bs utf8)) ∙ digits_of_chars (chars bs)

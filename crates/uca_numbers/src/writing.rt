@@ -6,7 +6,7 @@ ghost use Rattle.uca_numbers.specs.Texts.{by_value};
 
 use std::alloc::{AllocError, Allocator};
 
-/// Whether a text has a digit, U+0030 to U+0039. It looks at the bytes alone, so it is fast.
+/// Whether a text has a digit, U+0030 to U+0039. It looks at the bytes alone, eight at a time, so it is fast.
 pub fn has_digit(text: &str) -> bool
     ensures { result ≡ Rattle.uca_numbers.specs.Texts.has_digit (chars text.now) }
 {
@@ -17,7 +17,42 @@ pub fn has_digit(text: &str) -> bool
 fn has_digit_byte(bytes: &[u8]) -> bool
     ensures { result ≡ Rattle.uca_numbers.specs.Texts.has_digit bytes.now }
 {
-    bytes.iter().any(|byte| b'0' <= *byte && *byte <= b'9')
+    let mut rest = bytes;
+    while let Some((front, more)) = rest.split_first_chunk::<8>() {
+        if has_digit_among(front) {
+            return true;
+        }
+        rest = more;
+    }
+    match rest.split_first_chunk::<4>() {
+        Some((front, more)) => has_digit_among(front) || has_digit_of_few(more),
+        None => has_digit_of_few(rest),
+    }
+}
+
+// As `has_digit_byte`, of so many bytes. It does not stop at a digit, so the compiler tests all of them at once.
+#[inline(always)]
+fn has_digit_among<const N: usize>(bytes: &[u8; N]) -> bool
+    ensures { result ≡ Rattle.uca_numbers.specs.Texts.has_digit bytes.now }
+{
+    let mut found = false;
+    for byte in bytes {
+        found |= is_digit_byte(*byte);
+    }
+    found
+}
+
+// As `has_digit_byte`, byte by byte.
+fn has_digit_of_few(bytes: &[u8]) -> bool
+    ensures { result ≡ Rattle.uca_numbers.specs.Texts.has_digit bytes.now }
+{
+    bytes.iter().any(|byte| is_digit_byte(*byte))
+}
+
+fn is_digit_byte(byte: u8) -> bool
+    ensures { result ≡ Rattle.uca_numbers.specs.Numbers.is_digit byte }
+{
+    b'0' <= byte && byte <= b'9'
 }
 
 /// Replaces the list by the code points of a text with each number written by value: `a42` becomes `a242`. The list's
