@@ -1,6 +1,7 @@
 -- What a run of the lines that changes affect returns and writes.
 use Rattle.std.specs.Prelude.{◌≡◌, ◌↔◌, ℕ, List, ◌||◌, Bool, false, Result, Err, ⊤}
 use Rattle.std.specs.List.{list_any}
+use Rattle.uca_weights.specs.declared.Numbers.{Numbers}
 use Rattle.uca_weights.specs.Streams.{SourceState, SinkState}
 use Rattle.uca_values.specs.Ranges.{is_within}
 use Rattle.uca_change_files.specs.Changes.{ChangeContent}
@@ -8,6 +9,7 @@ use Rattle.uca_changes.specs.Changes.{Change, IsUnaffected}
 use Rattle.uca_run_parts.specs.declared.faults.RunFault.{RunFault}
 use Rattle.uca_run_parts.specs.declared.faults.RunFault.TheVariants.{Memory}
 use Rattle.uca_run_parts.specs.AffectedRun.{occurs_in_order, line_if}
+use Rattle.uca_run_parts.specs.Input.{line_text}
 use Rattle.uca_run_parts.specs.EachLine.{RunsEach, PrintsEach}
 use Rattle.uca_change_runs.specs.ChangeFiles.{DataAndChanges, data_and_changes, data_and_changes_roles}
 
@@ -25,11 +27,12 @@ AffectedByChangesAreTheOthers = (change : Change) (points : List ℕ) → (is_af
 
 -- What a run returns under properties and changes: it writes the lines that the changes affect. An allocation that failed for
 -- looking changes up says nothing of the lines.
-abbrev pub RunsAffectedByChanges : {A : Type 0} → SourceState → SourceState → SinkState → SinkState → Result A RunFault → DataAndChanges → Type 0
-RunsAffectedByChanges input input_new out out_new (Err Memory) files = ⊤
-RunsAffectedByChanges input input_new out out_new result files = RunsEach files.properties (line_if (is_affected_by files.list) files.properties) input input_new out out_new result
+abbrev pub RunsAffectedByChanges : {A : Type 0} → Numbers → SourceState → SourceState → SinkState → SinkState → Result A RunFault → DataAndChanges → Type 0
+RunsAffectedByChanges numbers input input_new out out_new (Err Memory) files = ⊤
+RunsAffectedByChanges numbers input input_new out out_new result files =
+    let read_of = line_text numbers files.properties in RunsEach read_of (line_if (is_affected_by files.list) read_of) input input_new out out_new result
 
 -- A run of the lines that changes affect.
-abbrev pub PrintsAffectedByChanges : {A : Type 0} → List SourceState → List SourceState → SourceState → SourceState → SinkState → SinkState → Result A RunFault → Type 0
-PrintsAffectedByChanges olds news input input_new out out_new result =
-    PrintsEach data_and_changes data_and_changes_roles (RunsAffectedByChanges input input_new out out_new result) olds news input input_new out out_new result
+abbrev pub PrintsAffectedByChanges : {A : Type 0} → Numbers → List SourceState → List SourceState → SourceState → SourceState → SinkState → SinkState → Result A RunFault → Type 0
+PrintsAffectedByChanges numbers olds news input input_new out out_new result =
+    PrintsEach data_and_changes data_and_changes_roles (RunsAffectedByChanges numbers input input_new out out_new result) olds news input input_new out out_new result

@@ -14,7 +14,7 @@ use std::io::{Read, Write};
 use uca_change_files::ChangeList;
 use uca_run_parts::{Role, RunFault, print_affected, read_data_file};
 use uca_values::Data;
-use uca_weights::{Sink, Source};
+use uca_weights::{Numbers, Sink, Source};
 
 /// What the two files mean.
 #[derive(Drop)]
@@ -26,8 +26,8 @@ struct DataAndChanges<A: Allocator> {
 }
 
 /// Prints the lines of `input` that the changes affect, each with LF. A line is affected if a changed text occurs in order in
-/// its text in Normalization Form D, or a changed range has a code point of that text. The data file and the file of changes
-/// are read first. The lines are as they are, and in their order. Under each accepted change with these texts and ranges the
+/// what is read of it, in Normalization Form D, or a changed range has a code point of that. With numbers by value, what is
+/// read has the code of each number in place of it. The data file and the file of changes are read first. The lines are as they are, and in their order. Under each accepted change with these texts and ranges the
 /// other lines keep their order among themselves.
 ///
 /// # Errors
@@ -43,11 +43,12 @@ pub fn run_affected_by_changes<D: Read, C: Read, I: Read, W: Write>(
     changes: &mut Source<C>,
     input: &mut Source<I>,
     out: &mut Sink<W>,
+    numbers: Numbers,
 ) -> Result<(), RunFault>
-    ensures { PrintsAffectedByChanges (properties.old ∷ changes.old ∷ []) (properties.new ∷ changes.new ∷ [])
+    ensures { PrintsAffectedByChanges numbers (properties.old ∷ changes.old ∷ []) (properties.new ∷ changes.new ∷ [])
         input.old input.new out.old out.new result }
 {
-    run_affected_by_changes_in(alloc, alloc, properties, changes, input, out)
+    run_affected_by_changes_in(alloc, alloc, properties, changes, input, out, numbers)
 }
 
 /// As [`run_affected_by_changes`], with the two files and the lines in memory of any allocator. Texts in Normalization Form D
@@ -63,14 +64,15 @@ pub fn run_affected_by_changes_in<A: Allocator + Copy, D: Read, C: Read, I: Read
     changes: &mut Source<C>,
     input: &mut Source<I>,
     out: &mut Sink<W>,
+    numbers: Numbers,
 ) -> Result<(), RunFault>
-    ensures { PrintsAffectedByChanges (properties.old ∷ changes.old ∷ []) (properties.new ∷ changes.new ∷ [])
+    ensures { PrintsAffectedByChanges numbers (properties.old ∷ changes.old ∷ []) (properties.new ∷ changes.new ∷ [])
         input.old input.new out.old out.new result }
 {
     match read_data_and_changes(alloc, properties, changes) {
         Ok(DataAndChanges { properties, list }) => match ChangeIndex::new(alloc, list) {
             Ok(index) => {
-                let end = print_affected(alloc, global, &properties, &index, input, out);
+                let end = print_affected(alloc, global, numbers, &properties, &index, input, out);
                 drop(index);
                 drop(properties);
                 end

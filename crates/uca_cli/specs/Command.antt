@@ -3,8 +3,10 @@
 use Rattle.std.specs.Prelude.{◌≡◌, ◌≢◌, ◌⊎◌, ◌<◌, ℕ, List, [], ◌∷◌, ◌||◌, Bool, true, false, Option, Some, None, Result, Ok, Err, IfErr, is_err, length, unwrap_or}
 use Rattle.std.specs.Borrow.{Bor}
 use Rattle.std.specs.Global.{Global}
+use Rattle.uca_weights.specs.declared.Asked.{Asked}
 use Rattle.uca_weights.specs.declared.Depth.{Depth}
 use Rattle.uca_weights.specs.declared.streams.sink.WriteFault.{WriteFault}
+use Rattle.uca_weights.specs.declared.Numbers.{Numbers}
 use Rattle.uca_weights.specs.declared.Weighting.{Weighting}
 use Rattle.uca_weights.specs.declared.Weighting.TheVariants.{Shifted}
 use Rattle.uca_weights.specs.Streams.{SourceState, SinkState}
@@ -111,29 +113,33 @@ DoesCheck files old new words out out_new result =
     OpensAndRuns files old new (table_and_data words.table.now words.properties.now) (out_new ≡ out)
     (λ olds news. Ran check_result (Checks olds news out out_new) result) result
 
+-- the settings that are asked for
+abbrev pub asked_for : Option Weighting → Depth → Numbers → Asked
+asked_for weighting depth numbers = record { weighting = weighting; depth = depth; numbers = numbers }
+
 -- what `keys` prints: with `--lines` the key of each line and the line, else the key alone; with `--header` a header first
-abbrev pub Prints : Bool → Bool → Option Weighting → Depth → List SourceState → List SourceState → SourceState → SourceState
+abbrev pub Prints : Bool → Bool → Asked → List SourceState → List SourceState → SourceState → SourceState
     → SinkState → SinkState → Result (Unit {0}) RunFault → Type 0
-Prints true false weighting depth olds news input input_new out out_new run =
-    PrintsKeyedLines weighting depth olds news input input_new out out_new run
-Prints false false weighting depth olds news input input_new out out_new run =
-    PrintsKeys weighting depth olds news input input_new out out_new run
-Prints true true weighting depth olds news input input_new out out_new run =
-    PrintsHeadedLines weighting depth olds news input input_new out out_new run
-Prints false true weighting depth olds news input input_new out out_new run =
-    PrintsHeadedKeys weighting depth olds news input input_new out out_new run
+Prints true false asked olds news input input_new out out_new run =
+    PrintsKeyedLines asked olds news input input_new out out_new run
+Prints false false asked olds news input input_new out out_new run =
+    PrintsKeys asked olds news input input_new out out_new run
+Prints true true asked olds news input input_new out out_new run =
+    PrintsHeadedLines asked olds news input input_new out out_new run
+Prints false true asked olds news input input_new out out_new run =
+    PrintsHeadedKeys asked olds news input input_new out out_new run
 
 -- and what it prints with `--compact`: compact keys
-abbrev pub PrintsCompact : Bool → Bool → Option Weighting → Depth → List SourceState → List SourceState → SourceState → SourceState
+abbrev pub PrintsCompact : Bool → Bool → Asked → List SourceState → List SourceState → SourceState → SourceState
     → SinkState → SinkState → Result (Unit {0}) RunFault → Type 0
-PrintsCompact true false weighting depth olds news input input_new out out_new run =
-    PrintsCompactLines weighting depth olds news input input_new out out_new run
-PrintsCompact false false weighting depth olds news input input_new out out_new run =
-    PrintsCompactKeys weighting depth olds news input input_new out out_new run
-PrintsCompact true true weighting depth olds news input input_new out out_new run =
-    PrintsHeadedCompactLines weighting depth olds news input input_new out out_new run
-PrintsCompact false true weighting depth olds news input input_new out out_new run =
-    PrintsHeadedCompactKeys weighting depth olds news input input_new out out_new run
+PrintsCompact true false asked olds news input input_new out out_new run =
+    PrintsCompactLines asked olds news input input_new out out_new run
+PrintsCompact false false asked olds news input input_new out out_new run =
+    PrintsCompactKeys asked olds news input input_new out out_new run
+PrintsCompact true true asked olds news input input_new out out_new run =
+    PrintsHeadedCompactLines asked olds news input input_new out out_new run
+PrintsCompact false true asked olds news input input_new out out_new run =
+    PrintsHeadedCompactKeys asked olds news input input_new out out_new run
 
 -- what `keys` does without `--compact`, and with this book
 abbrev pub DoesKeysBy : {O F M : Type 0} → FileSystem O F M → O → O → KeysWords → Option (Bor (List ℕ)) → Streams → Streams
@@ -141,12 +147,12 @@ abbrev pub DoesKeysBy : {O F M : Type 0} → FileSystem O F M → O → O → Ke
 DoesKeysBy files old new words None start end result =
     OpensAndRuns files old new (table_and_data words.table.now words.properties.now) (end ≡ start)
     (λ olds news. Ran (done_result {A = Unit {0}})
-    (Prints words.lines words.header words.weighting words.depth olds news start.input end.input start.out end.out) result) result
+    (Prints words.lines words.header (asked_for words.weighting words.depth words.numbers) olds news start.input end.input start.out end.out) result) result
 DoesKeysBy files old new words (Some book) start end result =
     OpensAndRuns files old new
     (file_for roles.Table words.table.now ∷ file_for roles.Data words.properties.now ∷ file_for roles.Book book.now ∷ []) (end ≡ start)
     (λ olds news. Ran (done_result {A = Unit {0}})
-    (PrintsCompact words.lines words.header words.weighting words.depth olds news start.input end.input start.out end.out) result) result
+    (PrintsCompact words.lines words.header (asked_for words.weighting words.depth words.numbers) olds news start.input end.input start.out end.out) result) result
 
 -- what `keys` does
 abbrev pub DoesKeys : {O F M : Type 0} → FileSystem O F M → O → O → KeysWords → Streams → Streams
@@ -159,7 +165,7 @@ abbrev pub DoesSort : {O F M : Type 0} → FileSystem O F M → O → O → Sort
 DoesSort files old new words start end result =
     OpensAndRuns files old new (table_and_data words.table.now words.properties.now) (end ≡ start)
     (λ olds news. Ran (done_result {A = Unit {0}})
-    (SortsLines words.weighting words.depth olds news start.input end.input start.out end.out) result) result
+    (SortsLines (asked_for words.weighting words.depth words.numbers) olds news start.input end.input start.out end.out) result) result
 
 -- what `compare` does
 abbrev pub DoesCompare : {O F M : Type 0} → FileSystem O F M → O → O → CompareWords → SinkState → SinkState
@@ -167,7 +173,7 @@ abbrev pub DoesCompare : {O F M : Type 0} → FileSystem O F M → O → O → C
 DoesCompare files old new words out out_new result =
     OpensAndRuns files old new (table_and_data words.table.now words.properties.now) (out_new ≡ out)
     (λ olds news. Ran (done_result {A = Unit {0}})
-    (Compares (comparing words.weighting words.depth words.left.now words.right.now) olds news out out_new) result) result
+    (Compares (comparing (asked_for words.weighting words.depth words.numbers) words.left.now words.right.now) olds news out out_new) result) result
 
 -- a table, a data file and a book
 abbrev pub booked_files : List ℕ → List ℕ → List ℕ → List NamedFile
@@ -179,10 +185,10 @@ fingerprint_files None table properties = table_and_data table properties
 fingerprint_files (Some book) table properties = booked_files table properties book.now
 
 -- the run of `fingerprint`: with `--compact` it is that of compact keys
-abbrev pub Fingerprinted : Option (Bor (List ℕ)) → Option Weighting → Depth → List SourceState → List SourceState
+abbrev pub Fingerprinted : Option (Bor (List ℕ)) → Asked → List SourceState → List SourceState
     → SinkState → SinkState → Result (Unit {0}) RunFault → Type 0
-Fingerprinted None weighting depth olds news out out_new run = PrintsFingerprint weighting depth olds news out out_new run
-Fingerprinted (Some book) weighting depth olds news out out_new run = PrintsCompactFingerprint weighting depth olds news out out_new run
+Fingerprinted None asked olds news out out_new run = PrintsFingerprint asked olds news out out_new run
+Fingerprinted (Some book) asked olds news out out_new run = PrintsCompactFingerprint asked olds news out out_new run
 
 -- what `fingerprint` does
 abbrev pub DoesFingerprint : {O F M : Type 0} → FileSystem O F M → O → O → FingerprintWords → SinkState → SinkState
@@ -190,7 +196,7 @@ abbrev pub DoesFingerprint : {O F M : Type 0} → FileSystem O F M → O → O �
 DoesFingerprint files old new words out out_new result =
     OpensAndRuns files old new (fingerprint_files words.book words.table.now words.properties.now) (out_new ≡ out)
     (λ olds news. Ran (done_result {A = Unit {0}})
-    (Fingerprinted words.book words.weighting words.depth olds news out out_new) result) result
+    (Fingerprinted words.book (asked_for words.weighting words.depth words.numbers) olds news out out_new) result) result
 
 -- ---- Tailor and changes
 
@@ -312,11 +318,11 @@ DoesAuditChanges files old new words out out_new result =
 -- ---- Affected
 
 -- which lines `affected` prints: with `--changes` those that the changes affect, else those that the rules affect
-abbrev pub PrintsLines : Bool → List SourceState → List SourceState → SourceState → SourceState
+abbrev pub PrintsLines : Bool → Numbers → List SourceState → List SourceState → SourceState → SourceState
     → SinkState → SinkState → Result (Unit {0}) RunFault → Type 0
-PrintsLines true olds news input input_new out out_new run =
-    PrintsAffectedByChanges olds news input input_new out out_new run
-PrintsLines false olds news input input_new out out_new run = PrintsAffected olds news input input_new out out_new run
+PrintsLines true numbers olds news input input_new out out_new run =
+    PrintsAffectedByChanges numbers olds news input input_new out out_new run
+PrintsLines false numbers olds news input input_new out out_new run = PrintsAffected numbers olds news input input_new out out_new run
 
 -- what `affected` does
 abbrev pub DoesAffected : {O F M : Type 0} → FileSystem O F M → O → O → AffectedWords → Streams → Streams
@@ -324,7 +330,7 @@ abbrev pub DoesAffected : {O F M : Type 0} → FileSystem O F M → O → O → 
 DoesAffected files old new words start end result =
     OpensAndRuns files old new (affected_files words.changes words.properties.now words.rules.now) (end ≡ start)
     (λ olds news. Ran (done_result {A = Unit {0}})
-    (PrintsLines words.changes olds news start.input end.input start.out end.out) result) result
+    (PrintsLines words.changes words.numbers olds news start.input end.input start.out end.out) result) result
 
 -- ---- Rekey
 

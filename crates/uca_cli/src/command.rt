@@ -2,7 +2,7 @@
 
 ghost use Rattle.std.specs.Prelude.{None, ◌∷◌, [], ⊤, ℕ, Bool, List, Result, ◌≡◌};
 ghost use Rattle.clap.specs.Walk.{texts};
-ghost use Rattle.uca_cli.specs.Command.{DoesAffected, DoesAudit, DoesCheck, DoesCommand, DoesCompare, DoesKeys, DoesKeysBy, DoesSort, DoesTailor, DoesWords, EndsWith, KeepsAndPrints, KeepsMade, MakesOpened, Prints, PrintsLines, files_of_tailor, made_table, streams};
+ghost use Rattle.uca_cli.specs.Command.{DoesAffected, DoesAudit, DoesCheck, DoesCommand, DoesCompare, DoesKeys, DoesKeysBy, DoesSort, DoesTailor, DoesWords, EndsWith, KeepsAndPrints, KeepsMade, MakesOpened, Prints, PrintsLines, asked_for, files_of_tailor, made_table, streams};
 ghost use Rattle.uca_host.specs.NamedFiles.{affected_role, file_system};
 ghost use Rattle.uca_tailor_runs.specs.TailorRun.{TailorsFiles};
 
@@ -20,13 +20,13 @@ use uca_host::files::keeping::{find_certificate, keep_certificate};
 use uca_host::files::opening::{open_audit_files, open_files, open_three, open_two};
 use uca_host::{Opens, report};
 use uca_key_runs::{
-    run_compare, run_headed_keys, run_headed_lines, run_keyed_lines, run_keys, run_sort,
+    run_compare_in, run_headed_keys, run_headed_lines, run_keyed_lines, run_keys_in, run_sort_in,
 };
 use uca_run_parts::faults::{Role, RunFault};
 use uca_run_parts::{run_affected, run_check};
 use uca_tailor_runs::{run_audit, run_tailor};
 use uca_values::Table;
-use uca_weights::{Sink, Source};
+use uca_weights::{Asked, Depth, Numbers, Sink, Source, Weighting};
 use uca_words::{
     AffectedWords, AuditWords, CheckWords, CompareWords, KeysWords, SortWords, TailorWords, Words,
     read_words,
@@ -93,21 +93,31 @@ fn print<T: Read, D: Read, I: Read, W: Write>(
     input: &mut Source<I>,
     out: &mut Sink<W>,
 ) -> Result<(), RunFault>
-    ensures { Prints words.now.lines words.now.header words.now.weighting words.now.depth
+    ensures { Prints words.now.lines words.now.header (asked_for words.now.weighting words.now.depth words.now.numbers)
         (table.old ∷ properties.old ∷ []) (table.new ∷ properties.new ∷ []) input.old input.new out.old out.new result }
 {
-    let weighting = words.weighting;
-    let depth = words.depth;
+    let asked = asked_for(words.weighting, words.depth, words.numbers);
     if words.lines {
         if words.header {
-            run_headed_lines(alloc, table, properties, input, out, weighting, depth)
+            run_headed_lines(alloc, table, properties, input, out, asked)
         } else {
-            run_keyed_lines(alloc, table, properties, input, out, weighting, depth)
+            run_keyed_lines(alloc, table, properties, input, out, asked)
         }
     } else if words.header {
-        run_headed_keys(alloc, table, properties, input, out, weighting, depth)
+        run_headed_keys(alloc, table, properties, input, out, asked)
     } else {
-        run_keys(alloc, table, properties, input, out, weighting, depth)
+        run_keys_in(alloc, alloc, table, properties, input, out, asked)
+    }
+}
+
+// The settings that are asked for.
+pub(crate) fn asked_for(weighting: Option<Weighting>, depth: Depth, numbers: Numbers) -> Asked
+    ensures { result ≡ asked_for weighting depth numbers }
+{
+    Asked {
+        weighting,
+        depth,
+        numbers,
     }
 }
 
@@ -122,14 +132,14 @@ fn sort<O: Opens, I: Read, W: Write>(
         opener.old opener.new words.now (streams input.old out.old) (streams input.new out.new) result }
 {
     match open_files(opener, words.table, words.properties) {
-        Ok((mut table, mut properties)) => done(run_sort(
+        Ok((mut table, mut properties)) => done(run_sort_in(
+            alloc,
             alloc,
             &mut table,
             &mut properties,
             input,
             out,
-            words.weighting,
-            words.depth,
+            asked_for(words.weighting, words.depth, words.numbers),
         )),
         Err(role) => Err(RunFault::Open(role)),
     }
@@ -145,15 +155,15 @@ fn compare<O: Opens, W: Write>(
         opener.old opener.new words.now out.old out.new result }
 {
     match open_files(opener, words.table, words.properties) {
-        Ok((mut table, mut properties)) => done(run_compare(
+        Ok((mut table, mut properties)) => done(run_compare_in(
+            alloc,
             alloc,
             &mut table,
             &mut properties,
             words.left,
             words.right,
             out,
-            words.weighting,
-            words.depth,
+            asked_for(words.weighting, words.depth, words.numbers),
         )),
         Err(role) => Err(RunFault::Open(role)),
     }
@@ -297,6 +307,7 @@ fn affected<O: Opens, I: Read, W: Write>(
         Ok((mut properties, mut rules)) => done(print_lines(
             alloc,
             words.changes,
+            words.numbers,
             &mut properties,
             &mut rules,
             input,
@@ -317,18 +328,19 @@ fn affected_role(changes: bool) -> Role
 fn print_lines<D: Read, U: Read, I: Read, W: Write>(
     alloc: Global,
     changes: bool,
+    numbers: Numbers,
     properties: &mut Source<D>,
     rules: &mut Source<U>,
     input: &mut Source<I>,
     out: &mut Sink<W>,
 ) -> Result<(), RunFault>
-    ensures { PrintsLines changes (properties.old ∷ rules.old ∷ []) (properties.new ∷ rules.new ∷ [])
+    ensures { PrintsLines changes numbers (properties.old ∷ rules.old ∷ []) (properties.new ∷ rules.new ∷ [])
         input.old input.new out.old out.new result }
 {
     if changes {
-        run_affected_by_changes(alloc, properties, rules, input, out)
+        run_affected_by_changes(alloc, properties, rules, input, out, numbers)
     } else {
-        run_affected(alloc, properties, rules, input, out)
+        run_affected(alloc, properties, rules, input, out, numbers)
     }
 }
 

@@ -1,9 +1,10 @@
 //! `keys --compact`: the compact keys of lines, by a book.
 
 ghost use Rattle.std.specs.Prelude.{Some, ◌∷◌, []};
-ghost use Rattle.uca_cli.specs.Command.{DoesKeysBy, PrintsCompact, streams};
+ghost use Rattle.uca_cli.specs.Command.{DoesKeysBy, PrintsCompact, asked_for, streams};
 ghost use Rattle.uca_host.specs.NamedFiles.{file_system};
 
+use crate::command::asked_for;
 use crate::statuses::done;
 use std::alloc::Global;
 use std::io::{Read, Write};
@@ -59,28 +60,19 @@ fn print_compact<T: Read, D: Read, B: Read, I: Read, W: Write>(
     input: &mut Source<I>,
     out: &mut Sink<W>,
 ) -> Result<(), RunFault>
-    ensures { PrintsCompact words.now.lines words.now.header words.now.weighting words.now.depth
+    ensures { PrintsCompact words.now.lines words.now.header (asked_for words.now.weighting words.now.depth words.now.numbers)
         (table.old ∷ properties.old ∷ book.old ∷ []) (table.new ∷ properties.new ∷ book.new ∷ []) input.old input.new out.old out.new result }
 {
-    let weighting = words.weighting;
-    let depth = words.depth;
+    let asked = asked_for(words.weighting, words.depth, words.numbers);
     if words.lines {
         if words.header {
-            run_headed_compact_lines(
-                alloc, alloc, table, properties, book, input, out, weighting, depth,
-            )
+            run_headed_compact_lines(alloc, alloc, table, properties, book, input, out, asked)
         } else {
-            run_compact_lines(
-                alloc, alloc, table, properties, book, input, out, weighting, depth,
-            )
+            run_compact_lines(alloc, alloc, table, properties, book, input, out, asked)
         }
     } else if words.header {
-        run_headed_compact_keys(
-            alloc, alloc, table, properties, book, input, out, weighting, depth,
-        )
+        run_headed_compact_keys(alloc, alloc, table, properties, book, input, out, asked)
     } else {
-        run_compact_keys(
-            alloc, alloc, table, properties, book, input, out, weighting, depth,
-        )
+        run_compact_keys(alloc, alloc, table, properties, book, input, out, asked)
     }
 }

@@ -1,10 +1,11 @@
 //! The subcommand `fingerprint`: of keys, and with a book of compact keys.
 
 ghost use Rattle.std.specs.Prelude.{◌≡◌};
-ghost use Rattle.uca_cli.specs.Command.{DoesFingerprint, OpensAndRuns, Ran, booked_files, done_result};
+ghost use Rattle.uca_cli.specs.Command.{DoesFingerprint, OpensAndRuns, Ran, asked_for, booked_files, done_result};
 ghost use Rattle.uca_fingerprint_runs.specs.FingerprintRun.{PrintsCompactFingerprint, PrintsFingerprint};
 ghost use Rattle.uca_host.specs.NamedFiles.{file_system, table_and_data};
 
+use crate::command::asked_for;
 use crate::statuses::done;
 use std::alloc::Global;
 use std::io::Write;
@@ -40,7 +41,7 @@ fn fingerprint_of_keys<O: Opens, W: Write>(
     ensures { OpensAndRuns (file_system O.calls O.File.remaining O.Made.contents)
         opener.old opener.new (table_and_data words.now.table.now words.now.properties.now) (out.new ≡ out.old)
         (λ olds news. Ran (done_result {A = Unit {0}})
-        (PrintsFingerprint words.now.weighting words.now.depth olds news out.old out.new) result) result }
+        (PrintsFingerprint (asked_for words.now.weighting words.now.depth words.now.numbers) olds news out.old out.new) result) result }
 {
     match open_files(opener, words.table, words.properties) {
         Ok((mut table, mut properties)) => done(run_fingerprint(
@@ -48,8 +49,7 @@ fn fingerprint_of_keys<O: Opens, W: Write>(
             &mut table,
             &mut properties,
             out,
-            words.weighting,
-            words.depth,
+            asked_for(words.weighting, words.depth, words.numbers),
         )),
         Err(role) => Err(RunFault::Open(role)),
     }
@@ -66,7 +66,7 @@ fn fingerprint_of_compact_keys<O: Opens, W: Write>(
     ensures { OpensAndRuns (file_system O.calls O.File.remaining O.Made.contents)
         opener.old opener.new (booked_files words.now.table.now words.now.properties.now book.now) (out.new ≡ out.old)
         (λ olds news. Ran (done_result {A = Unit {0}})
-        (PrintsCompactFingerprint words.now.weighting words.now.depth olds news out.old out.new) result) result }
+        (PrintsCompactFingerprint (asked_for words.now.weighting words.now.depth words.now.numbers) olds news out.old out.new) result) result }
 {
     match open_three(
         opener,
@@ -83,8 +83,7 @@ fn fingerprint_of_compact_keys<O: Opens, W: Write>(
             &mut properties,
             &mut book,
             out,
-            words.weighting,
-            words.depth,
+            asked_for(words.weighting, words.depth, words.numbers),
         )),
         Err(role) => Err(RunFault::Open(role)),
     }

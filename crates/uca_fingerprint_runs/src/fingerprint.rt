@@ -19,7 +19,7 @@ use std::io::{Read, Write};
 use uca_fingerprint::{compact_fingerprint_of_sums, fingerprint_of_sums};
 use uca_run_parts::RunFault;
 use uca_run_parts::output::write_text;
-use uca_weights::{Depth, Numbers, Settings, Sink, Source, Weighting};
+use uca_weights::{Asked, Settings, Sink, Source, Weighting};
 
 /// Writes the fingerprint of what keys are made by under a table and a data file: 64 lower-case hexadecimal digits and LF. The
 /// weighting is the one that is asked for, or else that of the table's `@variable`, or else shifted (UTS #10, section 4).
@@ -33,14 +33,13 @@ pub fn run_fingerprint<A: Allocator + Copy, T: Read, D: Read, W: Write>(
     table: &mut Source<T>,
     properties: &mut Source<D>,
     out: &mut Sink<W>,
-    weighting: Option<Weighting>,
-    depth: Depth,
+    asked: Asked,
 ) -> Result<(), RunFault>
-    ensures { PrintsFingerprint weighting depth (table.old ∷ properties.old ∷ []) (table.new ∷ properties.new ∷ []) out.old out.new result }
+    ensures { PrintsFingerprint asked (table.old ∷ properties.old ∷ []) (table.new ∷ properties.new ∷ []) out.old out.new result }
 {
     match read_summed_files(alloc, table, properties) {
         Ok(files) => {
-            let sum = fingerprint_of_files(&files, weighting, depth);
+            let sum = fingerprint_of_files(&files, asked);
             drop(files);
             write_text(&line_of(&sum), out)
         }
@@ -61,15 +60,14 @@ pub fn run_compact_fingerprint<A: Allocator + Copy, T: Read, D: Read, B: Read, W
     properties: &mut Source<D>,
     book: &mut Source<B>,
     out: &mut Sink<W>,
-    weighting: Option<Weighting>,
-    depth: Depth,
+    asked: Asked,
 ) -> Result<(), RunFault>
-    ensures { PrintsCompactFingerprint weighting depth (table.old ∷ properties.old ∷ book.old ∷ [])
+    ensures { PrintsCompactFingerprint asked (table.old ∷ properties.old ∷ book.old ∷ [])
         (table.new ∷ properties.new ∷ book.new ∷ []) out.old out.new result }
 {
     match read_booked_files(alloc, table, properties, book) {
         Ok(files) => {
-            let sum = compact_fingerprint_of_files(&files, weighting, depth);
+            let sum = compact_fingerprint_of_files(&files, asked);
             drop(files);
             write_text(&line_of(&sum), out)
         }
@@ -80,31 +78,31 @@ pub fn run_compact_fingerprint<A: Allocator + Copy, T: Read, D: Read, B: Read, W
 // The fingerprint of compact keys under files that were summed.
 fn compact_fingerprint_of_files<A: Allocator>(
     read: &BookedFiles<A>,
-    asked: Option<Weighting>,
-    depth: Depth,
+    asked: Asked,
 ) -> [u8; 32]
-    ensures { result ≡ compact_fingerprint_under asked depth
+    ensures { result ≡ compact_fingerprint_under asked
         (booked_with (summed_with read.now.files.table (properties_of read.now.files.properties.0, read.now.files.properties.1)) read.now.book) }
 {
     let (_, book_sum) = &read.book;
-    compact_fingerprint_of_sums(&fingerprint_of_files(&read.files, asked, depth), book_sum)
+    compact_fingerprint_of_sums(&fingerprint_of_files(&read.files, asked), book_sum)
 }
 
 // The fingerprint under files that were summed.
 fn fingerprint_of_files<A: Allocator>(
     files: &SummedFiles<A>,
-    asked: Option<Weighting>,
-    depth: Depth,
+    asked: Asked,
 ) -> [u8; 32]
-    ensures { result ≡ fingerprint_under asked depth (summed_with files.now.table (properties_of files.now.properties.0, files.now.properties.1)) }
+    ensures { result ≡ fingerprint_under asked (summed_with files.now.table (properties_of files.now.properties.0, files.now.properties.1)) }
 {
     let (table, table_sum) = &files.table;
     let (_, data_sum) = &files.properties;
-    let weighting = asked.or(table.header.setting).unwrap_or(Weighting::Shifted);
     let settings = Settings {
-        weighting,
-        depth,
-        numbers: Numbers::AsText,
+        weighting: asked
+            .weighting
+            .or(table.header.setting)
+            .unwrap_or(Weighting::Shifted),
+        depth: asked.depth,
+        numbers: asked.numbers,
     };
     fingerprint_of_sums(settings, table_sum, data_sum)
 }

@@ -1,44 +1,33 @@
 -- What a run of compare returns, from what is written of two texts.
 use Rattle.std.proofs.Common.{◌≡◌, ℕ, List, true, false, Option, Result, Ok, Err, OnOk, IfErr, subst, sym}
 use Rattle.std.specs.Io.KnownBytes.{Appends}
+use Rattle.uca_weights.specs.declared.Asked.{Asked}
 use Rattle.uca_weights.specs.Streams.{SinkState}
-use Rattle.uca_weights.specs.declared.Depth.{Depth}
-use Rattle.uca_weights.specs.declared.Weighting.{Weighting}
+use Rattle.uca_text.specs.Limits.{IsAccepted}
 use Rattle.uca_run_parts.specs.declared.faults.RunFault.{RunFault}
 use Rattle.uca_run_parts.specs.declared.faults.RunFault.TheVariants.{File, Input, StoredKey, Write, Memory, Text, Tailor, Changes, CertificateWrite, Open, SameAs, Words}
-use Rattle.uca_order.specs.Keyings.{as_text, Keying, keying, bytes_compared}
+use Rattle.uca_order.specs.Keyings.{Keying, keying, bytes_compared, text_of}
 use Rattle.uca_run_parts.specs.Files.{TableAndData}
 use Rattle.uca_run_parts.specs.Runs.{FailsToWrite, PartWentOut}
-use Rattle.uca_key_runs.specs.CompareRun.{IsWithinLimits, RefusesWord, WritesComparison, RunsCompare, comparison_line}
+use Rattle.uca_key_runs.specs.CompareRun.{WritesComparison, RunsCompare, comparison_line}
 
 -- what is written where both texts are within the limits
 pub writes_line : (c : Keying) (left right : List ℕ) (begun now : Option (List ℕ)) (text : List ℕ) (result : Result (Unit {0}) RunFault)
-    → IsWithinLimits c.collation.properties left → IsWithinLimits c.collation.properties right → text ≡ comparison_line (bytes_compared c left right)
+    → IsAccepted (text_of c left) × IsAccepted (text_of c right) → text ≡ comparison_line (bytes_compared c left right)
     → OnOk result (Appends begun now text) → IfErr result (FailsToWrite Write begun now text) → WritesComparison c left right begun now result
-writes_line c left right begun now text (Ok x) one other same written failed = (one, other, subst (Appends begun now) same written)
-writes_line c left right begun now text (Err fault) one other same written failed =
+writes_line c left right begun now text (Ok x) both same written failed = (both.0, both.1, subst (Appends begun now) same written)
+writes_line c left right begun now text (Err fault) both same written failed =
     subst (λ f. WritesComparison {A = Unit {0}} c left right begun now (Err f)) (sym failed.1)
-    (one, other, subst (λ t. PartWentOut begun now t failed.0) same failed.2)
-
--- where the left text is not
-pub left_refused : (c : Keying) (left right : List ℕ) (begun now : Option (List ℕ)) (fault : RunFault) → RefusesWord c.collation.properties false left fault
-    → WritesComparison {A = Unit {0}} c left right begun now (Err fault)
-left_refused c left right begun now fault refused = subst (λ f. WritesComparison {A = Unit {0}} c left right begun now (Err f)) (sym refused.1) refused.2
-
--- where the right one is not
-pub right_refused : (c : Keying) (left right : List ℕ) (begun now : Option (List ℕ)) (fault : RunFault) → IsWithinLimits c.collation.properties left
-    → RefusesWord c.collation.properties true right fault → WritesComparison {A = Unit {0}} c left right begun now (Err fault)
-right_refused c left right begun now fault within refused =
-    subst (λ f. WritesComparison {A = Unit {0}} c left right begun now (Err f)) (sym refused.1) (within, refused.2)
+    (both.0, both.1, subst (λ t. PartWentOut begun now t failed.0) same failed.2)
 
 -- what is written of two texts is what a run returns for them
-pub run_compares : (asked : Option Weighting) (depth : Depth) (left right : List ℕ) (out out_new : SinkState) (files : TableAndData) (result : Result (Unit {0}) RunFault)
-    → WritesComparison (keying (as_text asked depth) files.table files.properties) left right out.contents out_new.contents result → RunsCompare asked depth left right out out_new result files
-run_compares asked depth left right out out_new files (Ok x) writes = writes
-run_compares asked depth left right out out_new files (Err fault) writes = by_fault fault writes
+pub run_compares : (asked : Asked) (left right : List ℕ) (out out_new : SinkState) (files : TableAndData) (result : Result (Unit {0}) RunFault)
+    → WritesComparison (keying asked files.table files.properties) left right out.contents out_new.contents result → RunsCompare asked left right out out_new result files
+run_compares asked left right out out_new files (Ok x) writes = writes
+run_compares asked left right out out_new files (Err fault) writes = by_fault fault writes
   where
-    by_fault : (fault : RunFault) → WritesComparison {A = Unit {0}} (keying (as_text asked depth) files.table files.properties) left right out.contents out_new.contents (Err fault)
-        → RunsCompare {A = Unit {0}} asked depth left right out out_new (Err fault) files
+    by_fault : (fault : RunFault) → WritesComparison {A = Unit {0}} (keying asked files.table files.properties) left right out.contents out_new.contents (Err fault)
+        → RunsCompare {A = Unit {0}} asked left right out out_new (Err fault) files
     by_fault (File role cause) writes = writes
     by_fault (Input line kind) writes = writes
     by_fault (StoredKey line kind) writes = writes

@@ -6,11 +6,10 @@ use Rattle.std.specs.Io.KnownBytes.{Appends}
 use Rattle.std.proofs.KnownBytes.{Appends-trans}
 use Rattle.std.proofs.Math.Seq.{take-append-add}
 use Rattle.std.proofs.lemmas.List.{length-append, take-append-le}
-use Rattle.uca_weights.specs.declared.Depth.{Depth}
+use Rattle.uca_weights.specs.declared.Asked.{Asked}
 use Rattle.uca_weights.specs.declared.Settings.{Settings}
-use Rattle.uca_weights.specs.declared.Weighting.{Weighting}
 use Rattle.uca_weights.specs.Streams.{SourceState, SinkState}
-use Rattle.uca_values.specs.Content.{Properties}
+use Rattle.uca_text.specs.Texts.{NfdText}
 use Rattle.uca_fingerprint.specs.Fingerprints.{compact_fingerprint_text, fingerprint_text}
 use Rattle.uca_fingerprint.specs.KeyHeaders.{compact_header, key_header}
 use Rattle.uca_books.specs.Books.{BookContent}
@@ -22,7 +21,7 @@ use Rattle.uca_run_parts.specs.EachLine.{WritesEach, ended_before_input}
 use Rattle.uca_run_parts.specs.Input.{clean_lines}
 use Rattle.uca_run_parts.specs.Runs.{FailsToWrite, ended_by_output, is_input_read}
 use Rattle.uca_fingerprint_runs.specs.SummedFiles.{BookedContent, SummedContent}
-use Rattle.uca_order.specs.Keyings.{as_text, settings_by, Keying, keying}
+use Rattle.uca_order.specs.Keyings.{settings_by, Keying, keying, text_of}
 use Rattle.uca_key_runs.specs.inside.HeadedParts.{ended_after}
 use Rattle.uca_key_runs.specs.HeadedRun.{RunsHeaded, WritesHeaded, header_under}
 use Rattle.uca_key_runs.specs.HeadedCompactRun.{RunsHeadedCompact, compact_header_under}
@@ -70,74 +69,74 @@ module _ {A : Type 0} (first : ℕ) where
 
 -- ---- The bytes that went out
 
-module _ (header : List ℕ) (properties : Properties) (bytes_of : List ℕ → List ℕ) where
+module _ (header : List ℕ) (read_of : List ℕ → NfdText) (bytes_of : List ℕ → List ℕ) where
   -- the header went out, and then so much of the lines
   headed_bytes : {A : Type 0} (bytes : List ℕ) (left begun mid now : Option (List ℕ)) (end : Result A RunFault) → Appends begun mid header
-      → WritesEach properties bytes_of bytes left mid now end → WritesHeaded header properties bytes_of bytes left begun now (ended_after (length header) end)
+      → WritesEach read_of bytes_of bytes left mid now end → WritesHeaded header read_of bytes_of bytes left begun now (ended_after (length header) end)
   headed_bytes bytes left begun mid now (Ok x) first writes = (writes.0, Appends-trans begun mid now header _ first writes.1)
   headed_bytes bytes left begun mid now (Err (Input number kind)) first writes = (writes.0, writes.1, Appends-trans begun mid now header _ first writes.2)
   headed_bytes bytes left begun mid now (Err (Write written)) first writes =
-      let text = flat_map bytes_of (clean_lines properties (lines_of bytes)) in
+      let text = flat_map bytes_of (clean_lines read_of (lines_of bytes)) in
       (length header + written, (subst (Appends begun now) (sym (take-append-add header text written)) (Appends-trans begun mid now header _ first writes.0), more_went_out header text written writes.1), refl)
   headed_bytes bytes left begun mid now (Err _) first writes = absurd writes
 
   pub headed : {A : Type 0} (known left begun mid now : Option (List ℕ)) (end : Result A RunFault) → Appends begun mid header
-      → IfSome known (λ bytes. WritesEach properties bytes_of bytes left mid now end)
-      → IfSome known (λ bytes. WritesHeaded header properties bytes_of bytes left begun now (ended_after (length header) end))
+      → IfSome known (λ bytes. WritesEach read_of bytes_of bytes left mid now end)
+      → IfSome known (λ bytes. WritesHeaded header read_of bytes_of bytes left begun now (ended_after (length header) end))
   headed None left begun mid now end first writes = tt
   headed (Some bytes) left begun mid now end first writes = headed_bytes bytes left begun mid now end first writes
 
   -- a part of the header went out
   part_bytes : (bytes : List ℕ) (left begun now : Option (List ℕ)) (fault : RunFault) → length header ≤ 128
-      → FailsToWrite Write begun now header fault → WritesHeaded {A = Unit {0}} header properties bytes_of bytes left begun now (Err fault)
+      → FailsToWrite Write begun now header fault → WritesHeaded {A = Unit {0}} header read_of bytes_of bytes left begun now (Err fault)
   part_bytes bytes left begun now fault short failed =
       let written = failed.0 in
-      let text = flat_map bytes_of (clean_lines properties (lines_of bytes)) in
-      subst (λ f. WritesHeaded {A = Unit {0}} header properties bytes_of bytes left begun now (Err f)) (sym failed.1)
+      let text = flat_map bytes_of (clean_lines read_of (lines_of bytes)) in
+      subst (λ f. WritesHeaded {A = Unit {0}} header read_of bytes_of bytes left begun now (Err f)) (sym failed.1)
       (written, (subst (Appends begun now) (sym (take-append-le written header text (omega (arith, failed.2.1)))) failed.2.0, less_of_more header text written failed.2.1), count_is_small written (length header) failed.2.1 short)
 
   pub part_of_header : (known left begun now : Option (List ℕ)) (fault : RunFault) → length header ≤ 128
-      → FailsToWrite Write begun now header fault → IfSome known (λ bytes. WritesHeaded {A = Unit {0}} header properties bytes_of bytes left begun now (Err fault))
+      → FailsToWrite Write begun now header fault → IfSome known (λ bytes. WritesHeaded {A = Unit {0}} header read_of bytes_of bytes left begun now (Err fault))
   part_of_header None left begun now fault short failed = tt
   part_of_header (Some bytes) left begun now fault short failed = part_bytes bytes left begun now fault short failed
 
 -- ---- Whole runs
 
 -- a run that ended by its lines lacked no memory for rows
-pub headed_under : {A : Type 0} (bytes_of : Keying → List ℕ → List ℕ) (asked : Option Weighting) (depth : Depth) (input input_new : SourceState) (out out_new : SinkState)
+pub headed_under : {A : Type 0} (bytes_of : Keying → List ℕ → List ℕ) (asked : Asked) (input input_new : SourceState) (out out_new : SinkState)
     (result : Result A RunFault) (files : SummedContent) → ended_before_input result ≡ false
-    → IfSome input.remaining (λ bytes. WritesHeaded (header_under asked depth files) files.properties (bytes_of (keying (as_text asked depth) files.table files.properties)) bytes input_new.remaining out.contents out_new.contents result)
-    → RunsHeaded bytes_of asked depth input input_new out out_new result files
-headed_under bytes_of asked depth input input_new out out_new (Ok x) files lines runs = runs
-headed_under bytes_of asked depth input input_new out out_new (Err Memory) files lines runs = let never : ⊥ = cc in absurd never
-headed_under bytes_of asked depth input input_new out out_new (Err _) files lines runs = runs
+    → IfSome input.remaining (λ bytes. WritesHeaded (header_under asked files) (text_of (keying asked files.table files.properties)) (bytes_of (keying asked files.table files.properties)) bytes input_new.remaining out.contents out_new.contents result)
+    → RunsHeaded bytes_of asked input input_new out out_new result files
+headed_under bytes_of asked input input_new out out_new (Ok x) files lines runs = runs
+headed_under bytes_of asked input input_new out out_new (Err Memory) files lines runs = let never : ⊥ = cc in absurd never
+headed_under bytes_of asked input input_new out out_new (Err _) files lines runs = runs
 
 -- the header that is made of the sums of the files
-pub header_made : (asked : Option Weighting) (depth : Depth) (settings : Settings) (files : SummedContent) (sum header : List ℕ)
-    → settings ≡ settings_by (as_text asked depth) files.table.header.setting → sum ≡ sha256 (fingerprint_text settings files.table_sum files.data_sum)
-    → header ≡ key_header settings sum ++ 10 ∷ [] → header ≡ header_under asked depth files
-header_made asked depth settings files sum header chosen is made =
+pub header_made : (asked : Asked) (settings : Settings) (files : SummedContent) (sum header : List ℕ)
+    → settings ≡ settings_by asked files.table.header.setting → sum ≡ sha256 (fingerprint_text settings files.table_sum files.data_sum)
+    → header ≡ key_header settings sum ++ 10 ∷ [] → header ≡ header_under asked files
+header_made asked settings files sum header chosen is made =
     made ∙ ap (λ s. ended (key_header settings s)) is
     ∙ ap (λ s. ended (key_header s (sha256 (fingerprint_text s files.table_sum files.data_sum)))) chosen
 
 -- ---- Compact keys
 
 -- so did one of compact keys
-pub headed_compact_under : {A : Type 0} (bytes_of : BookContent → Keying → List ℕ → List ℕ) (asked : Option Weighting) (depth : Depth) (input input_new : SourceState)
+pub headed_compact_under : {A : Type 0} (bytes_of : BookContent → Keying → List ℕ → List ℕ) (asked : Asked) (input input_new : SourceState)
     (out out_new : SinkState) (result : Result A RunFault) (content : BookedContent) → ended_before_input result ≡ false
-    → IfSome input.remaining (λ bytes. WritesHeaded (compact_header_under asked depth content) content.files.properties
-    (bytes_of content.book (keying (as_text asked depth) content.files.table content.files.properties)) bytes input_new.remaining out.contents out_new.contents result)
-    → RunsHeadedCompact bytes_of asked depth input input_new out out_new result content
-headed_compact_under bytes_of asked depth input input_new out out_new (Ok x) content lines runs = runs
-headed_compact_under bytes_of asked depth input input_new out out_new (Err Memory) content lines runs = let never : ⊥ = cc in absurd never
-headed_compact_under bytes_of asked depth input input_new out out_new (Err _) content lines runs = runs
+    → IfSome input.remaining (λ bytes. WritesHeaded (compact_header_under asked content) (text_of (keying asked content.files.table content.files.properties))
+    (bytes_of content.book (keying asked content.files.table content.files.properties)) bytes input_new.remaining out.contents out_new.contents result)
+    → RunsHeadedCompact bytes_of asked input input_new out out_new result content
+headed_compact_under bytes_of asked input input_new out out_new (Ok x) content lines runs = runs
+headed_compact_under bytes_of asked input input_new out out_new (Err Memory) content lines runs = let never : ⊥ = cc in absurd never
+headed_compact_under bytes_of asked input input_new out out_new (Err _) content lines runs = runs
 
 -- the header that is made of the sums of the files and of the book
-pub compact_header_made : (asked : Option Weighting) (depth : Depth) (settings : Settings) (content : BookedContent) (keys_sum sum header : List ℕ)
-    → settings ≡ settings_by (as_text asked depth) content.files.table.header.setting
+pub compact_header_made : (asked : Asked) (settings : Settings) (content : BookedContent) (keys_sum sum header : List ℕ)
+    → settings ≡ settings_by asked content.files.table.header.setting
     → keys_sum ≡ sha256 (fingerprint_text settings content.files.table_sum content.files.data_sum)
     → sum ≡ sha256 (compact_fingerprint_text keys_sum content.book_sum) → header ≡ compact_header settings sum ++ 10 ∷ []
-    → header ≡ compact_header_under asked depth content
-compact_header_made asked depth settings content keys_sum sum header chosen keys is made =
+    → header ≡ compact_header_under asked content
+compact_header_made asked settings content keys_sum sum header chosen keys is made =
     made ∙ ap (λ s. ended (compact_header settings s)) (is ∙ ap (λ k. sha256 (compact_fingerprint_text k content.book_sum)) keys)
     ∙ ap (λ s. ended (compact_header s (sha256 (compact_fingerprint_text (sha256 (fingerprint_text s content.files.table_sum content.files.data_sum)) content.book_sum)))) chosen

@@ -1,6 +1,8 @@
 -- The line of output of a line, by its key and by the code points that are printed.
-use Rattle.std.proofs.Common.{◌≡◌, ℕ, ◌^◌, ◌<◌, ◌≤◌, true, List, Option, length, chars, refl, ap, ◌∙◌}
-use Rattle.unicode_normalization.specs.Forms.{nfd}
+use Rattle.std.proofs.Common.{◌≡◌, ℕ, ◌^◌, ◌<◌, ◌≤◌, true, List, [], Option, length, chars, refl, ap, arith, ◌∙◌}
+use Rattle.std.specs.Str.{IsUtf8}
+use Rattle.unicode_normalization.specs.Forms.{nfd, Nfd}
+use Rattle.unicode_normalization.proofs.LengthLemmas.{length-normalize-chars}
 use Rattle.uca_weights.specs.declared.Depth.{Depth}
 use Rattle.uca_weights.specs.declared.Depth.TheVariants.{Weights, Identical}
 use Rattle.uca_weights.specs.declared.Settings.{Settings}
@@ -33,8 +35,17 @@ line_made form book depth collation made key points line is at shown =
     ∙ same_printed form depth (shown_at book (depth_as form depth) made.weighting text) points text.points line shown
 
 -- a line of each form is short
-pub printed_is_short : (form : KeyForm) (depth : Depth) (key points line : List ℕ) → length key < 2 ^ 41 → length points ≤ 1048576 → length line ≤ 4194304
-    → length (printed_as form depth key points line) < 2 ^ 43
-printed_is_short Alone depth key points line short few line_short = line_is_short depth key points short few
+pub printed_is_short : (form : KeyForm) (depth : Depth) (key points line : List ℕ) → length key < 2 ^ 41 → (shows_points form depth ≡ true → length points ≤ 2 ^ 23)
+    → length line ≤ 4194304 → length (printed_as form depth key points line) < 2 ^ 43
+printed_is_short Alone Weights key points line short few line_short = line_is_short Weights key [] short (omega arith)
+printed_is_short Alone Identical key points line short few line_short = line_is_short Identical key points short (few refl)
 printed_is_short Digits depth key points line short few line_short = digits_are_short key short
 printed_is_short BeforeLine depth key points line short few line_short = keyed_is_short key line short line_short
+
+-- a line has at most two code points for each byte, in Normalization Form D
+pub few_points : (points text : List ℕ) → IsUtf8 text → length text ≤ 4194304 → points ≡ nfd (chars text) → length points ≤ 2 ^ 23
+few_points points text utf8 short are = omega (arith, length-normalize-chars Nfd text utf8, ap length are, short)
+
+-- a line is shorter than the texts whose keys have a known length
+pub short_line : (text line : List ℕ) → text ≡ line → length line ≤ 4194304 → length text < 2 ^ 36
+short_line text line same short = omega (arith, ap length same, short)

@@ -2,6 +2,7 @@ pub mod Keyings
 pub mod Rows
 pub mod KeyLines
 pub mod LineLaws
+pub mod WrittenScalars
 pub mod NormalLines
 pub mod UntouchedLines
 pub mod OneOrder

@@ -1,4 +1,4 @@
--- The text of a line without an error is in Normalization Form D, within the limits, and of Unicode scalar values.
+-- What is read of a line without an error is in Normalization Form D, within the limits, and of Unicode scalar values.
 use Rattle.std.proofs.Common.{◌≡◌, ℕ, ◌≤◌, Bool, true, false, List, [], ◌∷◌, length, chars, Option, Some, None, option_map, nat_lt, nat_le, refl}
 use Rattle.std.proofs.lemmas.Bool.{and_parts, ltb-false}
 use Rattle.std.proofs.lemmas.List.{length-map}
@@ -9,12 +9,15 @@ use Rattle.std.specs.Str.{IsUtf8, is_utf8}
 use lib.Utf8.{scalar}
 use Rattle.unicode_normalization.specs.Forms.{nfd}
 use Rattle.uca_scalars.proofs.NfdScalars.{nfd_scalars}
+use Rattle.uca_weights.specs.declared.Numbers.{Numbers}
 use Rattle.uca_values.specs.Content.{Properties}
-use Rattle.uca_text.specs.Texts.{NfdText, nfd_text}
+use Rattle.uca_text.specs.Texts.{NfdText}
+use Rattle.uca_order.specs.Depths.{written}
 use Rattle.uca_text.specs.Limits.{IsNormal}
 use Rattle.uca_run_parts.specs.declared.faults.InputKind.TheVariants.{Utf8, TooLong, LongRun, Limit}
-use Rattle.uca_run_parts.specs.Input.{first_long_run, text_cause, cause_of}
+use Rattle.uca_run_parts.specs.Input.{first_long_run, text_cause, cause_of, line_text}
 use Rattle.uca_run_parts.proofs.LongRuns.{none_is_long}
+use Rattle.uca_key_runs.proofs.WrittenScalars.{written_scalars}
 
 each_scalar : (points : List ℕ) → list_all scalar points ≡ true → AllByRecursion IsScalar points
 each_scalar [] all = tt
@@ -23,12 +26,18 @@ each_scalar (c ∷ points) all = let parts = and_parts (scalar c) (list_all scal
 -- ---- A line without an error
 
 -- what its test says
-without : (properties : Properties) (before : ℕ) (line : List ℕ) (limit long text : Bool) → nat_le 1000000 before ≡ limit → nat_lt 4194304 (length line) ≡ long →
-    is_utf8 line ≡ text → cause_of properties before line ≡ None → IsUtf8 line × (text_cause (nfd_text properties (chars line)) ≡ None)
-without properties before line true long text a b c none = let never : Some Limit ≡ None = rw a at none in cc
-without properties before line false true text a b c none = let never : Some TooLong ≡ None = rw (a, b) at none in cc
-without properties before line false false false a b c none = let never : Some Utf8 ≡ None = rw (a, b, c) at none in cc
-without properties before line false false true a b c none = (IsUtf8-from_is_utf8 line c, rw (a, b, c) at none)
+without : (read_of : List ℕ → NfdText) (before : ℕ) (line : List ℕ) (limit long text : Bool) → nat_le 1000000 before ≡ limit → nat_lt 4194304 (length line) ≡ long →
+    is_utf8 line ≡ text → cause_of read_of before line ≡ None → IsUtf8 line × (text_cause (read_of line) ≡ None)
+without read_of before line true long text a b c none = let never : Some Limit ≡ None = rw a at none in cc
+without read_of before line false true text a b c none = let never : Some TooLong ≡ None = rw (a, b) at none in cc
+without read_of before line false false false a b c none = let never : Some Utf8 ≡ None = rw (a, b, c) at none in cc
+without read_of before line false false true a b c none = (IsUtf8-from_is_utf8 line c, rw (a, b, c) at none)
+
+-- its code points in Normalization Form D
+pub line_scalars : (read_of : List ℕ → NfdText) (before : ℕ) (line : List ℕ) → cause_of read_of before line ≡ None → AllByRecursion IsScalar (nfd (chars line))
+line_scalars read_of before line none =
+    let parts = without read_of before line _ _ _ refl refl refl none in
+    each_scalar (nfd (chars line)) (nfd_scalars (chars line) (scalars-chars line parts.0))
 
 -- and the test of its text
 within : (text : NfdText) (long : Bool) → nat_lt 1048576 (length text.points) ≡ long → text_cause text ≡ None →
@@ -41,15 +50,17 @@ within text false a none = (ltb-false 1048576 (length text.points) a, no_run (fi
     no_run None none = refl
     no_run (Some place) none = let never : Some (LongRun place) ≡ None = none in cc
 
-pub normal_line : (properties : Properties) (before : ℕ) (line : List ℕ) → cause_of properties before line ≡ None → IsNormal (nfd_text properties (chars line))
-normal_line properties before line none =
-    let parts = without properties before line _ _ _ refl refl refl none in
-    let limits = within (nfd_text properties (chars line)) _ refl parts.1 in
+pub normal_line : (numbers : Numbers) (properties : Properties) (before : ℕ) (line : List ℕ) → cause_of (line_text numbers properties) before line ≡ None
+    → IsNormal (line_text numbers properties line)
+normal_line numbers properties before line none =
+    let parts = without (line_text numbers properties) before line _ _ _ refl refl refl none in
+    let limits = within (line_text numbers properties line) _ refl parts.1 in
+    let points = written numbers (chars line) in
     record {
       accepted = record {
-        same = length-map (nfd (chars line)) properties.class;
+        same = length-map (nfd points) properties.class;
         few = limits.0;
-        short_runs = none_is_long (nfd_text properties (chars line)).classes limits.1;
+        short_runs = none_is_long (line_text numbers properties line).classes limits.1;
       };
-      scalars = each_scalar (nfd (chars line)) (nfd_scalars (chars line) (scalars-chars line parts.0));
+      scalars = each_scalar (nfd points) (nfd_scalars points (written_scalars numbers (chars line) (scalars-chars line parts.0)));
     }

@@ -1,7 +1,6 @@
 -- What the runs return and write that print compact keys: alone, or each before its line, and with or without a header.
-use Rattle.std.specs.Prelude.{ℕ, List, [], ◌∷◌, Option, Result, chars}
-use Rattle.uca_weights.specs.declared.Depth.{Depth}
-use Rattle.uca_weights.specs.declared.Weighting.{Weighting}
+use Rattle.std.specs.Prelude.{ℕ, List, [], ◌∷◌, Result, chars}
+use Rattle.uca_weights.specs.declared.Asked.{Asked}
 use Rattle.uca_weights.specs.Streams.{SourceState, SinkState}
 use Rattle.uca_values.specs.Content.{Properties, TableContent}
 use Rattle.uca_books.specs.Books.{BookContent}
@@ -54,16 +53,16 @@ compact_roles = roles.Table ∷ roles.Data ∷ roles.Book ∷ []
 -- ---- Runs
 
 -- What a run returns under such files that writes these bytes for a line.
-abbrev pub RunsCompact : {A : Type 0} → (BookContent → Keying → List ℕ → List ℕ) → Option Weighting → Depth → SourceState → SourceState → SinkState → SinkState → Result A RunFault → CompactContent → Type 0
-RunsCompact bytes_of asked depth input input_new out out_new result files =
-    RunsUnder (bytes_of files.book) asked depth input input_new out out_new result (table_with files.table files.properties)
+abbrev pub RunsCompact : {A : Type 0} → (BookContent → Keying → List ℕ → List ℕ) → Asked → SourceState → SourceState → SinkState → SinkState → Result A RunFault → CompactContent → Type 0
+RunsCompact bytes_of asked input input_new out out_new result files =
+    RunsUnder (bytes_of files.book) asked input input_new out out_new result (table_with files.table files.properties)
 
 -- A run of compact keys.
-abbrev pub PrintsCompactKeys : {A : Type 0} → Option Weighting → Depth → List SourceState → List SourceState → SourceState → SourceState → SinkState → SinkState → Result A RunFault → Type 0
-PrintsCompactKeys asked depth olds news input input_new out out_new result =
-    PrintsEach compact_files compact_roles (RunsCompact compact_line asked depth input input_new out out_new result) olds news input input_new out out_new result
+abbrev pub PrintsCompactKeys : {A : Type 0} → Asked → List SourceState → List SourceState → SourceState → SourceState → SinkState → SinkState → Result A RunFault → Type 0
+PrintsCompactKeys asked olds news input input_new out out_new result =
+    PrintsEach compact_files compact_roles (RunsCompact compact_line asked input input_new out out_new result) olds news input input_new out out_new result
 
 -- A run of lines with their compact keys.
-abbrev pub PrintsCompactLines : {A : Type 0} → Option Weighting → Depth → List SourceState → List SourceState → SourceState → SourceState → SinkState → SinkState → Result A RunFault → Type 0
-PrintsCompactLines asked depth olds news input input_new out out_new result =
-    PrintsEach compact_files compact_roles (RunsCompact compact_keyed_line asked depth input input_new out out_new result) olds news input input_new out out_new result
+abbrev pub PrintsCompactLines : {A : Type 0} → Asked → List SourceState → List SourceState → SourceState → SourceState → SinkState → SinkState → Result A RunFault → Type 0
+PrintsCompactLines asked olds news input input_new out out_new result =
+    PrintsEach compact_files compact_roles (RunsCompact compact_keyed_line asked input input_new out out_new result) olds news input input_new out out_new result

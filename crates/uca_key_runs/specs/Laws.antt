@@ -1,15 +1,15 @@
 -- What is true of lines and their keys in all runs.
-use Rattle.std.specs.Prelude.{◌≡◌, ◌↔◌, ℕ, List, Option, None, chars}
-use Rattle.uca_weights.specs.declared.Depth.{Depth}
+use Rattle.std.specs.Prelude.{◌≡◌, ◌↔◌, ℕ, List, None, chars}
+use Rattle.uca_weights.specs.declared.Asked.{Asked}
 use Rattle.uca_weights.specs.declared.Depth.TheVariants.{Identical}
-use Rattle.uca_weights.specs.declared.Weighting.{Weighting}
-use Rattle.uca_text.specs.Texts.{AreCanonicallyEquivalent, nfd_text}
+use Rattle.uca_weights.specs.declared.Numbers.{Numbers}
+use Rattle.uca_text.specs.Texts.{AreCanonicallyEquivalent}
 use Rattle.uca_relations.specs.Relations.{IsUntouched}
 use Rattle.uca_order.specs.Levels.{lexicographic}
 use Rattle.uca_tailorings.specs.Images.{KeepAllWeights}
 use Rattle.uca_tailorings.specs.Tailorings.{Tailoring, IsTailoring, IsAccepted}
-use Rattle.uca_run_parts.specs.Input.{cause_of}
-use Rattle.uca_order.specs.Keyings.{as_text, Keying, keying, key_of_bytes, bytes_compared}
+use Rattle.uca_run_parts.specs.Input.{cause_of, line_text}
+use Rattle.uca_order.specs.Keyings.{Keying, keying, key_of_bytes, bytes_compared}
 use Rattle.uca_key_runs.specs.Keys.{printed_key, IsInKeyOrder}
 
 -- The bytes of the keys of two lines compare as the lines do level by level, and are equal exactly where no level differs.
@@ -35,17 +35,17 @@ KeyOrderIsOne = (c : Keying) (lines left right : List (List ℕ)) → IsInKeyOrd
 -- ---- Lines under a tailored table
 
 -- what lines are keyed by under the base of a tailoring, and under its tailored table
-abbrev pub base_keying : Option Weighting → Depth → Tailoring → Keying
-base_keying asked depth tailoring = keying (as_text asked depth) tailoring.base tailoring.properties
+abbrev pub base_keying : Asked → Tailoring → Keying
+base_keying asked tailoring = keying asked tailoring.base tailoring.properties
 
-abbrev pub tailored_keying : Option Weighting → Depth → Tailoring → Keying
-tailored_keying asked depth tailoring = keying (as_text asked depth) tailoring.tailored tailoring.properties
+abbrev pub tailored_keying : Asked → Tailoring → Keying
+tailored_keying asked tailoring = keying asked tailoring.tailored tailoring.properties
 
--- after this many lines the line has no error, and no target occurs in its text in order
-pub record IsUntouchedLine (tailoring : Tailoring) (line : List ℕ) : Type 0 where
+-- after this many lines the line has no error, and no target occurs in order in what is read of it
+pub record IsUntouchedLine (numbers : Numbers) (tailoring : Tailoring) (line : List ℕ) : Type 0 where
   pub before : ℕ
-  pub faultless : cause_of tailoring.properties before line ≡ None
-  pub untouched : IsUntouched tailoring.relations (nfd_text tailoring.properties (chars line)).points
+  pub faultless : cause_of (line_text numbers tailoring.properties) before line ≡ None
+  pub untouched : IsUntouched tailoring.relations (line_text numbers tailoring.properties line).points
 
 -- Two lines compare alike under both settings, by order and by the level at which they differ, and so do the bytes
 -- of their keys.
@@ -58,15 +58,15 @@ pub record HasOneKey (one other : Keying) (line : List ℕ) : Type 0 where
   pub key : key_of_bytes one line ≡ key_of_bytes other line
   pub printed : printed_key one line ≡ printed_key other line
 
--- A tailoring is accepted, and no target occurs in the texts of some lines. Then these lines have the same order
--- under the tailored table as under the base, at any depth and under any weighting that is asked for. If the maps
--- change no weight, each of them has the same key and the same key line.
-pub record UntouchedLinesStay (tailoring : Tailoring) (asked : Option Weighting) (depth : Depth) : Type 0 where
-  pub alike : (left right : List ℕ) → IsUntouchedLine tailoring left → IsUntouchedLine tailoring right →
-      StandAlike (tailored_keying asked depth tailoring) (base_keying asked depth tailoring) left right
-  pub keys : KeepAllWeights tailoring.maps → (line : List ℕ) → IsUntouchedLine tailoring line →
-      HasOneKey (tailored_keying asked depth tailoring) (base_keying asked depth tailoring) line
+-- A tailoring is accepted, and no target occurs in what is read of some lines. Then these lines have the same order
+-- under the tailored table as under the base, whatever settings are asked for. If the maps change no weight, each of
+-- them has the same key and the same key line.
+pub record UntouchedLinesStay (tailoring : Tailoring) (asked : Asked) : Type 0 where
+  pub alike : (left right : List ℕ) → IsUntouchedLine asked.numbers tailoring left → IsUntouchedLine asked.numbers tailoring right →
+      StandAlike (tailored_keying asked tailoring) (base_keying asked tailoring) left right
+  pub keys : KeepAllWeights tailoring.maps → (line : List ℕ) → IsUntouchedLine asked.numbers tailoring line →
+      HasOneKey (tailored_keying asked tailoring) (base_keying asked tailoring) line
 
 abbrev pub UntouchedLinesKeepTheirOrder : Type 0
 UntouchedLinesKeepTheirOrder = (tailoring : Tailoring) → IsTailoring tailoring → IsAccepted tailoring →
-    (asked : Option Weighting) (depth : Depth) → UntouchedLinesStay tailoring asked depth
+    (asked : Asked) → UntouchedLinesStay tailoring asked

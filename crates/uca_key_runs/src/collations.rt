@@ -20,7 +20,7 @@ use uca_match::{OwnedCollation, Trie};
 use uca_order::laws::rows_are_short;
 use uca_run_parts::RunFault;
 use uca_values::{Data, Header, PackedTable};
-use uca_weights::{Depth, Numbers, Settings, Source, Weighting};
+use uca_weights::{Asked, Depth, Numbers, Settings, Source, Weighting};
 
 /// What keys go by: what texts are read by, and settings.
 #[derive(Drop)]
@@ -41,12 +41,11 @@ pub(crate) fn read_collation<A: Allocator + Copy, T: Read, D: Read>(
     alloc: A,
     table: &mut Source<T>,
     properties: &mut Source<D>,
-    weighting: Option<Weighting>,
-    depth: Depth,
+    asked: Asked,
 ) -> Result<ReadCollation<A>, RunFault>
     ensures read { Over table_and_data (table.old ∷ properties.old ∷ []) (table.new ∷ properties.new ∷ [])
         (λ content. MatchResult result
-        (λ read. IsCollation weighting depth (owned_collation read.collation) read.settings content)
+        (λ read. IsCollation asked (owned_collation read.collation) read.settings content)
         (λ fault. fault ≡ RunFault.Memory)) result }
     ensures short { IfOk result (λ read. HasShortRows (owned_collation read.collation).rows) }
     ensures before_input { IfErr result (λ _. ended_before_input result ≡ true) }
@@ -54,7 +53,7 @@ pub(crate) fn read_collation<A: Allocator + Copy, T: Read, D: Read>(
         (table.new ∷ properties.new ∷ []) result }
 {
     match read_packed_files(alloc, table, properties) {
-        Ok(files) => collation_of(alloc, files.0, files.1, weighting, depth),
+        Ok(files) => collation_of(alloc, files.0, files.1, asked),
         Err(fault) => Err(fault),
     }
 }
@@ -69,17 +68,16 @@ pub(crate) fn collation_of<A: Allocator + Copy>(
     alloc: A,
     table: PackedTable<A>,
     properties: Data<A>,
-    asked: Option<Weighting>,
-    depth: Depth,
+    asked: Asked,
 ) -> Result<ReadCollation<A>, RunFault>
-    ensures made { IfOk result (λ read. IsCollation asked depth (owned_collation read.collation) read.settings
+    ensures made { IfOk result (λ read. IsCollation asked (owned_collation read.collation) read.settings
         (table_with table (properties_of properties))) }
     ensures short { IfOk result (λ read. HasShortRows (owned_collation read.collation).rows) }
     ensures refused { IfErr result (λ fault. fault ≡ RunFault.Memory) }
 {
     match rows_of_table(alloc, table) {
         Ok((header, rows)) => Ok(ReadCollation {
-            settings: chosen_settings(asked, &header, depth),
+            settings: chosen_settings(asked, &header),
             collation: OwnedCollation {
                 rows,
                 header,
@@ -112,17 +110,27 @@ fn rows_of_table<A: Allocator + Copy>(
     }
 }
 
-// The depth, and the weighting that is asked for, or else that of the table's `@variable`, or else shifted (UTS #10,
-// section 4).
-fn chosen_settings<A: Allocator>(
-    asked: Option<Weighting>,
-    header: &Header<A>,
-    depth: Depth,
-) -> Settings
-    ensures { result ≡ settings_by (as_text asked depth) header.now.setting }
+// The settings that are asked for. The weighting is the one that is asked for, or else that of the table's `@variable`,
+// or else shifted (UTS #10, section 4).
+fn chosen_settings<A: Allocator>(asked: Asked, header: &Header<A>) -> Settings
+    ensures { result ≡ settings_by asked header.now.setting }
 {
     Settings {
-        weighting: asked.or(header.setting).unwrap_or(Weighting::Shifted),
+        weighting: asked
+            .weighting
+            .or(header.setting)
+            .unwrap_or(Weighting::Shifted),
+        depth: asked.depth,
+        numbers: asked.numbers,
+    }
+}
+
+/// What is asked for where numbers compare as any other text.
+pub(crate) fn asked_as_text(weighting: Option<Weighting>, depth: Depth) -> Asked
+    ensures { result ≡ as_text weighting depth }
+{
+    Asked {
+        weighting,
         depth,
         numbers: Numbers::AsText,
     }

@@ -19,7 +19,7 @@ use std::io::{Read, Write};
 use uca_books::Book;
 use uca_run_parts::{RunFault, read_book_file};
 use uca_values::{Data, PackedTable};
-use uca_weights::{Depth, Sink, Source, Weighting};
+use uca_weights::{Asked, Sink, Source};
 
 // Reads the table, then the data file, and then the book, each to its end or its first error.
 fn read_compact_files<A: Allocator + Copy, T: Read, D: Read, B: Read>(
@@ -47,16 +47,15 @@ fn read_compact_files<A: Allocator + Copy, T: Read, D: Read, B: Read>(
 fn compact_collation<A: Allocator + Copy>(
     alloc: A,
     files: (PackedTable<A>, Data<A>, Book<A>),
-    weighting: Option<Weighting>,
-    depth: Depth,
+    asked: Asked,
 ) -> Result<(ReadCollation<A>, Book<A>), RunFault>
-    ensures made { IfOk result (λ made. IsCompactBy weighting depth (owned_collation made.0.collation) made.0.settings made.1
+    ensures made { IfOk result (λ made. IsCompactBy asked (owned_collation made.0.collation) made.0.settings made.1
         (compact_with files.0 (properties_of files.1) files.2)) }
     ensures short { IfOk result (λ made. HasShortRows (owned_collation made.0.collation).rows) }
     ensures refused { IfErr result (λ fault. fault ≡ RunFault.Memory) }
 {
     let (table, properties, book) = files;
-    match collation_of(alloc, table, properties, weighting, depth) {
+    match collation_of(alloc, table, properties, asked) {
         Ok(read) => Ok((read, book)),
         Err(fault) => {
             drop(book);
@@ -71,12 +70,11 @@ fn read_compact<A: Allocator + Copy, T: Read, D: Read, B: Read>(
     table: &mut Source<T>,
     properties: &mut Source<D>,
     book: &mut Source<B>,
-    weighting: Option<Weighting>,
-    depth: Depth,
+    asked: Asked,
 ) -> Result<(ReadCollation<A>, Book<A>), RunFault>
     ensures read { Over compact_files (table.old ∷ properties.old ∷ book.old ∷ []) (table.new ∷ properties.new ∷ book.new ∷ [])
         (λ content. MatchResult result
-        (λ made. IsCompactBy weighting depth (owned_collation made.0.collation) made.0.settings made.1 content)
+        (λ made. IsCompactBy asked (owned_collation made.0.collation) made.0.settings made.1 content)
         (λ fault. fault ≡ RunFault.Memory)) result }
     ensures short { IfOk result (λ made. HasShortRows (owned_collation made.0.collation).rows) }
     ensures before_input { IfErr result (λ _. ended_before_input result ≡ true) }
@@ -84,7 +82,7 @@ fn read_compact<A: Allocator + Copy, T: Read, D: Read, B: Read>(
         (table.new ∷ properties.new ∷ book.new ∷ []) result }
 {
     match read_compact_files(alloc, table, properties, book) {
-        Ok(files) => compact_collation(alloc, files, weighting, depth),
+        Ok(files) => compact_collation(alloc, files, asked),
         Err(fault) => Err(fault),
     }
 }
@@ -99,13 +97,12 @@ fn run_compact_in<A: Allocator + Copy, T: Read, D: Read, B: Read, I: Read, W: Wr
     book: &mut Source<B>,
     input: &mut Source<I>,
     out: &mut Sink<W>,
-    weighting: Option<Weighting>,
-    depth: Depth,
+    asked: Asked,
 ) -> Result<(), RunFault>
-    ensures { PrintsCompactAs form weighting depth (table.old ∷ properties.old ∷ book.old ∷ []) (table.new ∷ properties.new ∷ book.new ∷ [])
+    ensures { PrintsCompactAs form asked (table.old ∷ properties.old ∷ book.old ∷ []) (table.new ∷ properties.new ∷ book.new ∷ [])
         input.old input.new out.old out.new result }
 {
-    match read_compact(alloc, table, properties, book, weighting, depth) {
+    match read_compact(alloc, table, properties, book, asked) {
         Ok((read, book)) => {
             let collator = read.collation.collator();
             let by = Some(book);
@@ -113,8 +110,7 @@ fn run_compact_in<A: Allocator + Copy, T: Read, D: Read, B: Read, I: Read, W: Wr
                 alloc,
                 global,
                 &collator,
-                read.settings.weighting,
-                read.settings.depth,
+                read.settings,
                 form,
                 by,
                 input,
@@ -150,15 +146,14 @@ pub fn run_compact_keys<A: Allocator + Copy, T: Read, D: Read, B: Read, I: Read,
     book: &mut Source<B>,
     input: &mut Source<I>,
     out: &mut Sink<W>,
-    weighting: Option<Weighting>,
-    depth: Depth,
+    asked: Asked,
 ) -> Result<(), RunFault>
-    ensures { PrintsCompactKeys weighting depth (table.old ∷ properties.old ∷ book.old ∷ []) (table.new ∷ properties.new ∷ book.new ∷ [])
+    ensures { PrintsCompactKeys asked (table.old ∷ properties.old ∷ book.old ∷ []) (table.new ∷ properties.new ∷ book.new ∷ [])
         input.old input.new out.old out.new result }
 {
     let form = KeyForm::Digits;
     run_compact_in(
-        alloc, global, form, table, properties, book, input, out, weighting, depth,
+        alloc, global, form, table, properties, book, input, out, asked,
     )
 }
 
@@ -175,14 +170,13 @@ pub fn run_compact_lines<A: Allocator + Copy, T: Read, D: Read, B: Read, I: Read
     book: &mut Source<B>,
     input: &mut Source<I>,
     out: &mut Sink<W>,
-    weighting: Option<Weighting>,
-    depth: Depth,
+    asked: Asked,
 ) -> Result<(), RunFault>
-    ensures { PrintsCompactLines weighting depth (table.old ∷ properties.old ∷ book.old ∷ []) (table.new ∷ properties.new ∷ book.new ∷ [])
+    ensures { PrintsCompactLines asked (table.old ∷ properties.old ∷ book.old ∷ []) (table.new ∷ properties.new ∷ book.new ∷ [])
         input.old input.new out.old out.new result }
 {
     let form = KeyForm::BeforeLine;
     run_compact_in(
-        alloc, global, form, table, properties, book, input, out, weighting, depth,
+        alloc, global, form, table, properties, book, input, out, asked,
     )
 }

@@ -11,8 +11,7 @@ ghost use Rattle.uca_run_parts.specs.Files.{HaveFailed, Over, table_and_data_rol
 ghost use Rattle.uca_run_parts.specs.Runs.{is_input_read, ended_by_output};
 ghost use Rattle.uca_run_parts.specs.EachLine.{ended_before_input};
 ghost use Rattle.uca_fingerprint_runs.specs.SummedFiles.{summed_files, summed_with};
-ghost use Rattle.uca_order.specs.Keyings.{keying_of};
-ghost use Rattle.uca_key_runs.specs.Keys.{settings_as_text};
+ghost use Rattle.uca_order.specs.Keyings.{keying_of, text_of};
 ghost use Rattle.uca_key_runs.specs.HeadedRun.{PrintsHeadedKeys, PrintsHeadedLines, WritesHeaded};
 ghost use Rattle.uca_key_runs.specs.inside.HeadedParts.{IsHeaded, PrintsHeadedAs, ended_after};
 ghost use Rattle.uca_key_runs.specs.inside.KeyForms.{line_as};
@@ -27,7 +26,7 @@ use uca_fingerprint::{KeyHeader, fingerprint_of_sums};
 use uca_fingerprint_runs::summed_files::{SummedFiles, read_summed_files};
 use uca_run_parts::faults::RunFault;
 use uca_run_parts::output::write_text;
-use uca_weights::{Depth, Sink, Source, Weighting};
+use uca_weights::{Asked, Settings, Sink, Source};
 
 // How a run ends that wrote a header first: an error of the writer counts its bytes too.
 fn after_header(header: &[u8], end: Result<(), RunFault>) -> Result<(), RunFault>
@@ -52,8 +51,7 @@ pub(crate) fn print_headed<L: Lookup, T: Allocator, A: Allocator + Copy, I: Read
     alloc: A,
     global: Global,
     collator: &Collator<L, T>,
-    weighting: Weighting,
-    depth: Depth,
+    settings: Settings,
     form: KeyForm,
     book: Option<Book<A>>,
     header: &[u8],
@@ -63,8 +61,8 @@ pub(crate) fn print_headed<L: Lookup, T: Allocator, A: Allocator + Copy, I: Read
     requires rows { HasShortRows (collation_of L.content collator.now).rows }
     requires short { length header.now ≤ 128 }
     ensures writes { IfSome input.old.remaining (λ bytes.
-        let c = keying_of L.content collator.now (settings_as_text weighting depth) in
-        WritesHeaded header.now c.collation.properties (line_as form book c) bytes input.new.remaining out.old.contents out.new.contents result) }
+        let c = keying_of L.content collator.now settings in
+        WritesHeaded header.now (text_of c) (line_as form book c) bytes input.new.remaining out.old.contents out.new.contents result) }
     ensures of_lines { ended_before_input result ≡ false }
     ensures input_failed { ended_by_output result ≡ false →
         input.new.failed ≡ (input.old.failed || is_input_read result) }
@@ -72,9 +70,7 @@ pub(crate) fn print_headed<L: Lookup, T: Allocator, A: Allocator + Copy, I: Read
 {
     match write_text(header, out) {
         Ok(()) => {
-            let end = print_lines(
-                alloc, global, collator, weighting, depth, form, book, input, out,
-            );
+            let end = print_lines(alloc, global, collator, settings, form, book, input, out);
             after_header(header, end)
         }
         Err(fault) => {
@@ -88,10 +84,9 @@ pub(crate) fn print_headed<L: Lookup, T: Allocator, A: Allocator + Copy, I: Read
 fn headed_collation<A: Allocator + Copy>(
     alloc: A,
     files: SummedFiles<A>,
-    asked: Option<Weighting>,
-    depth: Depth,
+    asked: Asked,
 ) -> Result<(ReadCollation<A>, KeyHeader), RunFault>
-    ensures made { IfOk result (λ made. IsHeaded asked depth (owned_collation made.0.collation) made.0.settings made.1
+    ensures made { IfOk result (λ made. IsHeaded asked (owned_collation made.0.collation) made.0.settings made.1
         (summed_with files.table (properties_of files.properties.0, files.properties.1))) }
     ensures short { IfOk result (λ made. HasShortRows (owned_collation made.0.collation).rows) }
     ensures refused { IfErr result (λ fault. fault ≡ RunFault.Memory) }
@@ -99,7 +94,7 @@ fn headed_collation<A: Allocator + Copy>(
     let SummedFiles { table, properties } = files;
     let (table, table_sum) = table;
     let (properties, data_sum) = properties;
-    match collation_of(alloc, table, properties, asked, depth) {
+    match collation_of(alloc, table, properties, asked) {
         Ok(read) => {
             let sum = fingerprint_of_sums(read.settings, &table_sum, &data_sum);
             let header = KeyHeader::ended(read.settings, &sum);
@@ -114,12 +109,11 @@ fn read_headed<A: Allocator + Copy, T: Read, D: Read>(
     alloc: A,
     table: &mut Source<T>,
     properties: &mut Source<D>,
-    asked: Option<Weighting>,
-    depth: Depth,
+    asked: Asked,
 ) -> Result<(ReadCollation<A>, KeyHeader), RunFault>
     ensures read { Over summed_files (table.old ∷ properties.old ∷ []) (table.new ∷ properties.new ∷ [])
         (λ content. MatchResult result
-        (λ made. IsHeaded asked depth (owned_collation made.0.collation) made.0.settings made.1 content)
+        (λ made. IsHeaded asked (owned_collation made.0.collation) made.0.settings made.1 content)
         (λ fault. fault ≡ RunFault.Memory)) result }
     ensures short { IfOk result (λ made. HasShortRows (owned_collation made.0.collation).rows) }
     ensures before_input { IfErr result (λ _. ended_before_input result ≡ true) }
@@ -127,7 +121,7 @@ fn read_headed<A: Allocator + Copy, T: Read, D: Read>(
         (table.new ∷ properties.new ∷ []) result }
 {
     match read_summed_files(alloc, table, properties) {
-        Ok(files) => headed_collation(alloc, files, asked, depth),
+        Ok(files) => headed_collation(alloc, files, asked),
         Err(fault) => Err(fault),
     }
 }
@@ -141,13 +135,12 @@ fn run_headed_in<A: Allocator + Copy, T: Read, D: Read, I: Read, W: Write>(
     properties: &mut Source<D>,
     input: &mut Source<I>,
     out: &mut Sink<W>,
-    weighting: Option<Weighting>,
-    depth: Depth,
+    asked: Asked,
 ) -> Result<(), RunFault>
-    ensures { PrintsHeadedAs form weighting depth (table.old ∷ properties.old ∷ []) (table.new ∷ properties.new ∷ [])
+    ensures { PrintsHeadedAs form asked (table.old ∷ properties.old ∷ []) (table.new ∷ properties.new ∷ [])
         input.old input.new out.old out.new result }
 {
-    match read_headed(alloc, table, properties, weighting, depth) {
+    match read_headed(alloc, table, properties, asked) {
         Ok((read, header)) => {
             let collator = read.collation.collator();
             let settings = read.settings;
@@ -156,8 +149,7 @@ fn run_headed_in<A: Allocator + Copy, T: Read, D: Read, I: Read, W: Write>(
                 alloc,
                 global,
                 &collator,
-                settings.weighting,
-                settings.depth,
+                settings,
                 form,
                 None,
                 first,
@@ -196,14 +188,13 @@ pub fn run_headed_keys<T: Read, D: Read, I: Read, W: Write>(
     properties: &mut Source<D>,
     input: &mut Source<I>,
     out: &mut Sink<W>,
-    weighting: Option<Weighting>,
-    depth: Depth,
+    asked: Asked,
 ) -> Result<(), RunFault>
-    ensures { PrintsHeadedKeys weighting depth (table.old ∷ properties.old ∷ []) (table.new ∷ properties.new ∷ [])
+    ensures { PrintsHeadedKeys asked (table.old ∷ properties.old ∷ []) (table.new ∷ properties.new ∷ [])
         input.old input.new out.old out.new result }
 {
     run_headed_keys_in(
-        alloc, alloc, table, properties, input, out, weighting, depth,
+        alloc, alloc, table, properties, input, out, asked,
     )
 }
 
@@ -220,15 +211,14 @@ pub fn run_headed_keys_in<A: Allocator + Copy, T: Read, D: Read, I: Read, W: Wri
     properties: &mut Source<D>,
     input: &mut Source<I>,
     out: &mut Sink<W>,
-    weighting: Option<Weighting>,
-    depth: Depth,
+    asked: Asked,
 ) -> Result<(), RunFault>
-    ensures { PrintsHeadedKeys weighting depth (table.old ∷ properties.old ∷ []) (table.new ∷ properties.new ∷ [])
+    ensures { PrintsHeadedKeys asked (table.old ∷ properties.old ∷ []) (table.new ∷ properties.new ∷ [])
         input.old input.new out.old out.new result }
 {
     let form = KeyForm::Alone;
     run_headed_in(
-        alloc, global, form, table, properties, input, out, weighting, depth,
+        alloc, global, form, table, properties, input, out, asked,
     )
 }
 
@@ -244,14 +234,13 @@ pub fn run_headed_lines<T: Read, D: Read, I: Read, W: Write>(
     properties: &mut Source<D>,
     input: &mut Source<I>,
     out: &mut Sink<W>,
-    weighting: Option<Weighting>,
-    depth: Depth,
+    asked: Asked,
 ) -> Result<(), RunFault>
-    ensures { PrintsHeadedLines weighting depth (table.old ∷ properties.old ∷ []) (table.new ∷ properties.new ∷ [])
+    ensures { PrintsHeadedLines asked (table.old ∷ properties.old ∷ []) (table.new ∷ properties.new ∷ [])
         input.old input.new out.old out.new result }
 {
     run_headed_lines_in(
-        alloc, alloc, table, properties, input, out, weighting, depth,
+        alloc, alloc, table, properties, input, out, asked,
     )
 }
 
@@ -268,14 +257,13 @@ pub fn run_headed_lines_in<A: Allocator + Copy, T: Read, D: Read, I: Read, W: Wr
     properties: &mut Source<D>,
     input: &mut Source<I>,
     out: &mut Sink<W>,
-    weighting: Option<Weighting>,
-    depth: Depth,
+    asked: Asked,
 ) -> Result<(), RunFault>
-    ensures { PrintsHeadedLines weighting depth (table.old ∷ properties.old ∷ []) (table.new ∷ properties.new ∷ [])
+    ensures { PrintsHeadedLines asked (table.old ∷ properties.old ∷ []) (table.new ∷ properties.new ∷ [])
         input.old input.new out.old out.new result }
 {
     let form = KeyForm::BeforeLine;
     run_headed_in(
-        alloc, global, form, table, properties, input, out, weighting, depth,
+        alloc, global, form, table, properties, input, out, asked,
     )
 }

@@ -20,16 +20,15 @@ use uca_books::Book;
 use uca_fingerprint::{KeyHeader, compact_fingerprint_of_sums, fingerprint_of_sums};
 use uca_fingerprint_runs::summed_files::{BookedFiles, SummedFiles, read_booked_files};
 use uca_run_parts::RunFault;
-use uca_weights::{Depth, Sink, Source, Weighting};
+use uca_weights::{Asked, Sink, Source};
 
 // What keys go by under files that were summed, with the book, and the header of such keys.
 fn headed_collation<A: Allocator + Copy>(
     alloc: A,
     read: BookedFiles<A>,
-    asked: Option<Weighting>,
-    depth: Depth,
+    asked: Asked,
 ) -> Result<(ReadCollation<A>, Book<A>, KeyHeader), RunFault>
-    ensures made { IfOk result (λ made. IsHeadedCompact asked depth (owned_collation made.0.collation) made.0.settings made.1 made.2
+    ensures made { IfOk result (λ made. IsHeadedCompact asked (owned_collation made.0.collation) made.0.settings made.1 made.2
         (booked_with (summed_with read.files.table (properties_of read.files.properties.0, read.files.properties.1)) read.book)) }
     ensures short { IfOk result (λ made. HasShortRows (owned_collation made.0.collation).rows) }
     ensures refused { IfErr result (λ fault. fault ≡ RunFault.Memory) }
@@ -39,7 +38,7 @@ fn headed_collation<A: Allocator + Copy>(
     let (table, table_sum) = table;
     let (properties, data_sum) = properties;
     let (book, book_sum) = book;
-    match collation_of(alloc, table, properties, asked, depth) {
+    match collation_of(alloc, table, properties, asked) {
         Ok(read) => {
             let keys_sum = fingerprint_of_sums(read.settings, &table_sum, &data_sum);
             let compact_sum = compact_fingerprint_of_sums(&keys_sum, &book_sum);
@@ -59,12 +58,11 @@ fn read_headed<A: Allocator + Copy, T: Read, D: Read, B: Read>(
     table: &mut Source<T>,
     properties: &mut Source<D>,
     book: &mut Source<B>,
-    asked: Option<Weighting>,
-    depth: Depth,
+    asked: Asked,
 ) -> Result<(ReadCollation<A>, Book<A>, KeyHeader), RunFault>
     ensures read { Over booked_files (table.old ∷ properties.old ∷ book.old ∷ []) (table.new ∷ properties.new ∷ book.new ∷ [])
         (λ content. MatchResult result
-        (λ made. IsHeadedCompact asked depth (owned_collation made.0.collation) made.0.settings made.1 made.2 content)
+        (λ made. IsHeadedCompact asked (owned_collation made.0.collation) made.0.settings made.1 made.2 content)
         (λ fault. fault ≡ RunFault.Memory)) result }
     ensures short { IfOk result (λ made. HasShortRows (owned_collation made.0.collation).rows) }
     ensures before_input { IfErr result (λ _. ended_before_input result ≡ true) }
@@ -72,7 +70,7 @@ fn read_headed<A: Allocator + Copy, T: Read, D: Read, B: Read>(
         (table.new ∷ properties.new ∷ book.new ∷ []) result }
 {
     match read_booked_files(alloc, table, properties, book) {
-        Ok(read) => headed_collation(alloc, read, asked, depth),
+        Ok(read) => headed_collation(alloc, read, asked),
         Err(fault) => Err(fault),
     }
 }
@@ -87,13 +85,12 @@ fn run_headed_compact_in<A: Allocator + Copy, T: Read, D: Read, B: Read, I: Read
     book: &mut Source<B>,
     input: &mut Source<I>,
     out: &mut Sink<W>,
-    weighting: Option<Weighting>,
-    depth: Depth,
+    asked: Asked,
 ) -> Result<(), RunFault>
-    ensures { PrintsHeadedCompactAs form weighting depth (table.old ∷ properties.old ∷ book.old ∷ []) (table.new ∷ properties.new ∷ book.new ∷ [])
+    ensures { PrintsHeadedCompactAs form asked (table.old ∷ properties.old ∷ book.old ∷ []) (table.new ∷ properties.new ∷ book.new ∷ [])
         input.old input.new out.old out.new result }
 {
-    match read_headed(alloc, table, properties, book, weighting, depth) {
+    match read_headed(alloc, table, properties, book, asked) {
         Ok((read, book, header)) => {
             let collator = read.collation.collator();
             let settings = read.settings;
@@ -103,8 +100,7 @@ fn run_headed_compact_in<A: Allocator + Copy, T: Read, D: Read, B: Read, I: Read
                 alloc,
                 global,
                 &collator,
-                settings.weighting,
-                settings.depth,
+                settings,
                 form,
                 by,
                 first,
@@ -144,15 +140,14 @@ pub fn run_headed_compact_keys<A: Allocator + Copy, T: Read, D: Read, B: Read, I
     book: &mut Source<B>,
     input: &mut Source<I>,
     out: &mut Sink<W>,
-    weighting: Option<Weighting>,
-    depth: Depth,
+    asked: Asked,
 ) -> Result<(), RunFault>
-    ensures { PrintsHeadedCompactKeys weighting depth (table.old ∷ properties.old ∷ book.old ∷ []) (table.new ∷ properties.new ∷ book.new ∷ [])
+    ensures { PrintsHeadedCompactKeys asked (table.old ∷ properties.old ∷ book.old ∷ []) (table.new ∷ properties.new ∷ book.new ∷ [])
         input.old input.new out.old out.new result }
 {
     let form = KeyForm::Digits;
     run_headed_compact_in(
-        alloc, global, form, table, properties, book, input, out, weighting, depth,
+        alloc, global, form, table, properties, book, input, out, asked,
     )
 }
 
@@ -169,14 +164,13 @@ pub fn run_headed_compact_lines<A: Allocator + Copy, T: Read, D: Read, B: Read, 
     book: &mut Source<B>,
     input: &mut Source<I>,
     out: &mut Sink<W>,
-    weighting: Option<Weighting>,
-    depth: Depth,
+    asked: Asked,
 ) -> Result<(), RunFault>
-    ensures { PrintsHeadedCompactLines weighting depth (table.old ∷ properties.old ∷ book.old ∷ []) (table.new ∷ properties.new ∷ book.new ∷ [])
+    ensures { PrintsHeadedCompactLines asked (table.old ∷ properties.old ∷ book.old ∷ []) (table.new ∷ properties.new ∷ book.new ∷ [])
         input.old input.new out.old out.new result }
 {
     let form = KeyForm::BeforeLine;
     run_headed_compact_in(
-        alloc, global, form, table, properties, book, input, out, weighting, depth,
+        alloc, global, form, table, properties, book, input, out, asked,
     )
 }

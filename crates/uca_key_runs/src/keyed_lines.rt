@@ -7,7 +7,7 @@ use crate::keys::{KeyForm, run_lines_in};
 use std::alloc::{Allocator, Global};
 use std::io::{Read, Write};
 use uca_run_parts::faults::RunFault;
-use uca_weights::{Depth, Sink, Source, Weighting};
+use uca_weights::{Asked, Sink, Source};
 
 /// Prints each line of `input` after its sort key. The table and the data file are read first. A line of output is the key in
 /// upper-case hexadecimal digits without spaces, a tab, the bytes of the line, and LF. The key, the weighting and the depth are
@@ -26,14 +26,13 @@ pub fn run_keyed_lines<T: Read, D: Read, I: Read, W: Write>(
     properties: &mut Source<D>,
     input: &mut Source<I>,
     out: &mut Sink<W>,
-    weighting: Option<Weighting>,
-    depth: Depth,
+    asked: Asked,
 ) -> Result<(), RunFault>
-    ensures { PrintsKeyedLines weighting depth (table.old ∷ properties.old ∷ []) (table.new ∷ properties.new ∷ [])
+    ensures { PrintsKeyedLines asked (table.old ∷ properties.old ∷ []) (table.new ∷ properties.new ∷ [])
         input.old input.new out.old out.new result }
 {
     run_keyed_lines_in(
-        alloc, alloc, table, properties, input, out, weighting, depth,
+        alloc, alloc, table, properties, input, out, asked,
     )
 }
 
@@ -50,14 +49,13 @@ pub fn run_keyed_lines_in<A: Allocator + Copy, T: Read, D: Read, I: Read, W: Wri
     properties: &mut Source<D>,
     input: &mut Source<I>,
     out: &mut Sink<W>,
-    weighting: Option<Weighting>,
-    depth: Depth,
+    asked: Asked,
 ) -> Result<(), RunFault>
-    ensures { PrintsKeyedLines weighting depth (table.old ∷ properties.old ∷ []) (table.new ∷ properties.new ∷ [])
+    ensures { PrintsKeyedLines asked (table.old ∷ properties.old ∷ []) (table.new ∷ properties.new ∷ [])
         input.old input.new out.old out.new result }
 {
     let form = KeyForm::BeforeLine;
     run_lines_in(
-        alloc, global, form, table, properties, input, out, weighting, depth,
+        alloc, global, form, table, properties, input, out, asked,
     )
 }

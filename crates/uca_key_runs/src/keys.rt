@@ -2,17 +2,16 @@
 
 ghost use Rattle.std.specs.Prelude.{◌≡◌, ◌∷◌, [], ℕ, ◌+◌, ◌-◌, ◌*◌, ◌^◌, ◌<◌, ◌≤◌, ◌||◌, true, false, List, Option, IfErr, IfOk, IfSome, OnOk, length, chars};
 ghost use Rattle.std.specs.Bool.{OnTrue};
-ghost use Rattle.uca_weights.specs.declared.Numbers.TheVariants.{AsText};
-ghost use Rattle.uca_values.specs.Content.{properties_of};
 ghost use Rattle.uca_lines.specs.OutputBuffer.{IsBuffered};
 ghost use Rattle.uca_lines.specs.Buffered.{HasRoom, WritesThrough};
-ghost use Rattle.uca_text.specs.Texts.{nfd_text};
+ghost use Rattle.unicode_normalization.specs.Forms.{nfd};
+ghost use Rattle.uca_text.specs.Texts.{NfdText};
 ghost use Rattle.uca_elements.specs.Collations.{collation_of};
 ghost use Rattle.uca_order.specs.Lengths.{HasShortRows};
 ghost use Rattle.uca_order.specs.Depths.{read_points};
-ghost use Rattle.uca_order.specs.Keyings.{keying_of};
+ghost use Rattle.uca_order.specs.Keyings.{as_text, keying_of, text_of};
 ghost use Rattle.uca_key_writer.specs.Writers.{collation_by};
-ghost use Rattle.uca_key_runs.specs.Keys.{keying_at, keying_of_writer, settings_as_text};
+ghost use Rattle.uca_key_runs.specs.Keys.{keying_at, keying_of_writer};
 ghost use Rattle.uca_run_parts.specs.Runs.{is_input_read, ended_by_output};
 ghost use Rattle.uca_run_parts.specs.EachLine.{WritesEach, ended_before_input};
 ghost use Rattle.uca_run_parts.specs.EachLineSoFar.{HasWritten, WritesText, WritesRest};
@@ -22,7 +21,7 @@ ghost use Rattle.uca_run_parts.specs.Texts.{HasRead, HasTextCause, ReadsCleanLin
 ghost use Rattle.uca_key_runs.specs.inside.KeyForms;
 ghost use Rattle.uca_key_runs.specs.inside.KeyForms.{IsFor, MakesKeys, PrintsAs, book_of, compacter_of, depth_as, line_as, printed_as, shown_at, shown_of};
 
-use crate::collations::read_collation;
+use crate::collations::{asked_as_text, read_collation};
 use crate::compacting::{Compacting, compact_shown, compacting_by, shown};
 use crate::line_keys::write_line_key;
 use std::alloc::{Allocator, Global};
@@ -32,12 +31,11 @@ use uca_elements::{Collator, Lookup};
 use uca_key_writer::KeyWriter;
 use uca_lines::{LINE_LIMIT, OutputBuffer};
 use uca_run_parts::faults::{InputKind, RunFault};
-use uca_run_parts::input::{InputLines, take_text};
+use uca_run_parts::input::InputLines;
 use uca_run_parts::output::end_output;
 use uca_run_parts::print::{KeyDigits, print_digits, print_key, print_keyed_line};
-use uca_text::Normal;
-use uca_values::Data;
-use uca_weights::{Depth, Numbers, Settings, Sink, Source, Weighting, WriteFault};
+use uca_text::decompose;
+use uca_weights::{Asked, Depth, Settings, Sink, Source, Weighting, WriteFault};
 
 /// What the output has of a line of the input.
 #[derive(Clone, Copy)]
@@ -81,26 +79,48 @@ fn depth_of(form: KeyForm, depth: Depth) -> Depth
     }
 }
 
-// Makes the text that of the line that was read, where its code points are printed.
-fn take_shown_text<A: Allocator, D: Allocator>(
-    text: &mut Normal,
+// Replaces the list by the code points of the line that was read, in Normalization Form D, where they are printed. `spare`
+// only lends its memory.
+fn take_shown_points<A: Allocator>(
+    points: &mut Vec<char>,
+    spare: &mut Vec<char>,
     form: KeyForm,
     depth: Depth,
     lines: &InputLines<A>,
-    properties: &Data<D>,
 ) -> Result<(), InputKind>
-    ensures points { OnOk result (KeyForms.shows_points form depth ≡ true →
-        text.new.points ≡ (nfd_text (properties_of properties.now) (chars lines.now.line)).points) }
-    ensures fault { (before : ℕ) → before < LINE_LIMIT →
-        IfErr result (HasTextCause (properties_of properties.now) before lines.now.line) }
+    ensures points { OnOk result (KeyForms.shows_points form depth ≡ true → points.new.items ≡ nfd (chars lines.now.line)) }
+    ensures few { OnOk result (KeyForms.shows_points form depth ≡ true → length points.new.items ≤ 2 ^ 23) }
+    ensures fault { (read_of : List ℕ → NfdText) (before : ℕ) → before < LINE_LIMIT →
+        IfErr result (HasTextCause read_of before lines.now.line) }
     ensures not_read { is_read result ≡ false }
 {
     match form {
         KeyForm::Alone => match depth {
             Depth::Weights => Ok(()),
-            Depth::Identical => take_text(text, lines, properties),
+            Depth::Identical => take_points(points, spare, lines),
         },
         KeyForm::Digits | KeyForm::BeforeLine => Ok(()),
+    }
+}
+
+// Replaces the list by the code points of the line that was read, in Normalization Form D.
+fn take_points<A: Allocator>(
+    points: &mut Vec<char>,
+    spare: &mut Vec<char>,
+    lines: &InputLines<A>,
+) -> Result<(), InputKind>
+    ensures points { OnOk result (points.new.items ≡ nfd (chars lines.now.line)) }
+    ensures few { OnOk result (length points.new.items ≤ 2 ^ 23) }
+    ensures fault { (read_of : List ℕ → NfdText) (before : ℕ) → before < LINE_LIMIT →
+        IfErr result (HasTextCause read_of before lines.now.line) }
+    ensures not_read { is_read result ≡ false }
+{
+    match lines.text() {
+        Ok(line) => match decompose(points, spare, line) {
+            Ok(()) => Ok(()),
+            Err(_) => Err(InputKind::Memory),
+        },
+        Err(kind) => Err(kind),
     }
 }
 
@@ -111,16 +131,15 @@ fn make_shown_key<'a, L: Lookup, T: Allocator, A: Allocator>(
     lines: &InputLines<A>,
 ) -> Result<(), InputKind>
     requires rows { HasShortRows (collation_by L.content key.old).rows }
-    requires as_text { key.old.settings.numbers ≡ AsText }
     requires compact { IsFor (compacter_of compacting.old) key.old.settings }
     ensures shown { let c = keying_of_writer L.content key.old in
         OnOk result (shown_of compacting.new key.new.key ≡ shown_at (book_of compacting.old) c.settings.depth c.settings.weighting
         (read_points c.collation c.settings.numbers (chars lines.now.line))) }
     ensures short { OnOk result (length (shown_of compacting.new key.new.key) < 2 ^ 41) }
     ensures clean { (before : ℕ) → before < LINE_LIMIT →
-        OnOk result (cause_of (collation_by L.content key.old).properties before lines.now.line ≡ None) }
+        OnOk result (cause_of (text_of (keying_of_writer L.content key.old)) before lines.now.line ≡ None) }
     ensures fault { (before : ℕ) → before < LINE_LIMIT →
-        IfErr result (HasTextCause (collation_by L.content key.old).properties before lines.now.line) }
+        IfErr result (HasTextCause (text_of (keying_of_writer L.content key.old)) before lines.now.line) }
     ensures not_read { is_read result ≡ false }
     ensures collation { collation_by L.content key.new ≡ collation_by L.content key.old }
     ensures settings { key.new.settings ≡ key.old.settings }
@@ -135,32 +154,33 @@ fn make_shown_key<'a, L: Lookup, T: Allocator, A: Allocator>(
     }
 }
 
-// Makes the key of the line that was read, its compact key where that is shown, and its text where its code points are
+// Makes the key of the line that was read, its compact key where that is shown, and the line's code points where they are
 // printed.
-fn make_key<'a, L: Lookup, T: Allocator, A: Allocator, D: Allocator>(
+fn make_key<'a, L: Lookup, T: Allocator, A: Allocator>(
     key: &mut KeyWriter<'a, L, T, A>,
     compacting: &mut Option<Compacting<A>>,
-    text: &mut Normal,
+    points: &mut Vec<char>,
+    spare: &mut Vec<char>,
     form: KeyForm,
     depth: Depth,
     lines: &InputLines<A>,
-    properties: &Data<D>,
 ) -> Result<(), InputKind>
-    requires keys { MakesKeys form depth (properties_of properties.now) (keying_of_writer L.content key.old) }
+    requires keys { MakesKeys form depth (keying_of_writer L.content key.old) }
     requires compact { IsFor (compacter_of compacting.old) key.old.settings }
-    ensures made { OnOk result (printed_as form depth (shown_of compacting.new key.new.key) text.new.points lines.now.line
+    ensures made { OnOk result (printed_as form depth (shown_of compacting.new key.new.key) points.new.items lines.now.line
         ≡ line_as form (book_of compacting.old) (keying_at L.content key.old depth) lines.now.line) }
     ensures short { OnOk result (length (shown_of compacting.new key.new.key) < 2 ^ 41) }
+    ensures few { OnOk result (KeyForms.shows_points form depth ≡ true → length points.new.items ≤ 2 ^ 23) }
     ensures clean { (before : ℕ) → before < LINE_LIMIT →
-        OnOk result (cause_of (properties_of properties.now) before lines.now.line ≡ None) }
+        OnOk result (cause_of (text_of (keying_of_writer L.content key.old)) before lines.now.line ≡ None) }
     ensures fault { (before : ℕ) → before < LINE_LIMIT →
-        IfErr result (HasTextCause (properties_of properties.now) before lines.now.line) }
+        IfErr result (HasTextCause (text_of (keying_of_writer L.content key.old)) before lines.now.line) }
     ensures not_read { is_read result ≡ false }
     ensures kept { keying_of_writer L.content key.new ≡ keying_of_writer L.content key.old }
     ensures compacter { compacter_of compacting.new ≡ compacter_of compacting.old }
 {
     match make_shown_key(key, compacting, lines) {
-        Ok(()) => match take_shown_text(text, form, depth, lines, properties) {
+        Ok(()) => match take_shown_points(points, spare, form, depth, lines) {
             Ok(()) => Ok(()),
             Err(kind) => Err(kind),
         },
@@ -175,8 +195,10 @@ struct KeyRun<'a, L: Lookup, T: Allocator, A: Allocator> {
     key: KeyWriter<'a, L, T, A>,
     // what makes compact keys of keys, where these are shown
     compacting: Option<Compacting<A>>,
-    // the text of the line, where its code points are printed
-    text: Normal,
+    // the code points of the line, where they are printed
+    points: Vec<char>,
+    // lends its memory to these
+    spare: Vec<char>,
     output: OutputBuffer,
     // room for the digits of a key
     digits: KeyDigits,
@@ -184,22 +206,23 @@ struct KeyRun<'a, L: Lookup, T: Allocator, A: Allocator> {
 
 impl<'a, L: Lookup, T: Allocator, A: Allocator> KeyRun<'a, L, T, A> {
     // Reads the next line and makes its key, and returns whether there was a line.
-    fn next<D: Allocator, I: Read>(
+    fn next<I: Read>(
         &mut self,
         form: KeyForm,
         depth: Depth,
-        properties: &Data<D>,
         input: &mut Source<I>,
     ) -> Result<bool, RunFault>
-        requires keys { MakesKeys form depth (properties_of properties.now) (keying_of_writer L.content self.old.key) }
+        requires keys { MakesKeys form depth (keying_of_writer L.content self.old.key) }
         requires compact { IsFor (compacter_of self.old.compacting) self.old.key.settings }
         ensures reads { (start : Option (List ℕ)) (before : List (List ℕ)) →
-            HasRead (properties_of properties.now) start before self.old.lines input.old →
-            ReadsCleanLine (properties_of properties.now) start before self.new.lines input.new result }
+            let read_of = text_of (keying_of_writer L.content self.old.key) in
+            HasRead read_of start before self.old.lines input.old →
+            ReadsCleanLine read_of start before self.new.lines input.new result }
         ensures made { IfOk result (λ more. OnTrue more (
-            printed_as form depth (shown_of self.new.compacting self.new.key.key) self.new.text.points self.new.lines.line
+            printed_as form depth (shown_of self.new.compacting self.new.key.key) self.new.points.items self.new.lines.line
             ≡ line_as form (book_of self.old.compacting) (keying_at L.content self.old.key depth) self.new.lines.line)) }
         ensures short { IfOk result (λ more. OnTrue more (length (shown_of self.new.compacting self.new.key.key) < 2 ^ 41)) }
+        ensures few { IfOk result (λ more. OnTrue more (KeyForms.shows_points form depth ≡ true → length self.new.points.items ≤ 2 ^ 23)) }
         ensures count { IfOk result (λ more. OnTrue more ((self.new.lines.reader.number ≡ self.old.lines.reader.number + 1)
             × (self.old.lines.reader.number < LINE_LIMIT))) }
         ensures output { self.new.output ≡ self.old.output }
@@ -212,11 +235,11 @@ impl<'a, L: Lookup, T: Allocator, A: Allocator> KeyRun<'a, L, T, A> {
             Ok(true) => match make_key(
                 &mut self.key,
                 &mut self.compacting,
-                &mut self.text,
+                &mut self.points,
+                &mut self.spare,
                 form,
                 depth,
                 &self.lines,
-                properties,
             ) {
                 Ok(()) => Ok(true),
                 Err(kind) => Err(RunFault::Input {
@@ -237,13 +260,14 @@ impl<'a, L: Lookup, T: Allocator, A: Allocator> KeyRun<'a, L, T, A> {
         out: &mut Sink<W>,
     ) -> Result<(), RunFault>
         requires short { length (shown_of self.old.compacting self.old.key.key) < 2 ^ 41 }
+        requires points { KeyForms.shows_points form depth ≡ true → length self.old.points.items ≤ 2 ^ 23 }
         requires few { 0 < self.old.lines.reader.number }
         requires most { self.old.lines.reader.number ≤ LINE_LIMIT }
         requires small { self.old.output.written + length self.old.output.held
             ≤ (self.old.lines.reader.number - 1) * 2 ^ 43 }
         ensures prints { (begun : Option (List ℕ)) (before : List ℕ) →
             IsBuffered begun out.old.contents before self.old.output →
-            WritesText begun before (printed_as form depth (shown_of self.old.compacting self.old.key.key) self.old.text.points self.old.lines.line)
+            WritesText begun before (printed_as form depth (shown_of self.old.compacting self.old.key.key) self.old.points.items self.old.lines.line)
             self.old.lines.reader.number self.old.output out.old self.new.output out.new result }
         ensures small { OnOk result (self.new.output.written + length self.new.output.held
             ≤ self.old.lines.reader.number * 2 ^ 43) }
@@ -260,33 +284,32 @@ impl<'a, L: Lookup, T: Allocator, A: Allocator> KeyRun<'a, L, T, A> {
             form,
             depth,
             shown(&self.compacting, self.key.bytes()),
-            self.text.chars(),
+            &self.points,
             self.lines.line(),
         )?)
     }
 
     // Writes what the output has of all lines that are left.
-    fn print_rest<D: Allocator, I: Read, W: Write>(
+    fn print_rest<I: Read, W: Write>(
         &mut self,
         form: KeyForm,
         depth: Depth,
-        properties: &Data<D>,
         input: &mut Source<I>,
         out: &mut Sink<W>,
     ) -> Result<(), RunFault>
-        requires makes { MakesKeys form depth (properties_of properties.now) (keying_of_writer L.content self.old.key) }
+        requires makes { MakesKeys form depth (keying_of_writer L.content self.old.key) }
         requires compact { IsFor (compacter_of self.old.compacting) self.old.key.settings }
         requires small { self.old.output.written + length self.old.output.held
             ≤ self.old.lines.reader.number * 2 ^ 43 }
         ensures prints { (start begun : Option (List ℕ)) (before : List (List ℕ)) →
-            let points = properties_of properties.now in
+            let read_of = text_of (keying_of_writer L.content self.old.key) in
             let line = line_as form (book_of self.old.compacting) (keying_at L.content self.old.key depth) in
-            HasWritten points line start begun before self.old.lines input.old self.old.output out.old →
-            WritesRest points line start begun input.new self.new.output out.new result }
+            HasWritten read_of line start begun before self.old.lines input.old self.old.output out.old →
+            WritesRest read_of line start begun input.new self.new.output out.new result }
         ensures input_failed { input.new.failed ≡ (input.old.failed || is_input_read result) }
         ensures out_failed { out.new.failed ≡ (out.old.failed || ended_by_output result) }
     {
-        while self.next(form, depth, properties, input)? {
+        while self.next(form, depth, input)? {
             self.print_line(form, depth, out)?;
         }
         Ok(())
@@ -303,8 +326,7 @@ pub(crate) fn print_lines<L: Lookup, T: Allocator, A: Allocator + Copy, I: Read,
     alloc: A,
     global: Global,
     collator: &Collator<L, T>,
-    weighting: Weighting,
-    depth: Depth,
+    settings: Settings,
     form: KeyForm,
     book: Option<Book<A>>,
     input: &mut Source<I>,
@@ -312,27 +334,28 @@ pub(crate) fn print_lines<L: Lookup, T: Allocator, A: Allocator + Copy, I: Read,
 ) -> Result<(), RunFault>
     requires { HasShortRows (collation_of L.content collator.now).rows }
     ensures writes { IfSome input.old.remaining (λ bytes.
-        let c = keying_of L.content collator.now (settings_as_text weighting depth) in
-        WritesEach c.collation.properties (line_as form book c) bytes input.new.remaining out.old.contents out.new.contents result) }
+        let c = keying_of L.content collator.now settings in
+        WritesEach (text_of c) (line_as form book c) bytes input.new.remaining out.old.contents out.new.contents result) }
     ensures of_lines { ended_before_input result ≡ false }
     ensures input_failed { ended_by_output result ≡ false →
         input.new.failed ≡ (input.old.failed || is_input_read result) }
     ensures out_failed { out.new.failed ≡ (out.old.failed || ended_by_output result) }
 {
+    let depth = settings.depth;
     let made = Settings {
-        weighting,
         depth: depth_of(form, depth),
-        numbers: Numbers::AsText,
+        ..settings
     };
     let mut run = KeyRun {
         lines: InputLines::new(alloc),
         key: KeyWriter::new(alloc, global, *collator, made),
         compacting: compacting_by(alloc, book, made),
-        text: Normal::new(global),
+        points: Vec::new(global),
+        spare: Vec::new(global),
         output: OutputBuffer::new(),
         digits: KeyDigits::new(),
     };
-    let end = run.print_rest(form, depth, collator.data, input, out);
+    let end = run.print_rest(form, depth, input, out);
     let end = end_output(&mut run.output, out, end);
     drop(run);
     end
@@ -359,16 +382,16 @@ pub fn run_keys<T: Read, D: Read, I: Read, W: Write>(
     weighting: Option<Weighting>,
     depth: Depth,
 ) -> Result<(), RunFault>
-    ensures { PrintsKeys weighting depth (table.old ∷ properties.old ∷ []) (table.new ∷ properties.new ∷ [])
+    ensures { PrintsKeys (as_text weighting depth) (table.old ∷ properties.old ∷ []) (table.new ∷ properties.new ∷ [])
         input.old input.new out.old out.new result }
 {
     run_keys_in(
-        alloc, alloc, table, properties, input, out, weighting, depth,
+        alloc, alloc, table, properties, input, out, asked_as_text(weighting, depth),
     )
 }
 
-/// As [`run_keys`], with the two files, the trie, the lines and the keys in memory of any allocator. Texts in
-/// Normalization Form D are in `global`.
+/// As [`run_keys`], with the two files, the trie, the lines and the keys in memory of any allocator, and with numbers by
+/// value where this is asked for. Texts in Normalization Form D are in `global`.
 ///
 /// # Errors
 ///
@@ -380,15 +403,14 @@ pub fn run_keys_in<A: Allocator + Copy, T: Read, D: Read, I: Read, W: Write>(
     properties: &mut Source<D>,
     input: &mut Source<I>,
     out: &mut Sink<W>,
-    weighting: Option<Weighting>,
-    depth: Depth,
+    asked: Asked,
 ) -> Result<(), RunFault>
-    ensures { PrintsKeys weighting depth (table.old ∷ properties.old ∷ []) (table.new ∷ properties.new ∷ [])
+    ensures { PrintsKeys asked (table.old ∷ properties.old ∷ []) (table.new ∷ properties.new ∷ [])
         input.old input.new out.old out.new result }
 {
     let form = KeyForm::Alone;
     run_lines_in(
-        alloc, global, form, table, properties, input, out, weighting, depth,
+        alloc, global, form, table, properties, input, out, asked,
     )
 }
 
@@ -405,21 +427,19 @@ pub(crate) fn run_lines_in<A: Allocator + Copy, T: Read, D: Read, I: Read, W: Wr
     properties: &mut Source<D>,
     input: &mut Source<I>,
     out: &mut Sink<W>,
-    weighting: Option<Weighting>,
-    depth: Depth,
+    asked: Asked,
 ) -> Result<(), RunFault>
-    ensures { PrintsAs form weighting depth (table.old ∷ properties.old ∷ []) (table.new ∷ properties.new ∷ [])
+    ensures { PrintsAs form asked (table.old ∷ properties.old ∷ []) (table.new ∷ properties.new ∷ [])
         input.old input.new out.old out.new result }
 {
-    match read_collation(alloc, table, properties, weighting, depth) {
+    match read_collation(alloc, table, properties, asked) {
         Ok(read) => {
             let collator = read.collation.collator();
             let end = print_lines(
                 alloc,
                 global,
                 &collator,
-                read.settings.weighting,
-                read.settings.depth,
+                read.settings,
                 form,
                 None,
                 input,

@@ -9,7 +9,7 @@
 //!                                            │                  │
 //! input bytes ─> LineReader ─> line ─> UTF-8 ┴─> Normal ─────> Elements
 //!                                                               │
-//! output bytes <─ Sink <─ OutputBuffer <─ printed groups <─ KeyBuffer (weighting, depth, levels)
+//! output bytes <─ Sink <─ OutputBuffer <─ printed groups <─ KeyBuffer (asked, levels)
 //! ```
 //!
 //! `InputLines` (`uca_run_parts`) is its part from the input to the line as UTF-8, and `KeyWriter` (`uca_key_writer`)

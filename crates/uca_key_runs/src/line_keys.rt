@@ -1,11 +1,10 @@
 //! The sort key of a line of the input (`write_line_key`), or the beginning of it.
 
 ghost use Rattle.std.specs.Prelude.{◌≡◌, ℕ, ◌<◌, ◌^◌, false, IfErr, OnOk, length, take};
-ghost use Rattle.uca_weights.specs.declared.Numbers.TheVariants.{AsText};
 ghost use Rattle.uca_order.specs.Lengths.{HasShortRows};
 ghost use Rattle.uca_key_writer.specs.Writers.{collation_by};
 ghost use Rattle.uca_run_parts.specs.Input.{cause_of};
-ghost use Rattle.uca_order.specs.Keyings.{key_of_bytes};
+ghost use Rattle.uca_order.specs.Keyings.{key_of_bytes, text_of};
 ghost use Rattle.uca_key_runs.specs.Keys.{keying_of_writer};
 ghost use Rattle.uca_run_parts.specs.Texts.{HasTextCause, is_read};
 
@@ -25,12 +24,11 @@ pub(crate) fn write_line_key<'a, L: Lookup, T: Allocator, A: Allocator>(
     writer: &mut KeyWriter<'a, L, T, A>,
     lines: &InputLines<A>,
 ) -> Result<(), InputKind>
-    requires { writer.old.settings.numbers ≡ AsText }
     ensures key { OnOk result (writer.new.key ≡ key_of_bytes (keying_of_writer L.content writer.old) lines.now.line) }
     ensures clean { (before : ℕ) → before < LINE_LIMIT →
-        OnOk result (cause_of (collation_by L.content writer.old).properties before lines.now.line ≡ None) }
+        OnOk result (cause_of (text_of (keying_of_writer L.content writer.old)) before lines.now.line ≡ None) }
     ensures fault { (before : ℕ) → before < LINE_LIMIT →
-        IfErr result (HasTextCause (collation_by L.content writer.old).properties before lines.now.line) }
+        IfErr result (HasTextCause (text_of (keying_of_writer L.content writer.old)) before lines.now.line) }
     ensures not_read { is_read result ≡ false }
     ensures short { HasShortRows (collation_by L.content writer.old).rows → OnOk result (length writer.new.key < 2 ^ 40) }
     ensures collation { collation_by L.content writer.new ≡ collation_by L.content writer.old }
@@ -55,13 +53,12 @@ pub(crate) fn write_line_beginning<'a, L: Lookup, T: Allocator, A: Allocator>(
     writer: &mut KeyWriter<'a, L, T, A>,
     lines: &InputLines<A>,
 ) -> Result<(), InputKind>
-    requires { writer.old.settings.numbers ≡ AsText }
     ensures beginning { OnOk result (take 16 writer.new.key ≡
         take 16 (key_of_bytes (keying_of_writer L.content writer.old) lines.now.line)) }
     ensures clean { (before : ℕ) → before < LINE_LIMIT →
-        OnOk result (cause_of (collation_by L.content writer.old).properties before lines.now.line ≡ None) }
+        OnOk result (cause_of (text_of (keying_of_writer L.content writer.old)) before lines.now.line ≡ None) }
     ensures fault { (before : ℕ) → before < LINE_LIMIT →
-        IfErr result (HasTextCause (collation_by L.content writer.old).properties before lines.now.line) }
+        IfErr result (HasTextCause (text_of (keying_of_writer L.content writer.old)) before lines.now.line) }
     ensures not_read { is_read result ≡ false }
     ensures collation { collation_by L.content writer.new ≡ collation_by L.content writer.old }
     ensures settings { writer.new.settings ≡ writer.old.settings }

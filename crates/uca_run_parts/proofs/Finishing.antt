@@ -6,7 +6,7 @@ use Rattle.std.proofs.lemmas.Grind.{flat_map-append}
 use Rattle.std.proofs.lemmas.List.{take-append-le, length-drop}
 use Rattle.uca_weights.specs.Streams.{SourceState, SinkState}
 use Rattle.uca_weights.specs.Writes.{WentOut}
-use Rattle.uca_values.specs.Content.{Properties}
+use Rattle.uca_text.specs.Texts.{NfdText}
 use Rattle.uca_lines.specs.Lines.{lines_of}
 use Rattle.uca_lines.specs.Buffered.{FailsToWriteThrough, count_of}
 use Rattle.uca_lines.specs.OutputBuffer.{BufferState, IsBuffered}
@@ -43,19 +43,19 @@ pub rest_fails : (begun now end : Option (List ℕ)) (text : List ℕ) (buffer :
     → written < buffer.written + length buffer.held → IsBuffered begun now text buffer → PartWentOut begun end text written
 rest_fails begun now end text buffer written went some h = (went.0, omega (arith, some, count_is begun now text buffer h))
 
-module _ (properties : Properties) (bytes_of : List ℕ → List ℕ) where
+module _ (read_of : List ℕ → NfdText) (bytes_of : List ℕ → List ℕ) where
   -- the whole output: the bytes of each line before the first one with an error
   abbrev output_of : List ℕ → List ℕ
-  output_of bytes = flat_map bytes_of (clean_lines properties (lines_of bytes))
+  output_of bytes = flat_map bytes_of (clean_lines read_of (lines_of bytes))
 
   -- nothing was written yet
   pub started : (lines : LinesState) (input : SourceState) (buffer : BufferState) (out : SinkState)
-      → HasRead properties input.remaining [] lines input → buffer.held ≡ [] → buffer.written ≡ 0
-      → HasWritten properties bytes_of input.remaining out.contents [] lines input buffer out
+      → HasRead read_of input.remaining [] lines input → buffer.held ≡ [] → buffer.written ≡ 0
+      → HasWritten read_of bytes_of input.remaining out.contents [] lines input buffer out
   started lines input buffer out read held written = record { read = read; written = none_buffered out.contents buffer held written }
 
   -- part of what begins the output is part of the output
-  part_of : (start begun now : Option (List ℕ)) (written : ℕ) → IsPartOfOutput properties bytes_of start begun now written
+  part_of : (start begun now : Option (List ℕ)) (written : ℕ) → IsPartOfOutput read_of bytes_of start begun now written
       → IfSome start (λ bytes. PartWentOut begun now (output_of bytes) written)
   part_of None begun now written part = tt
   part_of (Some bytes) begun now written part =
@@ -63,30 +63,30 @@ module _ (properties : Properties) (bytes_of : List ℕ → List ℕ) where
 
   -- a write that failed before the end
   pub write_stays : (start begun left : Option (List ℕ)) (input : SourceState) (buffer : BufferState) (out : SinkState) (end : Result (Unit {0}) RunFault)
-      → WritesRest properties bytes_of start begun input buffer out end → ended_by_output end ≡ true
-      → IfSome start (λ bytes. WritesEach properties bytes_of bytes left begun out.contents end)
+      → WritesRest read_of bytes_of start begun input buffer out end → ended_by_output end ≡ true
+      → IfSome start (λ bytes. WritesEach read_of bytes_of bytes left begun out.contents end)
   write_stays start begun left input buffer out (Ok x) rest h = let never : ⊥ = cc in absurd never
   write_stays start begun left input buffer out (Err (Write written)) rest h = part_of start begun out.contents written rest.1
   write_stays start begun left input buffer out (Err (Input number kind)) rest h = let never : ⊥ = cc in absurd never
   write_stays start begun left input buffer out (Err _) rest h = absurd rest.1
 
   -- all that was written went out
-  all_out : (start begun now left : Option (List ℕ)) (x : Unit {0}) (all : List (List ℕ)) → IfSome start (λ bytes. AreAll properties bytes all)
-      → Appends begun now (flat_map bytes_of all) → IfSome start (λ bytes. WritesEach {A = Unit {0}} properties bytes_of bytes left begun now (Ok x))
+  all_out : (start begun now left : Option (List ℕ)) (x : Unit {0}) (all : List (List ℕ)) → IfSome start (λ bytes. AreAll read_of bytes all)
+      → Appends begun now (flat_map bytes_of all) → IfSome start (λ bytes. WritesEach {A = Unit {0}} read_of bytes_of bytes left begun now (Ok x))
   all_out None begun now left x all are out = tt
   all_out (Some bytes) begun now left x all are out =
       (are.clean ∙ sym are.lines, subst (λ lines. Appends begun now (flat_map bytes_of lines)) (sym are.lines) out)
 
   stopped_out : (start begun now left : Option (List ℕ)) (before : List (List ℕ)) (number : ℕ) (kind : InputKind)
-      → IfSome start (λ bytes. IsInputFault properties bytes left before number kind) → Appends begun now (flat_map bytes_of before)
-      → IfSome start (λ bytes. WritesEach {A = Unit {0}} properties bytes_of bytes left begun now (Err (Input number kind)))
+      → IfSome start (λ bytes. IsInputFault read_of bytes left before number kind) → Appends begun now (flat_map bytes_of before)
+      → IfSome start (λ bytes. WritesEach {A = Unit {0}} read_of bytes_of bytes left begun now (Err (Input number kind)))
   stopped_out None begun now left before number kind fault out = tt
   stopped_out (Some bytes) begun now left before number kind fault out = (before, fault, out)
 
   pub flushed : (start begun : Option (List ℕ)) (input : SourceState) (buffer : BufferState) (out now : SinkState) (end : Result (Unit {0}) RunFault)
-      → WritesRest properties bytes_of start begun input buffer out end → ended_by_output end ≡ false
+      → WritesRest read_of bytes_of start begun input buffer out end → ended_by_output end ≡ false
       → ((text : List ℕ) → IsBuffered begun out.contents text buffer → Appends begun now.contents text)
-      → IfSome start (λ bytes. WritesEach properties bytes_of bytes input.remaining begun now.contents end)
+      → IfSome start (λ bytes. WritesEach read_of bytes_of bytes input.remaining begun now.contents end)
   flushed start begun input buffer out now (Ok x) rest h flush = all_out start begun now.contents input.remaining x rest.all rest.are_all (flush _ rest.written)
   flushed start begun input buffer out now (Err (Input number kind)) rest h flush =
       stopped_out start begun now.contents input.remaining rest.0 number kind rest.1.0 (flush _ rest.1.1)
@@ -94,14 +94,14 @@ module _ (properties : Properties) (bytes_of : List ℕ → List ℕ) where
   flushed start begun input buffer out now (Err _) rest h flush = absurd rest.1
 
   -- a part of it did
-  all_part : (start begun now : Option (List ℕ)) (all : List (List ℕ)) (written : ℕ) → IfSome start (λ bytes. AreAll properties bytes all)
+  all_part : (start begun now : Option (List ℕ)) (all : List (List ℕ)) (written : ℕ) → IfSome start (λ bytes. AreAll read_of bytes all)
       → PartWentOut begun now (flat_map bytes_of all) written → IfSome start (λ bytes. PartWentOut begun now (output_of bytes) written)
   all_part None begun now all written are out = tt
   all_part (Some bytes) begun now all written are out =
       subst (λ output. PartWentOut begun now output written) (ap (flat_map bytes_of) (sym are.clean)) out
 
   stopped_part : (start begun now left : Option (List ℕ)) (before : List (List ℕ)) (number : ℕ) (kind : InputKind) (written : ℕ)
-      → IfSome start (λ bytes. IsInputFault properties bytes left before number kind) → PartWentOut begun now (flat_map bytes_of before) written
+      → IfSome start (λ bytes. IsInputFault read_of bytes left before number kind) → PartWentOut begun now (flat_map bytes_of before) written
       → IfSome start (λ bytes. PartWentOut begun now (output_of bytes) written)
   stopped_part None begun now left before number kind written fault out = tt
   stopped_part (Some bytes) begun now left before number kind written fault out =
@@ -109,9 +109,9 @@ module _ (properties : Properties) (bytes_of : List ℕ → List ℕ) where
       (part_of_more begun now (flat_map bytes_of before) (flat_map bytes_of fault.clean.0) written out)
 
   pub not_flushed : (start begun left : Option (List ℕ)) (input : SourceState) (buffer : BufferState) (out now : SinkState) (end : Result (Unit {0}) RunFault) (written : ℕ)
-      → WritesRest properties bytes_of start begun input buffer out end → ended_by_output end ≡ false
+      → WritesRest read_of bytes_of start begun input buffer out end → ended_by_output end ≡ false
       → ((text : List ℕ) → IsBuffered begun out.contents text buffer → PartWentOut begun now.contents text written)
-      → IfSome start (λ bytes. WritesEach {A = Unit {0}} properties bytes_of bytes left begun now.contents (Err (Write written)))
+      → IfSome start (λ bytes. WritesEach {A = Unit {0}} read_of bytes_of bytes left begun now.contents (Err (Write written)))
   not_flushed start begun left input buffer out now (Ok x) written rest h flush = all_part start begun now.contents rest.all written rest.are_all (flush _ rest.written)
   not_flushed start begun left input buffer out now (Err (Input number kind)) written rest h flush =
       stopped_part start begun now.contents input.remaining rest.0 number kind written rest.1.0 (flush _ rest.1.1)
@@ -120,7 +120,7 @@ module _ (properties : Properties) (bytes_of : List ℕ → List ℕ) where
 
   -- a run of lines ends by its lines alone
   pub of_lines : (start begun : Option (List ℕ)) (input : SourceState) (buffer : BufferState) (out : SinkState) (end : Result (Unit {0}) RunFault)
-      → WritesRest properties bytes_of start begun input buffer out end → ended_before_input end ≡ false
+      → WritesRest read_of bytes_of start begun input buffer out end → ended_before_input end ≡ false
   of_lines start begun input buffer out (Ok x) rest = refl
   of_lines start begun input buffer out (Err (File role fault)) rest = absurd rest.1
   of_lines start begun input buffer out (Err Memory) rest = absurd rest.1

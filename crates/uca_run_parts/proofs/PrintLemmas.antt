@@ -264,7 +264,7 @@ length-level : (depth : Depth) (points : List ℕ) → length (printed_after dep
 length-level Weights points = omega arith
 length-level Identical points = omega (arith, length-points points)
 
-pub line_is_short : (depth : Depth) (key points : List ℕ) → length key < 2 ^ 41 → length points ≤ 1048576 → length (print_line_at depth key points) < 2 ^ 43
+pub line_is_short : (depth : Depth) (key points : List ℕ) → length key < 2 ^ 41 → length points ≤ 2 ^ 23 → length (print_line_at depth key points) < 2 ^ 43
 line_is_short depth key points short few =
     let level = printed_after depth points in
     omega (arith, short, few, length-append (printed_groups key) (level ++ 10 ∷ []), length-append level (10 ∷ []), length-groups key, length-level depth points)

@@ -3,7 +3,7 @@ use Rattle.std.proofs.Common.{◌≡◌, ℕ, ◌+◌, ◌*◌, ◌^◌, ◌<◌
 use Rattle.std.specs.List.{flat_map}
 use Rattle.std.proofs.lemmas.Grind.{flat_map-append}
 use Rattle.uca_weights.specs.Streams.{SourceState, SinkState}
-use Rattle.uca_values.specs.Content.{Properties}
+use Rattle.uca_text.specs.Texts.{NfdText}
 use Rattle.uca_lines.specs.LineReader.{left_of}
 use Rattle.uca_lines.specs.Lines.{lines_of}
 use Rattle.uca_lines.specs.OutputBuffer.{BufferState, IsBuffered}
@@ -32,28 +32,28 @@ no_write A B _ h = refl
 
 -- ---- The bytes of one more line
 
-module _ (properties : Properties) (bytes_of : List ℕ → List ℕ) where
+module _ (read_of : List ℕ → NfdText) (bytes_of : List ℕ → List ℕ) where
   bytes-push : (before : List (List ℕ)) (line : List ℕ) → flat_map bytes_of (before ++ line ∷ []) ≡ flat_map bytes_of before ++ bytes_of line
   bytes-push before line = flat_map-append _ before (line ∷ []) ∙ ap (λ more. flat_map bytes_of before ++ more) (append-nil (bytes_of line))
 
   -- the output goes on after these lines
   goes_on : (start left : Option (List ℕ)) (before : List (List ℕ)) (is_cut : Bool)
-      → OnKnown start left (λ bytes rest. IsAfter properties bytes rest is_cut before)
-      → IfSome start (λ bytes. (rest : List ℕ) × (flat_map bytes_of (clean_lines properties (lines_of bytes)) ≡ flat_map bytes_of before ++ rest))
+      → OnKnown start left (λ bytes rest. IsAfter read_of bytes rest is_cut before)
+      → IfSome start (λ bytes. (rest : List ℕ) × (flat_map bytes_of (clean_lines read_of (lines_of bytes)) ≡ flat_map bytes_of before ++ rest))
   goes_on None left before is_cut after = tt
   goes_on (Some bytes) None before is_cut after = absurd after
   goes_on (Some bytes) (Some left) before is_cut after =
-      let more = clean_from properties (length before) (lines_of left) in
+      let more = clean_from read_of (length before) (lines_of left) in
       (flat_map bytes_of more, ap (flat_map bytes_of) after.clean ∙ flat_map-append _ before more)
 
   -- the next line has an error
   pub no_line : (start begun : Option (List ℕ)) (before : List (List ℕ)) (lines : LinesState) (input : SourceState) (buffer : BufferState) (out : SinkState) (fault : RunFault)
-      → ReadsCleanLine properties start before lines input (Err fault) → IsBuffered begun out.contents (flat_map bytes_of before) buffer
-      → IsStopped properties bytes_of start begun before input buffer out fault
+      → ReadsCleanLine read_of start before lines input (Err fault) → IsBuffered begun out.contents (flat_map bytes_of before) buffer
+      → IsStopped read_of bytes_of start begun before input buffer out fault
   no_line start begun before lines input buffer out (Input number kind) reads written = (reads, written)
   no_line start begun before lines input buffer out _ reads written = absurd reads
 
-  module _ (start begun : Option (List ℕ)) (before : List (List ℕ)) (lines : LinesState) (input : SourceState) (t : HasCleanLine properties start before lines input)
+  module _ (start begun : Option (List ℕ)) (before : List (List ℕ)) (lines : LinesState) (input : SourceState) (t : HasCleanLine read_of start before lines input)
       (piece : List ℕ) (is : piece ≡ bytes_of lines.line) where
     -- the bytes of the lines so far
     written_line : flat_map bytes_of before ++ piece ≡ flat_map bytes_of (before ++ lines.line ∷ [])
@@ -61,21 +61,21 @@ module _ (properties : Properties) (bytes_of : List ℕ → List ℕ) where
 
     -- those of the line were written
     pub line_written : (now : LinesState) (held : BufferState) (sink : SinkState) → now ≡ lines → IsBuffered begun sink.contents (flat_map bytes_of before ++ piece) held
-        → HasWritten properties bytes_of start begun (before ++ lines.line ∷ []) now input held sink
+        → HasWritten read_of bytes_of start begun (before ++ lines.line ∷ []) now input held sink
     line_written now held sink same written = record {
-      read = subst (λ l. HasRead properties start (before ++ lines.line ∷ []) l input) (sym same) t.read;
+      read = subst (λ l. HasRead read_of start (before ++ lines.line ∷ []) l input) (sym same) t.read;
       written = subst (λ output. IsBuffered begun sink.contents output held) written_line written;
     }
 
     -- those of the line were not written, or not all of them
     pub not_written : (buffer held : BufferState) (out sink : SinkState) (fault : RunFault) → IsBuffered begun out.contents (flat_map bytes_of before) buffer
         → WritesText {A = Unit {0}} begun (flat_map bytes_of before) piece lines.reader.number buffer out held sink (Err fault)
-        → IsStopped properties bytes_of start begun before input held sink fault
+        → IsStopped read_of bytes_of start begun before input held sink fault
     not_written buffer held out sink (Input number kind) written stops =
-        let at_number = subst (λ n. IsStopped properties bytes_of start begun before input buffer out (Input n Memory)) (sym stops.0) (t.memory, written) in
-        let at_kind = subst (λ k. IsStopped properties bytes_of start begun before input buffer out (Input number k)) (sym stops.1) at_number in
-        let at_buffer = subst (λ b. IsStopped properties bytes_of start begun before input b out (Input number kind)) (sym stops.2) at_kind in
-        subst (λ s. IsStopped properties bytes_of start begun before input held s (Input number kind)) (sym stops.3) at_buffer
+        let at_number = subst (λ n. IsStopped read_of bytes_of start begun before input buffer out (Input n Memory)) (sym stops.0) (t.memory, written) in
+        let at_kind = subst (λ k. IsStopped read_of bytes_of start begun before input buffer out (Input number k)) (sym stops.1) at_number in
+        let at_buffer = subst (λ b. IsStopped read_of bytes_of start begun before input b out (Input number kind)) (sym stops.2) at_kind in
+        subst (λ s. IsStopped read_of bytes_of start begun before input held s (Input number kind)) (sym stops.3) at_buffer
     not_written buffer held out sink (Write written) before_it stops = record {
       text = flat_map bytes_of (before ++ lines.line ∷ []);
       went_out = subst (λ output. PartWentOut begun sink.contents output written) written_line stops;

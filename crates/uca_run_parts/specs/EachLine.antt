@@ -3,7 +3,7 @@ use Rattle.std.specs.Prelude.{◌≡◌, ℕ, List, ◌||◌, Bool, true, false,
 use Rattle.std.specs.List.{flat_map}
 use Rattle.std.specs.Io.KnownBytes.{Appends}
 use Rattle.uca_weights.specs.Streams.{SourceState, SinkState}
-use Rattle.uca_values.specs.Content.{Properties}
+use Rattle.uca_text.specs.Texts.{NfdText}
 use Rattle.uca_lines.specs.Lines.{lines_of}
 use Rattle.uca_run_parts.specs.declared.faults.RunFault.{RunFault}
 use Rattle.uca_run_parts.specs.declared.faults.RunFault.TheVariants.{File, Input, Write, Memory}
@@ -14,16 +14,16 @@ use Rattle.uca_run_parts.specs.Runs.{IsClean, IsInputFault, PartWentOut, is_inpu
 
 -- What is written of an input: the bytes of each line before the first one with an error. The source has something left,
 -- and the writer held `begun` and holds `now`.
-abbrev pub WritesEach : {A : Type 0} → Properties → (List ℕ → List ℕ) → List ℕ → Option (List ℕ) → Option (List ℕ) → Option (List ℕ) → Result A RunFault → Type 0
-WritesEach properties bytes_of bytes left begun now (Ok x) = IsClean properties bytes × Appends begun now (flat_map bytes_of (lines_of bytes))
-WritesEach properties bytes_of bytes left begun now (Err (Input number kind)) = (before : List (List ℕ)) × IsInputFault properties bytes left before number kind × Appends begun now (flat_map bytes_of before)
-WritesEach properties bytes_of bytes left begun now (Err (Write written)) = PartWentOut begun now (flat_map bytes_of (clean_lines properties (lines_of bytes))) written
-WritesEach properties bytes_of bytes left begun now (Err _) = ⊥
+abbrev pub WritesEach : {A : Type 0} → (List ℕ → NfdText) → (List ℕ → List ℕ) → List ℕ → Option (List ℕ) → Option (List ℕ) → Option (List ℕ) → Result A RunFault → Type 0
+WritesEach read_of bytes_of bytes left begun now (Ok x) = IsClean read_of bytes × Appends begun now (flat_map bytes_of (lines_of bytes))
+WritesEach read_of bytes_of bytes left begun now (Err (Input number kind)) = (before : List (List ℕ)) × IsInputFault read_of bytes left before number kind × Appends begun now (flat_map bytes_of before)
+WritesEach read_of bytes_of bytes left begun now (Err (Write written)) = PartWentOut begun now (flat_map bytes_of (clean_lines read_of (lines_of bytes))) written
+WritesEach read_of bytes_of bytes left begun now (Err _) = ⊥
 
 -- What is written of an input whose bytes are known: the bytes of its lines, or as many as an error of the input or of the
 -- writer leaves.
-abbrev pub RunsEach : {A : Type 0} → Properties → (List ℕ → List ℕ) → SourceState → SourceState → SinkState → SinkState → Result A RunFault → Type 0
-RunsEach properties bytes_of input input_new out out_new result = IfSome input.remaining (λ bytes. WritesEach properties bytes_of bytes input_new.remaining out.contents out_new.contents result)
+abbrev pub RunsEach : {A : Type 0} → (List ℕ → NfdText) → (List ℕ → List ℕ) → SourceState → SourceState → SinkState → SinkState → Result A RunFault → Type 0
+RunsEach read_of bytes_of input input_new out out_new result = IfSome input.remaining (λ bytes. WritesEach read_of bytes_of bytes input_new.remaining out.contents out_new.contents result)
 
 -- whether the run ended before any line of the input was looked at
 abbrev pub ended_before_input : {A : Type 0} → Result A RunFault → Bool

@@ -2,7 +2,7 @@
 use Rattle.std.specs.Prelude.{◌≡◌, ◌≢◌, [], ℕ, suc, ◌<◌, ◌≤◌, List, ◌∷◌, ◌++◌, Bool, true, false, Option, Some, IsSomeAnd, Result, Ok, Err, length, take}
 use Rattle.std.specs.List.{flat_map}
 use Rattle.std.specs.Io.KnownBytes.{Appends}
-use Rattle.uca_values.specs.Content.{Properties}
+use Rattle.uca_text.specs.Texts.{NfdText}
 use Rattle.uca_lines.specs.Lines.{is_lf, Lacks, ended, lines_of}
 use Rattle.uca_run_parts.specs.declared.faults.InputKind.{InputKind}
 use Rattle.uca_run_parts.specs.declared.faults.InputKind.TheVariants.{Utf8, TooLong, LongRun, Read, Limit, Memory as InputMemory}
@@ -20,32 +20,32 @@ pub record FailsAfter (bytes left : List ℕ) (before : List (List ℕ)) : Type 
   pub short : length part ≤ 4194304
 
 -- the line after these has this cause
-pub record HasLineCause (properties : Properties) (before rest : List (List ℕ)) (kind : InputKind) : Type 0 where
+pub record HasLineCause (read_of : List ℕ → NfdText) (before rest : List (List ℕ)) (kind : InputKind) : Type 0 where
   pub line : List ℕ
   pub later : List (List ℕ)
   pub next : rest ≡ line ∷ later
-  pub cause : cause_of properties (length before) line ≡ Some kind
+  pub cause : cause_of read_of (length before) line ≡ Some kind
 
 -- why the line after these is not read, where an allocation may fail at any line
-abbrev pub HasCause : Properties → List ℕ → Option (List ℕ) → List (List ℕ) → List (List ℕ) → InputKind → Type 0
-HasCause properties bytes left before rest Utf8 = HasLineCause properties before rest Utf8
-HasCause properties bytes left before rest TooLong = HasLineCause properties before rest TooLong
-HasCause properties bytes left before rest (LongRun place) = HasLineCause properties before rest (LongRun place)
-HasCause properties bytes left before rest Limit = HasLineCause properties before rest Limit
-HasCause properties bytes left before rest Read = IsSomeAnd left (λ unread. FailsAfter bytes unread before)
-HasCause properties bytes left before rest InputMemory = rest ≢ []
+abbrev pub HasCause : (List ℕ → NfdText) → List ℕ → Option (List ℕ) → List (List ℕ) → List (List ℕ) → InputKind → Type 0
+HasCause read_of bytes left before rest Utf8 = HasLineCause read_of before rest Utf8
+HasCause read_of bytes left before rest TooLong = HasLineCause read_of before rest TooLong
+HasCause read_of bytes left before rest (LongRun place) = HasLineCause read_of before rest (LongRun place)
+HasCause read_of bytes left before rest Limit = HasLineCause read_of before rest Limit
+HasCause read_of bytes left before rest Read = IsSomeAnd left (λ unread. FailsAfter bytes unread before)
+HasCause read_of bytes left before rest InputMemory = rest ≢ []
 
 -- An error at line `number`: the lines before it have no error, and it has this cause.
-pub record IsInputFault (properties : Properties) (bytes : List ℕ) (left : Option (List ℕ)) (before : List (List ℕ)) (number : ℕ) (kind : InputKind) : Type 0 where
+pub record IsInputFault (read_of : List ℕ → NfdText) (bytes : List ℕ) (left : Option (List ℕ)) (before : List (List ℕ)) (number : ℕ) (kind : InputKind) : Type 0 where
   pub rest : List (List ℕ)
   pub lines : lines_of bytes ≡ before ++ rest
   pub place : number ≡ suc (length before)
-  pub clean : (more : List (List ℕ)) × (clean_lines properties (lines_of bytes) ≡ before ++ more)
-  pub cause : HasCause properties bytes left before rest kind
+  pub clean : (more : List (List ℕ)) × (clean_lines read_of (lines_of bytes) ≡ before ++ more)
+  pub cause : HasCause read_of bytes left before rest kind
 
 -- no line of the bytes has an error
-abbrev pub IsClean : Properties → List ℕ → Type 0
-IsClean properties bytes = clean_lines properties (lines_of bytes) ≡ lines_of bytes
+abbrev pub IsClean : (List ℕ → NfdText) → List ℕ → Type 0
+IsClean read_of bytes = clean_lines read_of (lines_of bytes) ≡ lines_of bytes
 
 -- whether reading the input failed
 abbrev pub is_input_read : {A : Type 0} → Result A RunFault → Bool

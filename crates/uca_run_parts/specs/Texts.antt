@@ -2,7 +2,6 @@
 -- rests on it.
 use Rattle.std.specs.Prelude.{◌≡◌, ℕ, ◌+◌, Bool, false, MatchBool, List, [], ◌∷◌, ◌++◌, Option, Some, Result, Ok, Err, IfSome, length, ⊤}
 use Rattle.uca_weights.specs.Streams.{SourceState}
-use Rattle.uca_values.specs.Content.{Properties}
 use Rattle.uca_text.specs.Texts.{NfdText}
 use Rattle.uca_text.specs.declared.normalize.TextFault.{TextFault}
 use Rattle.uca_text.specs.declared.normalize.TextFault.TheVariants as text_fault
@@ -32,13 +31,13 @@ text_kind (text_fault.LongRun place) = LongRun place
 text_kind text_fault.Memory = Memory
 
 -- the cause for which a line after this many others has no text; an allocation may fail at any line
-abbrev pub HasTextCause : Properties → ℕ → List ℕ → InputKind → Type 0
-HasTextCause properties before line Utf8 = cause_of properties before line ≡ Some Utf8
-HasTextCause properties before line TooLong = cause_of properties before line ≡ Some TooLong
-HasTextCause properties before line (LongRun place) = cause_of properties before line ≡ Some (LongRun place)
-HasTextCause properties before line Limit = ⊥
-HasTextCause properties before line Read = ⊥
-HasTextCause properties before line Memory = ⊤
+abbrev pub HasTextCause : (List ℕ → NfdText) → ℕ → List ℕ → InputKind → Type 0
+HasTextCause read_of before line Utf8 = cause_of read_of before line ≡ Some Utf8
+HasTextCause read_of before line TooLong = cause_of read_of before line ≡ Some TooLong
+HasTextCause read_of before line (LongRun place) = cause_of read_of before line ≡ Some (LongRun place)
+HasTextCause read_of before line Limit = ⊥
+HasTextCause read_of before line Read = ⊥
+HasTextCause read_of before line Memory = ⊤
 
 -- whether the error is the reader's
 abbrev pub is_read : {A : Type 0} → Result A InputKind → Bool
@@ -54,39 +53,39 @@ pub record LinesState : Type 0 where
   pub is_cut : Bool
 
 -- These lines, none of them with an error, were read since the input had `start`.
-pub record HasRead (properties : Properties) (start : Option (List ℕ)) (before : List (List ℕ)) (lines : LinesState) (input : SourceState) : Type 0 where
-  pub after : OnKnown start (left_of lines.reader input) (λ bytes left. IsAfter properties bytes left lines.is_cut before)
+pub record HasRead (read_of : List ℕ → NfdText) (start : Option (List ℕ)) (before : List (List ℕ)) (lines : LinesState) (input : SourceState) : Type 0 where
+  pub after : OnKnown start (left_of lines.reader input) (λ bytes left. IsAfter read_of bytes left lines.is_cut before)
   pub count : lines.reader.number ≡ length before
 
 -- no line is left after these
-abbrev pub HasReadAll : Properties → Option (List ℕ) → List (List ℕ) → Type 0
-HasReadAll properties start before = IfSome start (λ bytes. AreAll properties bytes before)
+abbrev pub HasReadAll : (List ℕ → NfdText) → Option (List ℕ) → List (List ℕ) → Type 0
+HasReadAll read_of start before = IfSome start (λ bytes. AreAll read_of bytes before)
 
 -- why the line after these, which has this number, gives no text
-abbrev pub HasNoText : Properties → Option (List ℕ) → List (List ℕ) → SourceState → ℕ → InputKind → Type 0
-HasNoText properties start before input number kind = IfSome start (λ bytes. IsInputFault properties bytes input.remaining before number kind)
+abbrev pub HasNoText : (List ℕ → NfdText) → Option (List ℕ) → List (List ℕ) → SourceState → ℕ → InputKind → Type 0
+HasNoText read_of start before input number kind = IfSome start (λ bytes. IsInputFault read_of bytes input.remaining before number kind)
 
 -- The next line was read, and its bytes were not looked at.
-pub record HasLine (properties : Properties) (start : Option (List ℕ)) (before : List (List ℕ)) (lines : LinesState) (input : SourceState) : Type 0 where
-  pub next : OnKnown start (left_of lines.reader input) (λ bytes left. IsNext properties bytes left lines.is_cut before lines.line)
+pub record HasLine (read_of : List ℕ → NfdText) (start : Option (List ℕ)) (before : List (List ℕ)) (lines : LinesState) (input : SourceState) : Type 0 where
+  pub next : OnKnown start (left_of lines.reader input) (λ bytes left. IsNext read_of bytes left lines.is_cut before lines.line)
   pub count : lines.reader.number ≡ length before + 1
 
 -- what is returned where a line may come: the next line, that none is left, or why it is not read, with the number of the line
-abbrev pub ReadsNextLine : Properties → Option (List ℕ) → List (List ℕ) → LinesState → SourceState → Result Bool RunFault → Type 0
-ReadsNextLine properties start before lines input (Ok more) = MatchBool more (HasLine properties start before lines input) (HasReadAll properties start before)
-ReadsNextLine properties start before lines input (Err (Input number kind)) = HasNoText properties start before input number kind
-ReadsNextLine properties start before lines input (Err _) = ⊥
+abbrev pub ReadsNextLine : (List ℕ → NfdText) → Option (List ℕ) → List (List ℕ) → LinesState → SourceState → Result Bool RunFault → Type 0
+ReadsNextLine read_of start before lines input (Ok more) = MatchBool more (HasLine read_of start before lines input) (HasReadAll read_of start before)
+ReadsNextLine read_of start before lines input (Err (Input number kind)) = HasNoText read_of start before input number kind
+ReadsNextLine read_of start before lines input (Err _) = ⊥
 
 -- The next line has no error. An allocation that fails now is an error of this line.
-pub record HasCleanLine (properties : Properties) (start : Option (List ℕ)) (before : List (List ℕ)) (lines : LinesState) (input : SourceState) : Type 0 where
-  pub read : HasRead properties start (before ++ lines.line ∷ []) lines input
-  pub memory : HasNoText properties start before input lines.reader.number Memory
+pub record HasCleanLine (read_of : List ℕ → NfdText) (start : Option (List ℕ)) (before : List (List ℕ)) (lines : LinesState) (input : SourceState) : Type 0 where
+  pub read : HasRead read_of start (before ++ lines.line ∷ []) lines input
+  pub memory : HasNoText read_of start before input lines.reader.number Memory
 
 -- what is returned where a line without an error may come: the next line, that none is left, or why it gives no text
-abbrev pub ReadsCleanLine : Properties → Option (List ℕ) → List (List ℕ) → LinesState → SourceState → Result Bool RunFault → Type 0
-ReadsCleanLine properties start before lines input (Ok more) = MatchBool more (HasCleanLine properties start before lines input) (HasReadAll properties start before)
-ReadsCleanLine properties start before lines input (Err (Input number kind)) = HasNoText properties start before input number kind
-ReadsCleanLine properties start before lines input (Err _) = ⊥
+abbrev pub ReadsCleanLine : (List ℕ → NfdText) → Option (List ℕ) → List (List ℕ) → LinesState → SourceState → Result Bool RunFault → Type 0
+ReadsCleanLine read_of start before lines input (Ok more) = MatchBool more (HasCleanLine read_of start before lines input) (HasReadAll read_of start before)
+ReadsCleanLine read_of start before lines input (Err (Input number kind)) = HasNoText read_of start before input number kind
+ReadsCleanLine read_of start before lines input (Err _) = ⊥
 
 -- What a clause sees of an `InputTexts`: the lines, and the text of the one that was read last.
 pub record TextsState : Type 0 where

@@ -7,6 +7,7 @@
 ghost use Rattle.std.specs.Prelude.{◌≡◌, ◌∷◌, [], ℕ, ◌+◌, ◌-◌, ◌*◌, ◌^◌, ◌<◌, ◌≤◌, ◌||◌, false, Bool, List, Option, IfSome, OnOk, length};
 ghost use Rattle.uca_values.specs.Content.{properties_of};
 ghost use Rattle.uca_lines.specs.OutputBuffer.{IsBuffered};
+ghost use Rattle.uca_run_parts.specs.Input.{line_text};
 ghost use Rattle.uca_run_parts.specs.Runs.{is_input_read, ended_by_output};
 ghost use Rattle.uca_run_parts.specs.EachLine.{WritesEach, ended_before_input};
 ghost use Rattle.uca_run_parts.specs.EachLineSoFar.{HasWritten, WritesText, WritesRest};
@@ -22,7 +23,7 @@ use uca_lines::{LINE_LIMIT, OutputBuffer};
 use uca_relations::Rules;
 use uca_text::Normal;
 use uca_values::Data;
-use uca_weights::{Sink, Source};
+use uca_weights::{Numbers, Sink, Source};
 
 /// What affects some texts and no others.
 pub trait Affects {
@@ -79,6 +80,7 @@ impl<A: Allocator> AffectedRun<A> {
     // Writes those of the lines that are left.
     fn print_rest<D: Allocator, X: Affects, I: Read, W: Write>(
         &mut self,
+        numbers: Numbers,
         properties: &Data<D>,
         affects: &X,
         input: &mut Source<I>,
@@ -87,13 +89,13 @@ impl<A: Allocator> AffectedRun<A> {
         requires small { self.old.output.written + length self.old.output.held
             ≤ self.old.texts.lines.reader.number * 2 ^ 43 }
         ensures prints { (start begun : Option (List ℕ)) (before : List (List ℕ)) →
-            let points = properties_of properties.now in
-            HasWritten points (line_if (X.affects affects.now) points) start begun before self.old.texts.lines input.old self.old.output out.old →
-            WritesRest points (line_if (X.affects affects.now) points) start begun input.new self.new.output out.new result }
+            let read_of = line_text numbers (properties_of properties.now) in
+            HasWritten read_of (line_if (X.affects affects.now) read_of) start begun before self.old.texts.lines input.old self.old.output out.old →
+            WritesRest read_of (line_if (X.affects affects.now) read_of) start begun input.new self.new.output out.new result }
         ensures input_failed { input.new.failed ≡ (input.old.failed || is_input_read result) }
         ensures out_failed { out.new.failed ≡ (out.old.failed || ended_by_output result) }
     {
-        while self.texts.next(input, properties)? {
+        while self.texts.next(input, numbers, properties)? {
             self.print_text(affects, out)?;
         }
         Ok(())
@@ -111,14 +113,15 @@ impl<A: Allocator> AffectedRun<A> {
 pub fn print_affected<D: Allocator, X: Affects, A: Allocator, I: Read, W: Write>(
     alloc: A,
     global: Global,
+    numbers: Numbers,
     properties: &Data<D>,
     affects: &X,
     input: &mut Source<I>,
     out: &mut Sink<W>,
 ) -> Result<(), RunFault>
     ensures writes { IfSome input.old.remaining (λ bytes.
-        let points = properties_of properties.now in
-        WritesEach points (line_if (X.affects affects.now) points) bytes input.new.remaining out.old.contents out.new.contents result) }
+        let read_of = line_text numbers (properties_of properties.now) in
+        WritesEach read_of (line_if (X.affects affects.now) read_of) bytes input.new.remaining out.old.contents out.new.contents result) }
     ensures of_lines { ended_before_input result ≡ false }
     ensures input_failed { ended_by_output result ≡ false →
         input.new.failed ≡ (input.old.failed || is_input_read result) }
@@ -128,7 +131,7 @@ pub fn print_affected<D: Allocator, X: Affects, A: Allocator, I: Read, W: Write>
         texts: InputTexts::new(alloc, global),
         output: OutputBuffer::new(),
     };
-    let end = run.print_rest(properties, affects, input, out);
+    let end = run.print_rest(numbers, properties, affects, input, out);
     let end = end_output(&mut run.output, out, end);
     drop(run);
     end
@@ -150,11 +153,12 @@ pub fn run_affected<D: Read, U: Read, I: Read, W: Write>(
     rules: &mut Source<U>,
     input: &mut Source<I>,
     out: &mut Sink<W>,
+    numbers: Numbers,
 ) -> Result<(), RunFault>
-    ensures { PrintsAffected (properties.old ∷ rules.old ∷ []) (properties.new ∷ rules.new ∷ [])
+    ensures { PrintsAffected numbers (properties.old ∷ rules.old ∷ []) (properties.new ∷ rules.new ∷ [])
         input.old input.new out.old out.new result }
 {
-    run_affected_in(alloc, alloc, properties, rules, input, out)
+    run_affected_in(alloc, alloc, properties, rules, input, out, numbers)
 }
 
 /// As [`run_affected`], with the two files and the lines in memory of any allocator. Texts in Normalization Form D are in
@@ -170,13 +174,22 @@ pub fn run_affected_in<A: Allocator + Copy, D: Read, U: Read, I: Read, W: Write>
     rules: &mut Source<U>,
     input: &mut Source<I>,
     out: &mut Sink<W>,
+    numbers: Numbers,
 ) -> Result<(), RunFault>
-    ensures { PrintsAffected (properties.old ∷ rules.old ∷ []) (properties.new ∷ rules.new ∷ [])
+    ensures { PrintsAffected numbers (properties.old ∷ rules.old ∷ []) (properties.new ∷ rules.new ∷ [])
         input.old input.new out.old out.new result }
 {
     match read_data_and_rules(alloc, global, properties, rules) {
         Ok(files) => {
-            let end = print_affected(alloc, global, &files.properties, &files.rules, input, out);
+            let end = print_affected(
+                alloc,
+                global,
+                numbers,
+                &files.properties,
+                &files.rules,
+                input,
+                out,
+            );
             drop(files);
             end
         }

@@ -1,13 +1,15 @@
 //! The lines of an input, and their texts. `InputLines` goes from the input to a line as UTF-8, and `InputTexts` from
 //! the input to the `Normal` of a line.
 
-ghost use Rattle.std.specs.Prelude.{◌≡◌, ℕ, List, [], Option, false, ◌+◌, ◌<◌, ◌≤◌, ◌||◌, length, chars, IfErr, IfOk, OnOk};
+ghost use Rattle.std.specs.Prelude.{◌≡◌, ℕ, List, [], Option, false, ◌+◌, ◌<◌, ◌≤◌, ◌||◌, length, IfErr, IfOk, OnOk};
 ghost use Rattle.std.specs.Bool.{OnTrue};
 ghost use Rattle.std.specs.Str.{IsUtf8};
 ghost use Rattle.uca_weights.specs.Streams.{SourceState};
-ghost use Rattle.uca_values.specs.Content.{Properties, properties_of};
-ghost use Rattle.uca_text.specs.Texts.{nfd_text};
-ghost use Rattle.uca_run_parts.specs.Input.{cause_of, is_input_read_kind};
+ghost use Rattle.uca_values.specs.Content.{properties_of};
+ghost use Rattle.uca_text.specs.Texts.{NfdText};
+ghost use Rattle.uca_text.specs.Limits.{IsAccepted};
+ghost use Rattle.uca_text.specs.Faults.{IsCause};
+ghost use Rattle.uca_run_parts.specs.Input.{cause_of, is_input_read_kind, line_text};
 ghost use Rattle.uca_run_parts.specs.Runs.{is_input_read, ended_by_output};
 ghost use Rattle.uca_run_parts.specs.Texts.{line_kind, text_kind, HasRead, HasTextCause, ReadsNextLine, ReadsCleanLine, is_read};
 
@@ -16,9 +18,10 @@ use std::alloc::{Allocator, Global};
 use std::io::Read;
 use std::marker::Model;
 use uca_lines::{LINE_LIMIT, LineFault, LineReader, NextLine};
+use uca_numbers::WrittenText;
 use uca_text::{Normal, TextFault};
 use uca_values::Data;
-use uca_weights::Source;
+use uca_weights::{Numbers, Source};
 
 /// How many bytes a line of the input may have, its LF not counted.
 pub const LONGEST_INPUT_LINE: usize = 4_194_304;
@@ -46,8 +49,8 @@ impl<A: Allocator> Model for InputLines<A> {
 impl<A: Allocator> InputLines<A> {
     /// The lines of an input, before any is read. It takes no memory.
     pub fn new(alloc: A) -> InputLines<A>
-        ensures read { (properties : Properties) (input : SourceState) →
-            HasRead properties input.remaining [] result input }
+        ensures read { (read_of : List ℕ → NfdText) (input : SourceState) →
+            HasRead read_of input.remaining [] result input }
         ensures number { result.reader.number ≡ 0 }
     {
         InputLines {
@@ -80,8 +83,8 @@ impl<A: Allocator> InputLines<A> {
     /// `Utf8`: it is not UTF-8.
     pub fn text(&self) -> Result<&str, InputKind>
         ensures text { IfOk result (λ text. (text.now ≡ self.now.line) × IsUtf8 self.now.line) }
-        ensures fault { (properties : Properties) (before : ℕ) → before < LINE_LIMIT →
-            IfErr result (HasTextCause properties before self.now.line) }
+        ensures fault { (read_of : List ℕ → NfdText) (before : ℕ) → before < LINE_LIMIT →
+            IfErr result (HasTextCause read_of before self.now.line) }
         ensures not_read { IfErr result (λ kind. is_input_read_kind kind ≡ false) }
         ensures within { length self.now.line ≤ LONGEST_INPUT_LINE }
     {
@@ -99,9 +102,9 @@ impl<A: Allocator> InputLines<A> {
     /// `Input`: the line is not read, for `Limit` or else for `TooLong` by its bytes. `Read` if the source failed, and
     /// `Memory` if an allocation failed.
     pub fn next<I: Read>(&mut self, input: &mut Source<I>) -> Result<bool, RunFault>
-        ensures reads { (properties : Properties) (start : Option (List ℕ)) (before : List (List ℕ)) →
-            HasRead properties start before self.old input.old →
-            ReadsNextLine properties start before self.new input.new result }
+        ensures reads { (read_of : List ℕ → NfdText) (start : Option (List ℕ)) (before : List (List ℕ)) →
+            HasRead read_of start before self.old input.old →
+            ReadsNextLine read_of start before self.new input.new result }
         ensures count { IfOk result (λ more. OnTrue more ((self.new.reader.number ≡ self.old.reader.number + 1)
             × (self.old.reader.number < LINE_LIMIT))) }
         ensures not_write { ended_by_output result ≡ false }
@@ -126,11 +129,13 @@ impl<A: Allocator> InputLines<A> {
     }
 }
 
-/// The lines of an input, in turn, each with its text in Normalization Form D.
+/// The lines of an input, in turn, each with what is read of it in Normalization Form D.
 #[derive(Drop)]
 pub struct InputTexts<A: Allocator> {
     lines: InputLines<A>,
     text: Normal,
+    // the line by value, where numbers are
+    written: WrittenText,
 }
 
 impl<A: Allocator> Model for InputTexts<A> {
@@ -144,13 +149,14 @@ impl<A: Allocator> Model for InputTexts<A> {
 impl<A: Allocator> InputTexts<A> {
     /// The texts of an input, before any line is read. It takes no memory.
     pub fn new(alloc: A, global: Global) -> InputTexts<A>
-        ensures read { (properties : Properties) (input : SourceState) →
-            HasRead properties input.remaining [] result.lines input }
+        ensures read { (read_of : List ℕ → NfdText) (input : SourceState) →
+            HasRead read_of input.remaining [] result.lines input }
         ensures number { result.lines.reader.number ≡ 0 }
     {
         InputTexts {
             lines: InputLines::new(alloc),
             text: Normal::new(global),
+            written: WrittenText::new(global),
         }
     }
 
@@ -170,37 +176,47 @@ impl<A: Allocator> InputTexts<A> {
         self.lines.line()
     }
 
-    /// The text of that line.
+    /// What was read of that line.
     pub fn text(&self) -> &Normal
         ensures { result.now ≡ self.now.text }
     {
         &self.text
     }
 
-    /// Reads the next line of the input and its text, over those that were read before, and returns whether there
-    /// was a line. After a line that no LF ends nothing more is read.
+    /// Reads the next line of the input and what is read of it, over those that were read before, and returns whether there
+    /// was a line. With numbers by value that is the line with the code of each number in place of it. After a line that no
+    /// LF ends nothing more is read.
     ///
     /// # Errors
     ///
     /// `Input`, with the first of these that is true of the line: `Limit`, `TooLong` by its bytes, `Utf8`, `TooLong`
-    /// by its code points, `LongRun`. `Read` if the source failed, and `Memory` if an allocation failed.
+    /// by the code points of what is read, `LongRun` of these. `Read` if the source failed, and `Memory` if an allocation
+    /// failed.
     pub fn next<I: Read, D: Allocator>(
         &mut self,
         input: &mut Source<I>,
+        numbers: Numbers,
         properties: &Data<D>,
     ) -> Result<bool, RunFault>
         ensures reads { (start : Option (List ℕ)) (before : List (List ℕ)) →
-            HasRead (properties_of properties.now) start before self.old.lines input.old →
-            ReadsCleanLine (properties_of properties.now) start before self.new.lines input.new result }
+            let read_of = line_text numbers (properties_of properties.now) in
+            HasRead read_of start before self.old.lines input.old →
+            ReadsCleanLine read_of start before self.new.lines input.new result }
         ensures text { IfOk result (λ more. OnTrue more
-            (self.new.text ≡ nfd_text (properties_of properties.now) (chars self.new.lines.line))) }
+            (self.new.text ≡ line_text numbers (properties_of properties.now) self.new.lines.line)) }
         ensures count { IfOk result (λ more. OnTrue more ((self.new.lines.reader.number ≡ self.old.lines.reader.number + 1)
             × (self.new.lines.reader.number ≤ LINE_LIMIT))) }
         ensures not_write { ended_by_output result ≡ false }
         ensures failed { input.new.failed ≡ (input.old.failed || is_input_read result) }
     {
         match self.lines.next(input) {
-            Ok(true) => match take_text(&mut self.text, &self.lines, properties) {
+            Ok(true) => match take_text(
+                &mut self.text,
+                &mut self.written,
+                &self.lines,
+                numbers,
+                properties,
+            ) {
                 Ok(()) => Ok(true),
                 Err(kind) => Err(RunFault::Input {
                     line: self.lines.number(),
@@ -235,29 +251,47 @@ pub fn kind_of_text(fault: TextFault) -> InputKind
     }
 }
 
-/// Makes the text that of the line that was read.
-///
-/// # Errors
-///
-/// `Utf8` if the line is not UTF-8; else `TooLong` or `LongRun` if its text is not within the limits of texts, and `Memory` if an
-/// allocation fails.
-pub fn take_text<A: Allocator, D: Allocator>(
+// Makes the text what is read of the line that was read.
+fn take_text<A: Allocator, D: Allocator>(
     text: &mut Normal,
+    written: &mut WrittenText,
     lines: &InputLines<A>,
+    numbers: Numbers,
     properties: &Data<D>,
 ) -> Result<(), InputKind>
-    ensures text { OnOk result (text.new ≡ nfd_text (properties_of properties.now) (chars lines.now.line)) }
+    ensures text { OnOk result (text.new ≡ line_text numbers (properties_of properties.now) lines.now.line) }
     ensures clean { (before : ℕ) → before < LINE_LIMIT →
-        OnOk result (cause_of (properties_of properties.now) before lines.now.line ≡ None) }
+        OnOk result (cause_of (line_text numbers (properties_of properties.now)) before lines.now.line ≡ None) }
     ensures fault { (before : ℕ) → before < LINE_LIMIT →
-        IfErr result (HasTextCause (properties_of properties.now) before lines.now.line) }
+        IfErr result (HasTextCause (line_text numbers (properties_of properties.now)) before lines.now.line) }
     ensures not_read { is_read result ≡ false }
 {
     match lines.text() {
-        Ok(line) => match text.renew(line, properties) {
+        Ok(line) => match renew_text(text, written, line, numbers, properties) {
             Ok(()) => Ok(()),
             Err(fault) => Err(kind_of_text(fault)),
         },
         Err(kind) => Err(kind),
+    }
+}
+
+// Makes the text what is read of a line.
+fn renew_text<D: Allocator>(
+    text: &mut Normal,
+    written: &mut WrittenText,
+    line: &str,
+    numbers: Numbers,
+    properties: &Data<D>,
+) -> Result<(), TextFault>
+    ensures found { OnOk result (text.new ≡ line_text numbers (properties_of properties.now) line.now) }
+    ensures accepted { OnOk result (IsAccepted text.new) }
+    ensures fault { IfErr result (IsCause (line_text numbers (properties_of properties.now) line.now)) }
+{
+    match numbers {
+        Numbers::AsText => text.renew(line, properties),
+        Numbers::ByValue => {
+            written.renew(line)?;
+            text.renew(written.as_str(), properties)
+        }
     }
 }

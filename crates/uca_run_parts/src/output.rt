@@ -3,7 +3,6 @@
 ghost use Rattle.std.specs.Prelude.{◌≡◌, ◌||◌, true, false, ℕ, Bool, List, Option, IfErr, IfSome, OnOk, length};
 ghost use Rattle.std.specs.Io.KnownBytes.{Appends};
 ghost use Rattle.uca_weights.specs.Streams.{SourceState};
-ghost use Rattle.uca_values.specs.Content.{Properties};
 ghost use Rattle.uca_lines.specs.Lines.{ended};
 ghost use Rattle.uca_lines.specs.Buffered.{HasRoom, WritesThrough};
 ghost use Rattle.uca_run_parts.specs.EachLine.{WritesEach, ended_before_input};
@@ -80,9 +79,9 @@ pub fn end_output<W: Write>(
     out: &mut Sink<W>,
     end: Result<(), RunFault>,
 ) -> Result<(), RunFault>
-    ensures writes { (properties : Properties) (bytes_of : List ℕ → List ℕ) (start begun : Option (List ℕ)) (input : SourceState) →
-        WritesRest properties bytes_of start begun input output.old out.old end →
-        IfSome start (λ bytes. WritesEach properties bytes_of bytes input.remaining begun out.new.contents result) }
+    ensures writes { (read_of : List ℕ → NfdText) (bytes_of : List ℕ → List ℕ) (start begun : Option (List ℕ)) (input : SourceState) →
+        WritesRest read_of bytes_of start begun input output.old out.old end →
+        IfSome start (λ bytes. WritesEach read_of bytes_of bytes input.remaining begun out.new.contents result) }
     ensures of_lines { ended_before_input end ≡ false → ended_before_input result ≡ false }
     ensures not_read { ended_by_output result ≡ false → is_input_read result ≡ is_input_read end }
     ensures failed { (before : Bool) → out.old.failed ≡ (before || ended_by_output end) →

@@ -26,14 +26,14 @@ with_files app = with_rule (with_rule app (word_rule (codes "table"))) (word_rul
 abbrev pub with_settings : App → App
 with_settings app = with_rule (with_rule app (value_rule (codes "weighting"))) (flag_rule (codes "identical"))
 
--- `[--weighting W] [--identical] TABLE DATA` come next
+-- `[--weighting W] [--identical] [--numeric] TABLE DATA` come next
 abbrev pub with_options : App → App
-with_options app = with_files (with_settings app)
+with_options app = with_files (with_rule (with_settings app) (flag_rule (codes "numeric")))
 
 abbrev pub check_app : App
 check_app = with_files (new_app (codes "check"))
 
--- `keys [--weighting W] [--identical] [--lines] [--header] [--compact BOOK] TABLE DATA`
+-- `keys [--weighting W] [--identical] [--numeric] [--lines] [--header] [--compact BOOK] TABLE DATA`
 abbrev pub keys_app : App
 keys_app =
     with_rule (with_rule (with_rule (with_options (new_app (codes "keys"))) (flag_rule (codes "lines"))) (flag_rule (codes "header")))
@@ -42,7 +42,7 @@ keys_app =
 abbrev pub sort_app : App
 sort_app = with_options (new_app (codes "sort"))
 
--- `compare [--weighting W] [--identical] TABLE DATA LEFT RIGHT`
+-- `compare [--weighting W] [--identical] [--numeric] TABLE DATA LEFT RIGHT`
 abbrev pub compare_app : App
 compare_app = with_rule (with_rule (with_options (new_app (codes "compare"))) (word_rule (codes "left"))) (word_rule (codes "right"))
 
@@ -57,9 +57,11 @@ with_audit_files app = with_rule (with_rule (with_rule (with_rule (with_rule app
 abbrev pub audit_app : App
 audit_app = with_audit_files (new_app (codes "audit"))
 
--- `affected [--changes] DATA RULES`
+-- `affected [--changes] [--numeric] DATA RULES`
 abbrev pub affected_app : App
-affected_app = with_rule (with_rule (with_rule (new_app (codes "affected")) (flag_rule (codes "changes"))) (word_rule (codes "data"))) (word_rule (codes "rules"))
+affected_app =
+    with_rule (with_rule (with_rule (with_rule (new_app (codes "affected")) (flag_rule (codes "changes"))) (flag_rule (codes "numeric"))) (word_rule (codes "data")))
+    (word_rule (codes "rules"))
 
 -- `OLD OLD-DATA NEW NEW-DATA` come next
 abbrev pub with_editions : App → App
@@ -95,7 +97,7 @@ expand_app = with_book (new_app (codes "expand"))
 abbrev pub book_app : App
 book_app = with_rule (with_rule (new_app (codes "book")) (word_rule (codes "certificate"))) (word_rule (codes "book"))
 
--- `fingerprint [--weighting W] [--identical] [--compact BOOK] TABLE DATA`
+-- `fingerprint [--weighting W] [--identical] [--numeric] [--compact BOOK] TABLE DATA`
 abbrev pub fingerprint_app : App
 fingerprint_app = with_rule (with_options (new_app (codes "fingerprint"))) (value_rule (codes "compact"))
 

@@ -9,6 +9,8 @@ use Rattle.clap.specs.Takes.{is_given}
 use Rattle.clap.specs.Words.{IsAmong, Row, Text, fault_of, first_of, kind_of, subcommand_of, takes}
 use Rattle.uca_weights.specs.declared.Depth.{Depth}
 use Rattle.uca_weights.specs.declared.Depth.TheVariants.{Weights, Identical}
+use Rattle.uca_weights.specs.declared.Numbers.{Numbers}
+use Rattle.uca_weights.specs.declared.Numbers.TheVariants.{AsText, ByValue}
 use Rattle.uca_weights.specs.declared.Weighting.{Weighting as WeightingType}
 use Rattle.uca_weights.specs.WeightingText.{weighting_text, IsNoWeighting}
 use Rattle.uca_words.specs.declared.WordFault.{WordFault}
@@ -28,6 +30,11 @@ HasWeighting rows weighting = first_of (codes "weighting") rows ≡ option_map w
 abbrev pub HasDepth : List Row → Depth → Type 0
 HasDepth rows Identical = is_given (codes "identical") rows ≡ true
 HasDepth rows Weights = is_given (codes "identical") rows ≡ false
+
+-- `--numeric` is given where numbers compare by value, and only there
+abbrev pub HasNumbers : List Row → Numbers → Type 0
+HasNumbers rows ByValue = is_given (codes "numeric") rows ≡ true
+HasNumbers rows AsText = is_given (codes "numeric") rows ≡ false
 
 -- `--from` and `--to` are given the digits of these fingerprints, or neither is given
 abbrev pub HasFingerprints : List Row → Option Fingerprints → Type 0
@@ -61,13 +68,14 @@ HasBook rows words =
 abbrev pub Says : Text → List Row → Words → Type 0
 Says name rows (words.Check words) = (name ≡ codes "check") × HasFiles rows words.table words.properties
 Says name rows (words.Keys words) =
-    (name ≡ codes "keys") × HasWeighting rows words.weighting × HasDepth rows words.depth × (is_given (codes "lines") rows ≡ words.lines)
-    × (is_given (codes "header") rows ≡ words.header) × HasOption rows (codes "compact") words.compact × HasFiles rows words.table words.properties
+    (name ≡ codes "keys") × HasWeighting rows words.weighting × HasDepth rows words.depth × HasNumbers rows words.numbers
+    × (is_given (codes "lines") rows ≡ words.lines) × (is_given (codes "header") rows ≡ words.header) × HasOption rows (codes "compact") words.compact × HasFiles rows words.table words.properties
 Says name rows (words.Sort words) =
-    (name ≡ codes "sort") × HasWeighting rows words.weighting × HasDepth rows words.depth × HasFiles rows words.table words.properties
+    (name ≡ codes "sort") × HasWeighting rows words.weighting × HasDepth rows words.depth × HasNumbers rows words.numbers
+    × HasFiles rows words.table words.properties
 Says name rows (words.Compare words) =
-    (name ≡ codes "compare") × HasWeighting rows words.weighting × HasDepth rows words.depth × HasFiles rows words.table words.properties
-    × HasWord rows (codes "left") words.left × HasWord rows (codes "right") words.right
+    (name ≡ codes "compare") × HasWeighting rows words.weighting × HasDepth rows words.depth × HasNumbers rows words.numbers
+    × HasFiles rows words.table words.properties × HasWord rows (codes "left") words.left × HasWord rows (codes "right") words.right
 Says name rows (words.Tailor words) =
     (name ≡ codes "tailor") × HasFiles rows words.table words.properties × HasWord rows (codes "rules") words.rules
     × HasWord rows (codes "certificate") words.certificate
@@ -75,8 +83,8 @@ Says name rows (words.Audit words) =
     (name ≡ codes "audit") × HasWord rows (codes "base") words.base × HasWord rows (codes "data") words.properties × HasWord rows (codes "rules") words.rules
     × HasWord rows (codes "tailored") words.tailored × HasWord rows (codes "certificate") words.certificate
 Says name rows (words.Affected words) =
-    (name ≡ codes "affected") × (is_given (codes "changes") rows ≡ words.changes) × HasWord rows (codes "data") words.properties
-    × HasWord rows (codes "rules") words.rules
+    (name ≡ codes "affected") × (is_given (codes "changes") rows ≡ words.changes) × HasNumbers rows words.numbers
+    × HasWord rows (codes "data") words.properties × HasWord rows (codes "rules") words.rules
 Says name rows (words.Changes words) =
     (name ≡ codes "changes") × HasEditions rows words.editions × HasWord rows (codes "certificate") words.certificate
 Says name rows (words.AuditChanges words) =
@@ -90,8 +98,8 @@ Says name rows (words.Expand words) = (name ≡ codes "expand") × HasBook rows 
 Says name rows (words.Book words) =
     (name ≡ codes "book") × HasWord rows (codes "certificate") words.certificate × HasWord rows (codes "book") words.book
 Says name rows (words.Fingerprint words) =
-    (name ≡ codes "fingerprint") × HasWeighting rows words.weighting × HasDepth rows words.depth × HasOption rows (codes "compact") words.book
-    × HasFiles rows words.table words.properties
+    (name ≡ codes "fingerprint") × HasWeighting rows words.weighting × HasDepth rows words.depth × HasNumbers rows words.numbers
+    × HasOption rows (codes "compact") words.book × HasFiles rows words.table words.properties
 
 -- the subcommand that was met, with the rows of its arguments, says these `Words`
 abbrev pub SayWords : Option (Text × List Row) → Words → Type 0

@@ -3,8 +3,8 @@
 //! `read_words` is proved against the specification of `clap`, which says what a command accepts:
 //!
 //! - At `Ok` the command accepts the arguments, and the result has those of the subcommand that they name. The depth is
-//!   `Identical` exactly where `--identical` is given. `lines` is true exactly where `--lines` is given, and `changes`
-//!   where `--changes` is.
+//!   `Identical` exactly where `--identical` is given, and numbers are `ByValue` where `--numeric` is. `lines` is true
+//!   exactly where `--lines` is given, and `changes` where `--changes` is.
 //! - `Refused` has an error of a kind that the specification gives for the arguments. It is never returned for arguments
 //!   that the command accepts.
 //! - `Weighting` is returned only for arguments that the command accepts and whose weighting has no known name. `Fingerprint` is
@@ -19,7 +19,7 @@ ghost use Rattle.clap.specs.Takes.{is_given};
 ghost use Rattle.clap.specs.Walk.{texts};
 ghost use Rattle.uca_words.specs.Command.{check_app, keys_app, sort_app, compare_app, tailor_app, audit_app, affected_app, changes_app, audit_changes_app, rekey_app, compact_app, expand_app, book_app, fingerprint_app};
 ghost use Rattle.uca_words.specs.inside.Met.{has_words, is_met, IsFingerprintFault, IsValueFault, IsWeightingFault};
-ghost use Rattle.uca_words.specs.Words.{HasBook, HasEditions, HasFiles, HasFingerprints, HasWord, HasWeighting, HasDepth, IsNoFingerprint, Says, AreRead, IsFaultOf};
+ghost use Rattle.uca_words.specs.Words.{HasBook, HasEditions, HasFiles, HasFingerprints, HasWord, HasWeighting, HasDepth, HasNumbers, IsNoFingerprint, Says, AreRead, IsFaultOf};
 
 mod builders;
 mod subcommands;
@@ -31,25 +31,25 @@ use clap::parser::ValueSource;
 use std::alloc::{AllocError, Global};
 use thiserror::Error;
 use uca_fingerprint::fingerprint_of_digits;
-use uca_weights::{Depth, Weighting};
+use uca_weights::{Depth, Numbers, Weighting};
 
 /// The arguments of a command line.
 #[derive(Clone, Copy, Debug)]
 pub enum Words<'a> {
     /// `check TABLE DATA`: say whether a weight table is well-formed.
     Check(CheckWords<'a>),
-    /// `keys [--weighting W] [--identical] [--lines] [--header] [--compact BOOK] TABLE DATA`: print the sort key of each line of
+    /// `keys [--weighting W] [--identical] [--numeric] [--lines] [--header] [--compact BOOK] TABLE DATA`: print the sort key of each line of
     /// standard input, or its compact key.
     Keys(KeysWords<'a>),
-    /// `sort [--weighting W] [--identical] TABLE DATA`: sort the lines of standard input.
+    /// `sort [--weighting W] [--identical] [--numeric] TABLE DATA`: sort the lines of standard input.
     Sort(SortWords<'a>),
-    /// `compare [--weighting W] [--identical] TABLE DATA LEFT RIGHT`: say which of two texts comes first.
+    /// `compare [--weighting W] [--identical] [--numeric] TABLE DATA LEFT RIGHT`: say which of two texts comes first.
     Compare(CompareWords<'a>),
     /// `tailor TABLE DATA RULES CERTIFICATE`: tailor a table by rules.
     Tailor(TailorWords<'a>),
     /// `audit BASE DATA RULES TAILORED CERTIFICATE`: say whether a tailored table is what its rules say.
     Audit(AuditWords<'a>),
-    /// `affected [--changes] DATA RULES`: print the lines of standard input in which a target of the rules occurs, or what
+    /// `affected [--changes] [--numeric] DATA RULES`: print the lines of standard input in which a target of the rules occurs, or what
     /// is listed in a file of changes.
     Affected(AffectedWords<'a>),
     /// `changes OLD OLD-DATA NEW NEW-DATA CERTIFICATE`: find what changes from an old table to a new one.
@@ -67,7 +67,7 @@ pub enum Words<'a> {
     Expand(BookWords<'a>),
     /// `book CERTIFICATE BOOK`: print the image of a book under the map of level 1 of a certificate.
     Book(BookImageWords<'a>),
-    /// `fingerprint [--weighting W] [--identical] [--compact BOOK] TABLE DATA`: print the fingerprint of what keys are made by,
+    /// `fingerprint [--weighting W] [--identical] [--numeric] [--compact BOOK] TABLE DATA`: print the fingerprint of what keys are made by,
     /// or of what compact keys are.
     Fingerprint(FingerprintWords<'a>),
 }
@@ -88,6 +88,8 @@ pub struct KeysWords<'a> {
     pub weighting: Option<Weighting>,
     /// How far texts are compared: `Identical` if `--identical` is given.
     pub depth: Depth,
+    /// How numbers compare: `ByValue` if `--numeric` is given.
+    pub numbers: Numbers,
     /// Whether the line is printed after its key: `--lines` is given.
     pub lines: bool,
     /// Whether a first line says what made the keys: `--header` is given.
@@ -107,6 +109,8 @@ pub struct SortWords<'a> {
     pub weighting: Option<Weighting>,
     /// How far texts are compared: `Identical` if `--identical` is given.
     pub depth: Depth,
+    /// How numbers compare: `ByValue` if `--numeric` is given.
+    pub numbers: Numbers,
     /// The name of the table file.
     pub table: &'a str,
     /// The name of the data file.
@@ -120,6 +124,8 @@ pub struct CompareWords<'a> {
     pub weighting: Option<Weighting>,
     /// How far texts are compared: `Identical` if `--identical` is given.
     pub depth: Depth,
+    /// How numbers compare: `ByValue` if `--numeric` is given.
+    pub numbers: Numbers,
     /// The name of the table file.
     pub table: &'a str,
     /// The name of the data file.
@@ -163,6 +169,8 @@ pub struct AuditWords<'a> {
 pub struct AffectedWords<'a> {
     /// Whether `rules` names a file of changes: `--changes` is given.
     pub changes: bool,
+    /// How numbers compare where lines are keyed: `ByValue` if `--numeric` is given.
+    pub numbers: Numbers,
     /// The name of the data file, with `--changes` of the new one.
     pub properties: &'a str,
     /// The name of the file of rules, with `--changes` of the file of changes.
@@ -253,6 +261,8 @@ pub struct FingerprintWords<'a> {
     pub weighting: Option<Weighting>,
     /// How far texts are compared: `Identical` if `--identical` is given.
     pub depth: Depth,
+    /// How numbers compare: `ByValue` if `--numeric` is given.
+    pub numbers: Numbers,
     /// The name of the file of the book of compact keys, if `--compact` is given.
     pub book: Option<&'a str>,
     /// The name of the table file.
@@ -388,6 +398,17 @@ fn given_depth(found: &ArgMatches) -> Depth
     }
 }
 
+// How numbers are to be compared.
+fn given_numbers(found: &ArgMatches) -> Numbers
+    ensures { HasNumbers (rows_of (found_of found.now)) result }
+{
+    if is_in_words(found, "numeric") {
+        Numbers::ByValue
+    } else {
+        Numbers::AsText
+    }
+}
+
 // The names of the two files.
 fn files_of<'a>(found: &ArgMatches<'a>) -> (&'a str, &'a str)
     requires { has_words check_app (rows_of (found_of found.now)) ≡ true }
@@ -412,6 +433,7 @@ fn keys_words<'a>(found: &ArgMatches<'a>, weighting: Option<Weighting>) -> Words
     Words::Keys(KeysWords {
         weighting,
         depth: given_depth(found),
+        numbers: given_numbers(found),
         lines: is_in_words(found, "lines"),
         header: is_in_words(found, "header"),
         compact: value_of(found, "compact"),
@@ -428,6 +450,7 @@ fn sort_words<'a>(found: &ArgMatches<'a>, weighting: Option<Weighting>) -> Words
     Words::Sort(SortWords {
         weighting,
         depth: given_depth(found),
+        numbers: given_numbers(found),
         table,
         properties,
     })
@@ -441,6 +464,7 @@ fn compare_words<'a>(found: &ArgMatches<'a>, weighting: Option<Weighting>) -> Wo
     Words::Compare(CompareWords {
         weighting,
         depth: given_depth(found),
+        numbers: given_numbers(found),
         table,
         properties,
         left: word_of(found, "left"),
@@ -480,6 +504,7 @@ fn affected_words<'a>(found: &ArgMatches<'a>) -> Words<'a>
 {
     Words::Affected(AffectedWords {
         changes: is_in_words(found, "changes"),
+        numbers: given_numbers(found),
         properties: word_of(found, "data"),
         rules: word_of(found, "rules"),
     })
@@ -596,6 +621,7 @@ fn fingerprint_words<'a>(found: &ArgMatches<'a>, weighting: Option<Weighting>) -
     Words::Fingerprint(FingerprintWords {
         weighting,
         depth: given_depth(found),
+        numbers: given_numbers(found),
         book: value_of(found, "compact"),
         table,
         properties,
@@ -648,7 +674,7 @@ fn words_of<'a>(name: &str, found: &ArgMatches<'a>) -> Result<Words<'a>, WordFau
 }
 
 /// Reads the arguments of a command line; the first is the program's name. Returns the subcommand with its arguments, the
-/// weighting that is given, and how far texts are compared.
+/// weighting that is given, how far texts are compared, and how numbers are.
 ///
 /// # Errors
 ///

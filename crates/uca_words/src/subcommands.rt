@@ -61,6 +61,16 @@ const MADE_IDENTICAL: Argument<'static> = Argument::Flag {
     help: "The keys were made with --identical",
 };
 
+const NUMERIC: Argument<'static> = Argument::Flag {
+    id: "numeric",
+    help: "Compare numbers of the digits 0 to 9 by their values: `9` comes before `10`",
+};
+
+const MADE_NUMERIC: Argument<'static> = Argument::Flag {
+    id: "numeric",
+    help: "The lines are keyed or sorted with --numeric",
+};
+
 const LINES: Argument<'static> = Argument::Flag {
     id: "lines",
     help: "Print the key without blanks, a tab and the line",
@@ -229,11 +239,12 @@ const KEYS_COMMAND: Subcommand<'static> = Subcommand {
     line: "Print the sort key of each line of standard input",
     text: "Prints the sort key (UTS #10, S3) of each line of standard input on a line of its own, in groups\n\
            of four hexadecimal digits. `0000` is between two levels. With `--identical` the code points\n\
-           of Normalization Form D follow as one more level, six digits each. With `--lines` each key has no\n\
-           blanks, and after it come a tab and the line: a database or `sort` can read that. With `--header` a\n\
-           first line has the weighting, the depth and the fingerprint. `rekey` tests it, and `sort` in the locale C\n\
-           leaves it first. With `--compact` it prints the compact key of each line, without blanks, as\n\
-           `uca compact BOOK` makes it of the key. The header then names the book too.",
+           of Normalization Form D follow as one more level, six digits each. With `--numeric` a number counts by\n\
+           its value. With `--lines` each key has no blanks, and after it come a tab and the line: a database or\n\
+           `sort` can read that. With `--header` a first line has the weighting, the depth and the fingerprint.\n\
+           `rekey` tests it, and `sort` in the locale C leaves it first. With `--compact` it prints the compact\n\
+           key of each line, without blanks, as `uca compact BOOK` makes it of the key. The header then names the\n\
+           book too.",
     usage: Some(
         "uca keys [OPTIONS] <TABLE> <DATA> < LINES\n\
         \x20      The order of a language is a TABLE: docs/LANGUAGES.md",
@@ -242,7 +253,9 @@ const KEYS_COMMAND: Subcommand<'static> = Subcommand {
          \x20 uca keys allkeys.txt data.txt < lines.txt\n\
          \x20 uca keys --lines --header allkeys.txt data.txt < lines.txt > keyed.tsv\n\
          \x20 uca keys --compact general.book --lines allkeys.txt data.txt < lines.txt > compact.tsv",
-    arguments: &[WEIGHTING, IDENTICAL, TABLE, DATA, LINES, HEADER, COMPACT],
+    arguments: &[
+        WEIGHTING, IDENTICAL, NUMERIC, TABLE, DATA, LINES, HEADER, COMPACT,
+    ],
 };
 
 const SORT_COMMAND: Subcommand<'static> = Subcommand {
@@ -250,13 +263,16 @@ const SORT_COMMAND: Subcommand<'static> = Subcommand {
     line: "Sort the lines of standard input by their sort keys",
     text: "Sorts the lines of standard input by their sort keys. Lines of equal keys keep their order.\n\
            With `--identical` lines of equal weight are in the order of their code points. Then only lines that\n\
-           are canonically equivalent keep the order of the input.",
+           are canonically equivalent keep the order of the input. With `--numeric` numbers are in the order of\n\
+           their values: `file 9` comes before `file 10`.",
     usage: Some(
         "uca sort [OPTIONS] <TABLE> <DATA> < LINES\n\
         \x20      The order of a language is a TABLE: docs/LANGUAGES.md",
     ),
-    example: "Example: uca sort --weighting non-ignorable allkeys.txt data.txt < lines.txt",
-    arguments: &[WEIGHTING, IDENTICAL, TABLE, DATA],
+    example: "Examples:\n\
+         \x20 uca sort --weighting non-ignorable allkeys.txt data.txt < lines.txt\n\
+         \x20 uca sort --numeric allkeys.txt data.txt < volumes.txt",
+    arguments: &[WEIGHTING, IDENTICAL, NUMERIC, TABLE, DATA],
 };
 
 const COMPARE_COMMAND: Subcommand<'static> = Subcommand {
@@ -264,13 +280,14 @@ const COMPARE_COMMAND: Subcommand<'static> = Subcommand {
     line: "Say how two texts compare, and at which level they differ",
     text: "Prints `<`, `=` or `>`: LEFT comes before RIGHT, is equal to it, or comes after it. Then comes the\n\
            level at which the two first differ, or 0: `< 2`. With `--identical` texts that weigh the same are\n\
-           compared at one more level, by the code points of Normalization Form D.",
+           compared at one more level, by the code points of Normalization Form D. With `--numeric` numbers\n\
+           compare by their values.",
     usage: Some(
         "uca compare [OPTIONS] <TABLE> <DATA> <LEFT> <RIGHT>\n\
         \x20      The order of a language is a TABLE: docs/LANGUAGES.md",
     ),
     example: "Example: uca compare allkeys.txt data.txt cote côté",
-    arguments: &[WEIGHTING, IDENTICAL, TABLE, DATA, LEFT, RIGHT],
+    arguments: &[WEIGHTING, IDENTICAL, NUMERIC, TABLE, DATA, LEFT, RIGHT],
 };
 
 const TAILOR_COMMAND: Subcommand<'static> = Subcommand {
@@ -303,12 +320,13 @@ const AFFECTED_COMMAND: Subcommand<'static> = Subcommand {
            may be between those of the target: `bh` occurs in `bach`. These lines may move when a table is\n\
            tailored by RULES. All other lines keep their order among themselves. With `--changes` RULES is a file\n\
            of changes, as `uca changes` prints it, and DATA is the new data file. Then it prints the lines in\n\
-           which a changed text occurs so, and those with a code point of a changed range.",
+           which a changed text occurs so, and those with a code point of a changed range. Give `--numeric` where\n\
+           the lines are keyed with it: then digits count as they are keyed, with their number before them.",
     usage: Some("uca affected [OPTIONS] <DATA> <RULES> < LINES"),
     example: "Examples:\n\
          \x20 uca affected data.txt rules.txt < lines.txt > moved.txt\n\
          \x20 uca affected --changes new-data.txt changes.txt < lines.txt > changed.txt",
-    arguments: &[CHANGED, DATA, RULES],
+    arguments: &[CHANGED, MADE_NUMERIC, DATA, RULES],
 };
 
 const CHANGES_COMMAND: Subcommand<'static> = Subcommand {
@@ -393,15 +411,16 @@ const FINGERPRINT_COMMAND: Subcommand<'static> = Subcommand {
     name: "fingerprint",
     line: "Print the fingerprint of what keys are made by",
     text: "Prints the fingerprint of what `uca keys` makes keys by, as 64 hexadecimal digits. It is the SHA-256 of\n\
-           a text that names the edition of the normalization, the weighting, the depth, and both files by their\n\
-           SHA-256. Keep it beside stored keys: two runs with one fingerprint make the same keys. It changes with\n\
-           each byte of a file, also in a comment. With `--compact` it is the fingerprint of compact keys: the\n\
-           SHA-256 of a text that names the fingerprint of the keys, and the book by its SHA-256.",
+           a text that names the edition of the normalization, the weighting, the depth, whether numbers are by\n\
+           value, and both files by their SHA-256. Keep it beside stored keys: two runs with one fingerprint make\n\
+           the same keys. It changes with each byte of a file, also in a comment. With `--compact` it is the\n\
+           fingerprint of compact keys: the SHA-256 of a text that names the fingerprint of the keys, and the book\n\
+           by its SHA-256.",
     usage: None,
     example: "Examples:\n\
          \x20 uca fingerprint allkeys.txt data.txt\n\
          \x20 uca fingerprint --compact my.book allkeys.txt data.txt",
-    arguments: &[WEIGHTING, IDENTICAL, TABLE, DATA, OF_COMPACT],
+    arguments: &[WEIGHTING, IDENTICAL, NUMERIC, TABLE, DATA, OF_COMPACT],
 };
 
 /// The subcommands that read a table, and lines or texts, in the order of the help.

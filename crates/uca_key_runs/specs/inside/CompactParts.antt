@@ -1,9 +1,8 @@
 -- The parts of a run of compact keys.
-use Rattle.std.specs.Prelude.{◌≡◌, ℕ, List, Option, Some, Result}
+use Rattle.std.specs.Prelude.{◌≡◌, ℕ, List, Some, Result}
+use Rattle.uca_weights.specs.declared.Asked.{Asked}
 use Rattle.uca_weights.specs.Streams.{SourceState, SinkState}
-use Rattle.uca_weights.specs.declared.Depth.{Depth}
 use Rattle.uca_weights.specs.declared.Settings.{Settings}
-use Rattle.uca_weights.specs.declared.Weighting.{Weighting}
 use Rattle.uca_elements.specs.Collations.{Collation}
 use Rattle.uca_books.specs.Books.{BookContent}
 use Rattle.uca_run_parts.specs.Files.{table_with}
@@ -17,19 +16,19 @@ use Rattle.uca_key_runs.specs.declared.keys.KeyForm.{KeyForm}
 use Rattle.uca_key_runs.specs.inside.KeyForms.{line_as}
 
 -- what keys go by, and the book, are those of the files
-abbrev pub IsCompactBy : Option Weighting → Depth → Collation → Settings → BookContent → CompactContent → Type 0
-IsCompactBy asked depth read settings book files = IsCollation asked depth read settings (table_with files.table files.properties) × (book ≡ files.book)
+abbrev pub IsCompactBy : Asked → Collation → Settings → BookContent → CompactContent → Type 0
+IsCompactBy asked read settings book files = IsCollation asked read settings (table_with files.table files.properties) × (book ≡ files.book)
 
 -- and so is the header of such keys, where the files were summed
-pub record IsHeadedCompact (asked : Option Weighting) (depth : Depth) (read : Collation) (settings : Settings) (its_book : BookContent) (its_header : List ℕ)
+pub record IsHeadedCompact (asked : Asked) (read : Collation) (settings : Settings) (its_book : BookContent) (its_header : List ℕ)
     (content : BookedContent) : Type 0 where
-  pub collation : IsCollation asked depth read settings (table_with content.files.table content.files.properties)
+  pub collation : IsCollation asked read settings (table_with content.files.table content.files.properties)
   pub book : its_book ≡ content.book
-  pub header : its_header ≡ compact_header_under asked depth content
+  pub header : its_header ≡ compact_header_under asked content
 
 -- a run that writes a header, and such a line with a compact key for each line of its input
-abbrev pub PrintsHeadedCompactAs : {A : Type 0} → KeyForm → Option Weighting → Depth → List SourceState → List SourceState → SourceState → SourceState
+abbrev pub PrintsHeadedCompactAs : {A : Type 0} → KeyForm → Asked → List SourceState → List SourceState → SourceState → SourceState
     → SinkState → SinkState → Result A RunFault → Type 0
-PrintsHeadedCompactAs form asked depth olds news input input_new out out_new result =
-    PrintsEach booked_files booked_roles (RunsHeadedCompact (λ book. line_as form (Some book)) asked depth input input_new out out_new result)
+PrintsHeadedCompactAs form asked olds news input input_new out out_new result =
+    PrintsEach booked_files booked_roles (RunsHeadedCompact (λ book. line_as form (Some book)) asked input input_new out out_new result)
     olds news input input_new out out_new result

@@ -1,12 +1,11 @@
 -- The forms of a line of output that has a key.
 use Rattle.std.specs.Prelude.{◌≡◌, ℕ, List, Bool, true, false, Option, Some, None, option_map, Result, ⊤, chars}
+use Rattle.uca_weights.specs.declared.Asked.{Asked}
 use Rattle.uca_weights.specs.declared.Settings.{Settings}
 use Rattle.uca_weights.specs.Streams.{SourceState, SinkState}
 use Rattle.uca_weights.specs.declared.Weighting.{Weighting}
 use Rattle.uca_weights.specs.declared.Depth.{Depth}
 use Rattle.uca_weights.specs.declared.Depth.TheVariants.{Weights, Identical}
-use Rattle.uca_weights.specs.declared.Numbers.TheVariants.{AsText}
-use Rattle.uca_values.specs.Content.{Properties}
 use Rattle.uca_books.specs.Books.{BookContent}
 use Rattle.uca_order.specs.Depths.{ReadText, read_points, key_at}
 use Rattle.uca_order.specs.Lengths.{HasShortRows}
@@ -56,16 +55,16 @@ abbrev pub line_as : KeyForm → Option BookContent → Keying → List ℕ → 
 line_as form book c line = text_as form book c (read_points c.collation c.settings.numbers (chars line)) line
 
 -- a run that writes such a line for each line of its input
-abbrev pub PrintsAs : {A : Type 0} → KeyForm → Option Weighting → Depth → List SourceState → List SourceState → SourceState → SourceState
+abbrev pub PrintsAs : {A : Type 0} → KeyForm → Asked → List SourceState → List SourceState → SourceState → SourceState
     → SinkState → SinkState → Result A RunFault → Type 0
-PrintsAs form asked depth olds news input input_new out out_new result =
-    PrintsEach table_and_data table_and_data_roles (RunsUnder (line_as form None) asked depth input input_new out out_new result) olds news input input_new out out_new result
+PrintsAs form asked olds news input input_new out out_new result =
+    PrintsEach table_and_data table_and_data_roles (RunsUnder (line_as form None) asked input input_new out out_new result) olds news input input_new out out_new result
 
 -- a run that writes such a line with a compact key
-abbrev pub PrintsCompactAs : {A : Type 0} → KeyForm → Option Weighting → Depth → List SourceState → List SourceState → SourceState → SourceState
+abbrev pub PrintsCompactAs : {A : Type 0} → KeyForm → Asked → List SourceState → List SourceState → SourceState → SourceState
     → SinkState → SinkState → Result A RunFault → Type 0
-PrintsCompactAs form asked depth olds news input input_new out out_new result =
-    PrintsEach compact_files compact_roles (RunsCompact (λ book. line_as form (Some book)) asked depth input input_new out out_new result)
+PrintsCompactAs form asked olds news input input_new out out_new result =
+    PrintsEach compact_files compact_roles (RunsCompact (λ book. line_as form (Some book)) asked input input_new out out_new result)
     olds news input input_new out out_new result
 
 -- ---- What makes compact keys of keys
@@ -95,9 +94,7 @@ IsFor (Some by) settings = by.settings ≡ settings
 
 -- ---- A writer of the keys of a form
 
--- keys of the form at that depth go by this, and texts by these properties; numbers compare as any other text
-pub record MakesKeys (form : KeyForm) (depth : Depth) (properties : Properties) (c : Keying) : Type 0 where
+-- keys of the form at that depth go by this
+pub record MakesKeys (form : KeyForm) (depth : Depth) (c : Keying) : Type 0 where
   pub key_depth : c.settings.depth ≡ depth_as form depth
-  pub as_text : c.settings.numbers ≡ AsText
-  pub same : properties ≡ c.collation.properties
   pub short_rows : HasShortRows c.collation.rows

@@ -5,7 +5,7 @@ use Rattle.uca_cli.proofs.command.compare.Goals as goal
 pub returns-in-Ok : goal.returns-in-Ok
 returns-in-Ok g c = inr (record {
   before = c.in-Ok.table ∷ c.in-Ok.properties ∷ [];
-  after = c.run_compare.new.table ∷ c.run_compare.new.properties ∷ [];
+  after = c.run_compare_in.new.table ∷ c.run_compare_in.new.properties ∷ [];
   opened = c.in-Ok.ensures;
-  runs = record { run = c.run_compare.result; runs = c.run_compare.ensures; status = c.done.ensures };
+  runs = record { run = c.run_compare_in.result; runs = rw c.asked_for.ensures at c.run_compare_in.ensures; status = c.done.ensures };
 })

@@ -2,4 +2,4 @@
 use Rattle.uca_cli.proofs.compact_keys.print_compact.Goals as goal
 
 pub returns-then-words-2 : goal.returns-then-words-2
-returns-then-words-2 g c = rw (c.if-words.true, c.if-words-2.true) c.run_headed_compact_lines.ensures
+returns-then-words-2 g c = rw (c.if-words.true, c.if-words-2.true) (rw c.asked_for-asked.ensures at c.run_headed_compact_lines.ensures)

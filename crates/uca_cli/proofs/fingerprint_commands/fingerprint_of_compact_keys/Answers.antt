@@ -7,5 +7,5 @@ returns-in-Ok g c = inr (record {
   before = c.in-Ok.table ∷ c.in-Ok.properties ∷ c.in-Ok.book ∷ [];
   after = c.run_compact_fingerprint.new.table ∷ c.run_compact_fingerprint.new.properties ∷ c.run_compact_fingerprint.new.book ∷ [];
   opened = c.in-Ok.ensures;
-  runs = record { run = c.run_compact_fingerprint.result; runs = c.run_compact_fingerprint.ensures; status = c.done.ensures };
+  runs = record { run = c.run_compact_fingerprint.result; runs = rw c.asked_for.ensures at c.run_compact_fingerprint.ensures; status = c.done.ensures };
 })

@@ -7,5 +7,5 @@ returns-in-Ok g c = inr (record {
   before = c.in-Ok.table ∷ c.in-Ok.properties ∷ [];
   after = c.run_fingerprint.new.table ∷ c.run_fingerprint.new.properties ∷ [];
   opened = c.in-Ok.ensures;
-  runs = record { run = c.run_fingerprint.result; runs = c.run_fingerprint.ensures; status = c.done.ensures };
+  runs = record { run = c.run_fingerprint.result; runs = rw c.asked_for.ensures at c.run_fingerprint.ensures; status = c.done.ensures };
 })

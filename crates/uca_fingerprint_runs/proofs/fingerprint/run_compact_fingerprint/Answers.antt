@@ -8,7 +8,7 @@ use Rattle.uca_fingerprint_runs.proofs.fingerprint.run_compact_fingerprint.Goals
 
 pub returns-in-Err : goal.returns-in-Err
 returns-in-Err g c =
-    files_rejected booked_files booked_roles (compact_fingerprint_under c.args.weighting c.args.depth)
+    files_rejected booked_files booked_roles (compact_fingerprint_under c.args.asked)
     (c.args.table.now ∷ c.args.properties.now ∷ c.args.book.now ∷ [])
     (c.read_booked_files.new.table ∷ c.read_booked_files.new.properties ∷ c.read_booked_files.new.book ∷ [])
     (λ read. booked_with (summed_with read.files.table (properties_of read.files.properties.0, read.files.properties.1)) read.book)
@@ -17,7 +17,7 @@ returns-in-Err g c =
 pub returns-in-Ok : goal.returns-in-Ok
 returns-in-Ok g c =
     let writes = c.write_text in
-    line_printed booked_files booked_roles (compact_fingerprint_under c.args.weighting c.args.depth)
+    line_printed booked_files booked_roles (compact_fingerprint_under c.args.asked)
     (c.args.table.now ∷ c.args.properties.now ∷ c.args.book.now ∷ [])
     (c.read_booked_files.new.table ∷ c.read_booked_files.new.properties ∷ c.read_booked_files.new.book ∷ [])
     (λ read. booked_with (summed_with read.files.table (properties_of read.files.properties.0, read.files.properties.1)) read.book)

@@ -23,7 +23,7 @@ returns-in-Ok-clause-read g c =
     runs_over_all {B = ⊤} table_and_data (c.args.table.now ∷ c.args.properties.now ∷ [])
     (c.read_packed_files.new.table ∷ c.read_packed_files.new.properties ∷ []) (λ content. read ≡ content)
     _ tt made (no_file made refused)
-    (λ content same. subst (λ it. MatchResult made (λ r. IsCollation c.args.weighting c.args.depth (owned_collation r.collation) r.settings it)
+    (λ content same. subst (λ it. MatchResult made (λ r. IsCollation c.args.asked (owned_collation r.collation) r.settings it)
     (λ fault. fault ≡ Memory)) same (both_outcomes made _ _ c.collation_of.ensures.made refused))
     c.in-Ok.ensures.read
 

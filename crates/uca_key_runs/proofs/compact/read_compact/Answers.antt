@@ -29,7 +29,7 @@ returns-in-Ok-clause-read g c =
     runs_over_all {B = ⊤} compact_files (c.args.table.now ∷ c.args.properties.now ∷ c.args.book.now ∷ [])
     (c.read_compact_files.new.table ∷ c.read_compact_files.new.properties ∷ c.read_compact_files.new.book ∷ []) (λ content. read ≡ content)
     _ tt made (no_file made refused)
-    (λ content same. subst (λ it. MatchResult made (λ m. IsCompactBy c.args.weighting c.args.depth (owned_collation m.0.collation) m.0.settings m.1 it)
+    (λ content same. subst (λ it. MatchResult made (λ m. IsCompactBy c.args.asked (owned_collation m.0.collation) m.0.settings m.1 it)
     (λ fault. fault ≡ Memory)) same (both_outcomes made _ _ c.compact_collation.ensures.made refused))
     c.in-Ok.ensures.read
 

@@ -6,7 +6,7 @@ use Rattle.uca_match.specs.OwnedCollations.{owned_collation}
 use Rattle.uca_books.specs.Books.{BookContent}
 use Rattle.uca_elements.specs.Collations.{Collation, collation_of}
 use Rattle.uca_order.specs.Lengths.{HasShortRows}
-use Rattle.uca_order.specs.Keyings.{as_text, Keying, keying}
+use Rattle.uca_order.specs.Keyings.{Keying, keying, text_of}
 use Rattle.uca_run_parts.specs.declared.faults.RunFault.TheVariants.{Memory}
 use Rattle.uca_run_parts.specs.EachLine.{RunsEach}
 use Rattle.uca_run_parts.specs.Files.{table_with}
@@ -22,7 +22,7 @@ pub returns-in-Err : goal.returns-in-Err
 returns-in-Err g c =
     let fault = c.in-Err.fault in
     let bytes_of = λ (book : BookContent). line_as c.args.form (Some book) in
-    let runs = RunsCompact {A = ⊤} bytes_of c.args.weighting c.args.depth c.args.input.now c.args.input.now c.args.out.now c.args.out.now in
+    let runs = RunsCompact {A = ⊤} bytes_of c.args.asked c.args.input.now c.args.input.now c.args.out.now c.args.out.now in
     ended_before compact_files compact_roles (λ content. fault ≡ Memory) (runs (Err fault))
     (c.args.table.now ∷ c.args.properties.now ∷ c.args.book.now ∷ []) (c.read_compact.new.table ∷ c.read_compact.new.properties ∷ c.read_compact.new.book ∷ [])
     ⊤ ⊤ c.args.input.now c.args.out.now fault
@@ -40,14 +40,14 @@ returns-in-Ok g c =
     let out = c.args.out.now in
     let ends = c.print_lines-end in
     let bytes_of = λ (book : BookContent). line_as c.args.form (Some book) in
-    ended_by_lines compact_files compact_roles (λ content. IsCompactBy c.args.weighting c.args.depth made read.settings c.in-Ok.book content)
-    (RunsCompact bytes_of c.args.weighting c.args.depth input ends.new.input out ends.new.out ends.result)
+    ended_by_lines compact_files compact_roles (λ content. IsCompactBy c.args.asked made read.settings c.in-Ok.book content)
+    (RunsCompact bytes_of c.args.asked input ends.new.input out ends.new.out ends.result)
     (c.args.table.now ∷ c.args.properties.now ∷ c.args.book.now ∷ []) (c.read_compact.new.table ∷ c.read_compact.new.properties ∷ c.read_compact.new.book ∷ []) {B = ⊤}
     input ends.new.input out ends.new.out tt ends.result ends.ensures.of_lines
-    (λ content is. runs_under (bytes_of content.book) c.args.weighting c.args.depth input ends.new.input out ends.new.out ends.result
+    (λ content is. runs_under (bytes_of content.book) c.args.asked input ends.new.input out ends.new.out ends.result
     (table_with content.table content.properties) ends.ensures.of_lines
-    (subst (λ (b : BookContent). RunsEach content.properties (bytes_of b (keying (as_text c.args.weighting c.args.depth) content.table content.properties)) input ends.new.input out ends.new.out ends.result) is.1
-    (subst (λ (d : Keying). RunsEach d.collation.properties (bytes_of c.in-Ok.book d) input ends.new.input out ends.new.out ends.result)
-    (same_keying c.args.weighting c.args.depth (collation_of rows_at c.collator-collator.result) made read.settings (table_with content.table content.properties) c.collator-collator.ensures is.0)
+    (subst (λ (b : BookContent). RunsEach (text_of (keying c.args.asked content.table content.properties)) (bytes_of b (keying c.args.asked content.table content.properties)) input ends.new.input out ends.new.out ends.result) is.1
+    (subst (λ (d : Keying). RunsEach (text_of d) (bytes_of c.in-Ok.book d) input ends.new.input out ends.new.out ends.result)
+    (same_keying c.args.asked (collation_of rows_at c.collator-collator.result) made read.settings (table_with content.table content.properties) c.collator-collator.ensures is.0)
     ends.ensures.writes)))
     c.in-Ok.ensures.read c.in-Ok.ensures.failed ends.ensures.input_failed ends.ensures.out_failed

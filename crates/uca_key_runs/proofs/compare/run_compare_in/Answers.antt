@@ -21,9 +21,9 @@ returns-in-Err g c =
     let olds = c.args.table.now ∷ c.args.properties.now ∷ [] in
     let news = c.read_collation.new.table ∷ c.read_collation.new.properties ∷ [] in
     record {
-      runs = over_weaker {A = ⊤} {B = ⊤} table_and_data olds news (λ content. fault ≡ Memory) (RunsCompare {A = ⊤} c.args.weighting c.args.depth c.args.left.now c.args.right.now c.args.out.now c.args.out.now (Err fault)) (Err fault) (Err fault)
+      runs = over_weaker {A = ⊤} {B = ⊤} table_and_data olds news (λ content. fault ≡ Memory) (RunsCompare {A = ⊤} c.args.asked c.args.left.now c.args.right.now c.args.out.now c.args.out.now (Err fault)) (Err fault) (Err fault)
           (λ role. same_fault ⊤ ⊤ role fault)
-          (λ content is. subst (λ f. RunsCompare {A = ⊤} c.args.weighting c.args.depth c.args.left.now c.args.right.now c.args.out.now c.args.out.now (Err f) content) (sym is) (refl)) c.in-Err.ensures.read;
+          (λ content is. subst (λ f. RunsCompare {A = ⊤} c.args.asked c.args.left.now c.args.right.now c.args.out.now c.args.out.now (Err f) content) (sym is) (refl)) c.in-Err.ensures.read;
       nothing_written = λ before. refl;
       failed = failed_by_files ⊤ ⊤ table_and_data_roles olds news fault c.in-Err.ensures.failed;
       out_failed = as_before c.args.out.now.failed _ (no_write_before ⊤ ⊤ fault before);
@@ -36,10 +36,10 @@ returns-in-Ok g c =
     let news = c.read_collation.new.table ∷ c.read_collation.new.properties ∷ [] in
     record {
       runs = runs_over_all {B = ⊤} table_and_data olds news
-          (λ content. IsCollation c.args.weighting c.args.depth (owned_collation read.collation) read.settings content) _ tt c.compare_words-end.result c.compare_words-end.ensures.of_texts
-          (λ content is. run_compares c.args.weighting c.args.depth c.args.left.now c.args.right.now c.args.out.now c.compare_words-end.new.out content c.compare_words-end.result
+          (λ content. IsCollation c.args.asked (owned_collation read.collation) read.settings content) _ tt c.compare_words-end.result c.compare_words-end.ensures.of_texts
+          (λ content is. run_compares c.args.asked c.args.left.now c.args.right.now c.args.out.now c.compare_words-end.new.out content c.compare_words-end.result
           (subst (λ d. WritesComparison d c.args.left.now c.args.right.now c.args.out.now.contents c.compare_words-end.new.out.contents c.compare_words-end.result)
-          (same_keying c.args.weighting c.args.depth (collation_of rows_at c.collator-collator.result) (owned_collation read.collation) read.settings content c.collator-collator.ensures is)
+          (same_keying c.args.asked (collation_of rows_at c.collator-collator.result) (owned_collation read.collation) read.settings content c.collator-collator.ensures is)
           c.compare_words-end.ensures.writes))
           c.in-Ok.ensures.read;
       nothing_written = c.compare_words-end.ensures.nothing_written;

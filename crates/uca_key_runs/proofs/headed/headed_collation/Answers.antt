@@ -8,6 +8,6 @@ pub returns-in-Ok-clause-made : goal.returns-in-Ok-clause-made
 returns-in-Ok-clause-made g c =
     let files = summed_with c.args.files.table (properties_of c.args.files.properties.0, c.args.files.properties.1) in (
       c.in-Ok.ensures.made,
-      header_made c.args.asked c.args.depth c.in-Ok.read.settings files c.fingerprint_of_sums-sum.result c.ended-header.result
+      header_made c.args.asked c.in-Ok.read.settings files c.fingerprint_of_sums-sum.result c.ended-header.result
           c.in-Ok.ensures.made.1 c.fingerprint_of_sums-sum.ensures c.ended-header.ensures,
     )

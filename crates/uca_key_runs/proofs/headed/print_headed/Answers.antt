@@ -3,8 +3,7 @@ use Rattle.std.proofs.Common.{◌∙◌, Err, IfSome, ap, length, subst, sym}
 use Rattle.uca_run_parts.specs.EachLine.{ended_before_input}
 use Rattle.uca_run_parts.specs.Runs.{is_input_read}
 use Rattle.uca_run_parts.proofs.Running.{as_before}
-use Rattle.uca_order.specs.Keyings.{keying_of}
-use Rattle.uca_key_runs.specs.Keys.{settings_as_text}
+use Rattle.uca_order.specs.Keyings.{keying_of, text_of}
 use Rattle.uca_key_runs.specs.HeadedRun.{WritesHeaded}
 use Rattle.uca_key_runs.specs.inside.KeyForms.{line_as}
 use Rattle.uca_key_runs.proofs.HeadedRuns.{headed, input_after, out_after, part_of_header, same_before_input}
@@ -12,16 +11,16 @@ use Rattle.uca_key_runs.proofs.headed.print_headed.Goals as goal
 
 pub returns-in-Ok-clause-writes : goal.returns-in-Ok-clause-writes
 returns-in-Ok-clause-writes g c =
-    let keying = keying_of g.L.Lookup.content c.args.collator.now (settings_as_text c.args.weighting c.args.depth) in
-    let properties = keying.collation.properties in
+    let keying = keying_of g.L.Lookup.content c.args.collator.now c.args.settings in
+    let read_of = text_of keying in
     let bytes_of = line_as c.args.form c.args.book keying in
     let header = c.args.header.now in
     let known = c.args.input.now.remaining in
     let left = c.print_lines-end.new.input.remaining in
     let begun = c.args.out.now.contents in
     let now = c.print_lines-end.new.out.contents in
-    subst (λ end. IfSome known (λ bytes. WritesHeaded header properties bytes_of bytes left begun now end)) (sym c.after_header.ensures)
-    (headed header properties bytes_of known left begun c.write_text.new.out.contents now c.print_lines-end.result c.in-Ok.ensures.written c.print_lines-end.ensures.writes)
+    subst (λ end. IfSome known (λ bytes. WritesHeaded header read_of bytes_of bytes left begun now end)) (sym c.after_header.ensures)
+    (headed header read_of bytes_of known left begun c.write_text.new.out.contents now c.print_lines-end.result c.in-Ok.ensures.written c.print_lines-end.ensures.writes)
 
 pub returns-in-Ok-clause-of_lines : goal.returns-in-Ok-clause-of_lines
 returns-in-Ok-clause-of_lines g c = ap ended_before_input c.after_header.ensures ∙ same_before_input _ c.print_lines-end.result ∙ c.print_lines-end.ensures.of_lines
@@ -36,8 +35,8 @@ returns-in-Ok-clause-out_failed g c = out_after (length c.args.header.now) c.pri
 
 pub returns-in-Err-clause-writes : goal.returns-in-Err-clause-writes
 returns-in-Err-clause-writes g c =
-    let keying = keying_of g.L.Lookup.content c.args.collator.now (settings_as_text c.args.weighting c.args.depth) in
-    part_of_header c.args.header.now keying.collation.properties (line_as c.args.form c.args.book keying) c.args.input.now.remaining c.args.input.now.remaining
+    let keying = keying_of g.L.Lookup.content c.args.collator.now c.args.settings in
+    part_of_header c.args.header.now (text_of keying) (line_as c.args.form c.args.book keying) c.args.input.now.remaining c.args.input.now.remaining
     c.args.out.now.contents c.write_text.new.out.contents c.in-Err.fault c.requires.short c.in-Err.ensures.failed_in
 
 pub returns-in-Err-clause-of_lines : goal.returns-in-Err-clause-of_lines

@@ -9,7 +9,7 @@ use Rattle.uca_run_parts.specs.declared.faults.RunFault.TheVariants.{Memory}
 use Rattle.uca_run_parts.specs.Files.{table_and_data_roles, table_with}
 use Rattle.uca_run_parts.proofs.WholeRuns.{ended_before, ended_by_lines}
 use Rattle.uca_fingerprint_runs.specs.SummedFiles.{summed_files}
-use Rattle.uca_order.specs.Keyings.{as_text, Keying, keying}
+use Rattle.uca_order.specs.Keyings.{Keying, keying, text_of}
 use Rattle.uca_key_runs.proofs.Keyings.{same_keying}
 use Rattle.uca_key_runs.specs.inside.HeadedParts.{IsHeaded}
 use Rattle.uca_key_runs.specs.HeadedRun.{RunsHeaded, WritesHeaded}
@@ -20,7 +20,7 @@ use Rattle.uca_key_runs.proofs.headed.run_headed_in.Goals as goal
 pub returns-in-Err : goal.returns-in-Err
 returns-in-Err g c =
     let fault = c.in-Err.fault in
-    let runs = RunsHeaded {A = ⊤} (line_as c.args.form None) c.args.weighting c.args.depth c.args.input.now c.args.input.now c.args.out.now c.args.out.now in
+    let runs = RunsHeaded {A = ⊤} (line_as c.args.form None) c.args.asked c.args.input.now c.args.input.now c.args.out.now c.args.out.now in
     ended_before summed_files table_and_data_roles (λ content. fault ≡ Memory) (runs (Err fault))
     (c.args.table.now ∷ c.args.properties.now ∷ []) (c.read_headed.new.table ∷ c.read_headed.new.properties ∷ [])
     ⊤ ⊤ c.args.input.now c.args.out.now fault
@@ -39,13 +39,13 @@ returns-in-Ok g c =
     let out = c.args.out.now in
     let out_new = c.print_headed-end.new.out in
     let end = c.print_headed-end.result in
-    ended_by_lines summed_files table_and_data_roles (λ content. IsHeaded c.args.weighting c.args.depth made read.settings c.in-Ok.header content)
-    (RunsHeaded (line_as c.args.form None) c.args.weighting c.args.depth input input_new out out_new end)
+    ended_by_lines summed_files table_and_data_roles (λ content. IsHeaded c.args.asked made read.settings c.in-Ok.header content)
+    (RunsHeaded (line_as c.args.form None) c.args.asked input input_new out out_new end)
     (c.args.table.now ∷ c.args.properties.now ∷ []) (c.read_headed.new.table ∷ c.read_headed.new.properties ∷ []) {B = ⊤}
     input input_new out out_new tt end c.print_headed-end.ensures.of_lines
-    (λ content is. headed_under (line_as c.args.form None) c.args.weighting c.args.depth input input_new out out_new end content c.print_headed-end.ensures.of_lines
-    (subst (λ header. IfSome input.remaining (λ bytes. WritesHeaded header content.properties (line_as c.args.form None (keying (as_text c.args.weighting c.args.depth) content.table content.properties)) bytes input_new.remaining out.contents out_new.contents end)) (c.as_bytes-first.ensures.line ∙ is.1)
-    (subst (λ (d : Keying). IfSome input.remaining (λ bytes. WritesHeaded c.as_bytes-first.result.now d.collation.properties (line_as c.args.form None d) bytes input_new.remaining out.contents out_new.contents end))
-    (same_keying c.args.weighting c.args.depth (collation_of rows_at c.collator-collator.result) made read.settings (table_with content.table content.properties) c.collator-collator.ensures is.0)
+    (λ content is. headed_under (line_as c.args.form None) c.args.asked input input_new out out_new end content c.print_headed-end.ensures.of_lines
+    (subst (λ header. IfSome input.remaining (λ bytes. WritesHeaded header (text_of (keying c.args.asked content.table content.properties)) (line_as c.args.form None (keying c.args.asked content.table content.properties)) bytes input_new.remaining out.contents out_new.contents end)) (c.as_bytes-first.ensures.line ∙ is.1)
+    (subst (λ (d : Keying). IfSome input.remaining (λ bytes. WritesHeaded c.as_bytes-first.result.now (text_of d) (line_as c.args.form None d) bytes input_new.remaining out.contents out_new.contents end))
+    (same_keying c.args.asked (collation_of rows_at c.collator-collator.result) made read.settings (table_with content.table content.properties) c.collator-collator.ensures is.0)
     c.print_headed-end.ensures.writes)))
     c.in-Ok.ensures.read c.in-Ok.ensures.failed c.print_headed-end.ensures.input_failed c.print_headed-end.ensures.out_failed

@@ -12,7 +12,7 @@ returns-in-Ok-clause-made g c =
     record {
       collation = c.in-Ok.ensures.made;
       book = refl;
-      header = compact_header_made c.args.asked c.args.depth c.in-Ok.read.settings content c.fingerprint_of_sums-keys_sum.result
+      header = compact_header_made c.args.asked c.in-Ok.read.settings content c.fingerprint_of_sums-keys_sum.result
           c.compact_fingerprint_of_sums-compact_sum.result c.compact_ended-header.result c.in-Ok.ensures.made.1 c.fingerprint_of_sums-keys_sum.ensures
           c.compact_fingerprint_of_sums-compact_sum.ensures c.compact_ended-header.ensures;
     }

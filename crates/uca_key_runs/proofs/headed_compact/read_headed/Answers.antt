@@ -28,7 +28,7 @@ returns-in-Ok-clause-read g c =
     runs_over_all {B = ⊤} booked_files (c.args.table.now ∷ c.args.properties.now ∷ c.args.book.now ∷ [])
     (c.read_booked_files.new.table ∷ c.read_booked_files.new.properties ∷ c.read_booked_files.new.book ∷ []) (λ content. read ≡ content)
     _ tt made (no_file made refused)
-    (λ content same. subst (λ it. MatchResult made (λ m. IsHeadedCompact c.args.asked c.args.depth (owned_collation m.0.collation) m.0.settings m.1 m.2 it)
+    (λ content same. subst (λ it. MatchResult made (λ m. IsHeadedCompact c.args.asked (owned_collation m.0.collation) m.0.settings m.1 m.2 it)
     (λ fault. fault ≡ Memory)) same (both_outcomes made _ _ c.headed_collation.ensures.made refused))
     c.in-Ok.ensures.read
 

@@ -6,7 +6,7 @@ use Rattle.uca_match.specs.OwnedCollations.{owned_collation}
 use Rattle.uca_books.specs.Books.{BookContent}
 use Rattle.uca_elements.specs.Collations.{Collation, collation_of}
 use Rattle.uca_order.specs.Lengths.{HasShortRows}
-use Rattle.uca_order.specs.Keyings.{as_text, Keying, keying}
+use Rattle.uca_order.specs.Keyings.{Keying, keying, text_of}
 use Rattle.uca_run_parts.specs.declared.faults.RunFault.TheVariants.{Memory}
 use Rattle.uca_run_parts.specs.Files.{table_with}
 use Rattle.uca_run_parts.proofs.WholeRuns.{ended_before, ended_by_lines}
@@ -23,7 +23,7 @@ pub returns-in-Err : goal.returns-in-Err
 returns-in-Err g c =
     let fault = c.in-Err.fault in
     let bytes_of = λ (book : BookContent). line_as c.args.form (Some book) in
-    let runs = RunsHeadedCompact {A = ⊤} bytes_of c.args.weighting c.args.depth c.args.input.now c.args.input.now c.args.out.now c.args.out.now in
+    let runs = RunsHeadedCompact {A = ⊤} bytes_of c.args.asked c.args.input.now c.args.input.now c.args.out.now c.args.out.now in
     ended_before booked_files booked_roles (λ content. fault ≡ Memory) (runs (Err fault))
     (c.args.table.now ∷ c.args.properties.now ∷ c.args.book.now ∷ []) (c.read_headed.new.table ∷ c.read_headed.new.properties ∷ c.read_headed.new.book ∷ [])
     ⊤ ⊤ c.args.input.now c.args.out.now fault
@@ -42,16 +42,16 @@ returns-in-Ok g c =
     let ends = c.print_headed-end in
     let first = c.as_bytes-first.result.now in
     let bytes_of = λ (book : BookContent). line_as c.args.form (Some book) in
-    ended_by_lines booked_files booked_roles (λ content. IsHeadedCompact c.args.weighting c.args.depth made read.settings c.in-Ok.book c.in-Ok.header content)
-    (RunsHeadedCompact bytes_of c.args.weighting c.args.depth input ends.new.input out ends.new.out ends.result)
+    ended_by_lines booked_files booked_roles (λ content. IsHeadedCompact c.args.asked made read.settings c.in-Ok.book c.in-Ok.header content)
+    (RunsHeadedCompact bytes_of c.args.asked input ends.new.input out ends.new.out ends.result)
     (c.args.table.now ∷ c.args.properties.now ∷ c.args.book.now ∷ []) (c.read_headed.new.table ∷ c.read_headed.new.properties ∷ c.read_headed.new.book ∷ []) {B = ⊤}
     input ends.new.input out ends.new.out tt ends.result ends.ensures.of_lines
     (λ content is.
-    let keyed = keying (as_text c.args.weighting c.args.depth) content.files.table content.files.properties in
-    headed_compact_under bytes_of c.args.weighting c.args.depth input ends.new.input out ends.new.out ends.result content ends.ensures.of_lines
-    (subst (λ (b : BookContent). IfSome input.remaining (λ bytes. WritesHeaded (compact_header_under c.args.weighting c.args.depth content) content.files.properties (bytes_of b keyed) bytes ends.new.input.remaining out.contents ends.new.out.contents ends.result)) is.book
-    (subst (λ (header : List ℕ). IfSome input.remaining (λ bytes. WritesHeaded header content.files.properties (bytes_of c.in-Ok.book keyed) bytes ends.new.input.remaining out.contents ends.new.out.contents ends.result)) (c.as_bytes-first.ensures.line ∙ is.header)
-    (subst (λ (d : Keying). IfSome input.remaining (λ bytes. WritesHeaded first d.collation.properties (bytes_of c.in-Ok.book d) bytes ends.new.input.remaining out.contents ends.new.out.contents ends.result))
-    (same_keying c.args.weighting c.args.depth (collation_of rows_at c.collator-collator.result) made read.settings (table_with content.files.table content.files.properties) c.collator-collator.ensures is.collation)
+    let keyed = keying c.args.asked content.files.table content.files.properties in
+    headed_compact_under bytes_of c.args.asked input ends.new.input out ends.new.out ends.result content ends.ensures.of_lines
+    (subst (λ (b : BookContent). IfSome input.remaining (λ bytes. WritesHeaded (compact_header_under c.args.asked content) (text_of keyed) (bytes_of b keyed) bytes ends.new.input.remaining out.contents ends.new.out.contents ends.result)) is.book
+    (subst (λ (header : List ℕ). IfSome input.remaining (λ bytes. WritesHeaded header (text_of keyed) (bytes_of c.in-Ok.book keyed) bytes ends.new.input.remaining out.contents ends.new.out.contents ends.result)) (c.as_bytes-first.ensures.line ∙ is.header)
+    (subst (λ (d : Keying). IfSome input.remaining (λ bytes. WritesHeaded first (text_of d) (bytes_of c.in-Ok.book d) bytes ends.new.input.remaining out.contents ends.new.out.contents ends.result))
+    (same_keying c.args.asked (collation_of rows_at c.collator-collator.result) made read.settings (table_with content.files.table content.files.properties) c.collator-collator.ensures is.collation)
     ends.ensures.writes))))
     c.in-Ok.ensures.read c.in-Ok.ensures.failed ends.ensures.input_failed ends.ensures.out_failed

@@ -2,8 +2,10 @@
 use Rattle.std.proofs.Common.{◌≡◌, ◌∙◌, ◌^◌, ◌<◌, List, ℕ, length, chars, subst, sym, arith}
 use Rattle.uca_order.specs.Depths.{read_points}
 use Rattle.uca_key_writer.specs.Writers.{collation_by}
+use Rattle.uca_order.specs.Keyings.{text_of}
+use Rattle.uca_key_runs.specs.Keys.{keying_of_writer}
 use Rattle.uca_key_runs.specs.inside.KeyForms.{book_of, shown_at, shown_of}
-use Rattle.uca_key_runs.proofs.NormalLines.{normal_line}
+use Rattle.uca_key_runs.proofs.NormalLines.{line_scalars}
 use Rattle.uca_key_runs.proofs.ShownKeys.{shown_is_short}
 use Rattle.uca_key_runs.proofs.keys.make_shown_key.Goals as goal
 
@@ -13,7 +15,7 @@ returns-in-Ok-compact_shown-clause-shown g c =
     let collation = collation_by g.L.Lookup.content key in
     let line = c.args.lines.now.line in
     let text = read_points collation key.settings.numbers (chars line) in
-    let scalars = (normal_line collation.properties 0 line (c.in-Ok.ensures.clean 0 (omega arith))).scalars in
+    let scalars = line_scalars (text_of (keying_of_writer g.L.Lookup.content key)) 0 line (c.in-Ok.ensures.clean 0 (omega arith)) in
     subst (λ (k : List ℕ). shown_of c.compact_shown.new.compacting k ≡ shown_at (book_of c.args.compacting.now) key.settings.depth key.settings.weighting text) c.bytes.ensures
     (c.in-Ok-compact_shown.ensures.shown key.settings text c.requires.compact (c.bytes.ensures ∙ c.in-Ok.ensures.key) scalars)
 

@@ -9,7 +9,7 @@ use Rattle.uca_run_parts.specs.declared.faults.RunFault.TheVariants.{Memory}
 use Rattle.uca_run_parts.specs.EachLine.{RunsEach}
 use Rattle.uca_run_parts.specs.Files.{table_and_data, table_and_data_roles}
 use Rattle.uca_key_runs.specs.inside.KeyForms.{line_as}
-use Rattle.uca_order.specs.Keyings.{Keying}
+use Rattle.uca_order.specs.Keyings.{Keying, text_of}
 use Rattle.uca_key_runs.specs.Keys.{IsCollation}
 use Rattle.uca_key_runs.specs.KeysRun.{RunsUnder}
 use Rattle.uca_key_runs.proofs.Keyings.{same_keying}
@@ -21,10 +21,10 @@ pub returns-in-Err : goal.returns-in-Err
 returns-in-Err g c =
     let fault = c.in-Err.fault in
     ended_before table_and_data table_and_data_roles (λ content. fault ≡ Memory)
-    (RunsUnder {A = ⊤} (line_as c.args.form None) c.args.weighting c.args.depth c.args.input.now c.args.input.now c.args.out.now c.args.out.now (Err fault))
+    (RunsUnder {A = ⊤} (line_as c.args.form None) c.args.asked c.args.input.now c.args.input.now c.args.out.now c.args.out.now (Err fault))
     (c.args.table.now ∷ c.args.properties.now ∷ []) (c.read_collation.new.table ∷ c.read_collation.new.properties ∷ [])
     ⊤ ⊤ c.args.input.now c.args.out.now fault
-    (λ content is. subst (λ f. RunsUnder {A = ⊤} (line_as c.args.form None) c.args.weighting c.args.depth c.args.input.now c.args.input.now c.args.out.now c.args.out.now (Err f) content) (sym is) tt)
+    (λ content is. subst (λ f. RunsUnder {A = ⊤} (line_as c.args.form None) c.args.asked c.args.input.now c.args.input.now c.args.out.now c.args.out.now (Err f) content) (sym is) tt)
     c.in-Err.ensures.read c.in-Err.ensures.before_input c.in-Err.ensures.failed
 
 pub print_lines-end-requires : goal.print_lines-end-requires
@@ -34,12 +34,12 @@ pub returns-in-Ok : goal.returns-in-Ok
 returns-in-Ok g c =
     let read = c.in-Ok.read in
     let made = owned_collation read.collation in
-    ended_by_lines table_and_data table_and_data_roles (λ content. IsCollation c.args.weighting c.args.depth made read.settings content)
-    (RunsUnder (line_as c.args.form None) c.args.weighting c.args.depth c.args.input.now c.print_lines-end.new.input c.args.out.now c.print_lines-end.new.out c.print_lines-end.result)
+    ended_by_lines table_and_data table_and_data_roles (λ content. IsCollation c.args.asked made read.settings content)
+    (RunsUnder (line_as c.args.form None) c.args.asked c.args.input.now c.print_lines-end.new.input c.args.out.now c.print_lines-end.new.out c.print_lines-end.result)
     (c.args.table.now ∷ c.args.properties.now ∷ []) (c.read_collation.new.table ∷ c.read_collation.new.properties ∷ []) {B = ⊤}
     c.args.input.now c.print_lines-end.new.input c.args.out.now c.print_lines-end.new.out tt c.print_lines-end.result c.print_lines-end.ensures.of_lines
-    (λ content is. runs_under (line_as c.args.form None) c.args.weighting c.args.depth c.args.input.now c.print_lines-end.new.input c.args.out.now c.print_lines-end.new.out c.print_lines-end.result content c.print_lines-end.ensures.of_lines
-    (subst (λ (d : Keying). RunsEach d.collation.properties (line_as c.args.form None d) c.args.input.now c.print_lines-end.new.input c.args.out.now c.print_lines-end.new.out c.print_lines-end.result)
-    (same_keying c.args.weighting c.args.depth (collation_of rows_at c.collator-collator.result) made read.settings content c.collator-collator.ensures is)
+    (λ content is. runs_under (line_as c.args.form None) c.args.asked c.args.input.now c.print_lines-end.new.input c.args.out.now c.print_lines-end.new.out c.print_lines-end.result content c.print_lines-end.ensures.of_lines
+    (subst (λ (d : Keying). RunsEach (text_of d) (line_as c.args.form None d) c.args.input.now c.print_lines-end.new.input c.args.out.now c.print_lines-end.new.out c.print_lines-end.result)
+    (same_keying c.args.asked (collation_of rows_at c.collator-collator.result) made read.settings content c.collator-collator.ensures is)
     c.print_lines-end.ensures.writes))
     c.in-Ok.ensures.read c.in-Ok.ensures.failed c.print_lines-end.ensures.input_failed c.print_lines-end.ensures.out_failed

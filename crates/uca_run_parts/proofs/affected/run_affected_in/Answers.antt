@@ -12,7 +12,7 @@ pub returns-in-Err : goal.returns-in-Err
 returns-in-Err g c =
     let fault = c.in-Err.fault in
     (ended_before data_and_rules data_and_rules_roles (λ content. ⊥)
-    (RunsAffected {A = ⊤} c.args.input.now c.args.input.now c.args.out.now c.args.out.now (Err fault))
+    (RunsAffected {A = ⊤} c.args.numbers c.args.input.now c.args.input.now c.args.out.now c.args.out.now (Err fault))
     (c.args.properties.now ∷ c.args.rules.now ∷ []) (c.read_data_and_rules.new.properties ∷ c.read_data_and_rules.new.rules ∷ [])
     ⊤ ⊤ c.args.input.now c.args.out.now fault (λ content never. absurd never)
     c.in-Err.ensures.read (file_before ⊤ ⊤ fault c.in-Err.ensures.of_files) c.in-Err.ensures.failed)
@@ -20,7 +20,7 @@ returns-in-Err g c =
 pub returns-in-Ok : goal.returns-in-Ok
 returns-in-Ok g c =
     let read = data_with (properties_of c.in-Ok.files.properties) c.in-Ok.files.rules in
-    let runs = RunsAffected c.args.input.now c.print_affected-end.new.input c.args.out.now c.print_affected-end.new.out c.print_affected-end.result in
+    let runs = RunsAffected c.args.numbers c.args.input.now c.print_affected-end.new.input c.args.out.now c.print_affected-end.new.out c.print_affected-end.result in
     ended_by_lines data_and_rules data_and_rules_roles (λ content. read ≡ content) runs
     (c.args.properties.now ∷ c.args.rules.now ∷ []) (c.read_data_and_rules.new.properties ∷ c.read_data_and_rules.new.rules ∷ []) {B = ⊤}
     c.args.input.now c.print_affected-end.new.input c.args.out.now c.print_affected-end.new.out tt c.print_affected-end.result c.print_affected-end.ensures.of_lines
