@@ -3,6 +3,7 @@
 ghost use Rattle.std.specs.Prelude.{◌≡◌, ◌||◌, true, false, ℕ, Bool, List, Option, IfErr, IfSome, OnOk, length};
 ghost use Rattle.std.specs.Io.KnownBytes.{Appends};
 ghost use Rattle.uca_weights.specs.Streams.{SourceState};
+ghost use Rattle.uca_text.specs.Texts.{NfdText};
 ghost use Rattle.uca_lines.specs.Lines.{ended};
 ghost use Rattle.uca_lines.specs.Buffered.{HasRoom, WritesThrough};
 ghost use Rattle.uca_run_parts.specs.EachLine.{WritesEach, ended_before_input};
