@@ -33,7 +33,7 @@ returns-clause-writes g c =
     let input = c.args.input.now in
     let out = c.args.out.now in
     let book = book_of c.compacting_by.result in
-    let begin = started (text_of keying) (line_as form book keying) c.new.result input c.new-4.result out (c.new.ensures.read (text_of keying) input) c.new-4.ensures.held c.new-4.ensures.written in
+    let begin = started (text_of keying) (line_as form book keying) c.new.result input c.new-5.result out (c.new.ensures.read (text_of keying) input) c.new-5.ensures.held c.new-5.ensures.written in
     let end = c.print_rest-end in
     let rest = subst (λ s. WritesRest (text_of s) (line_as form book s) input.remaining out.contents end.new.input end.new.self.output end.new.out end.result)
     same (end.ensures.prints input.remaining out.contents [] begin) in
@@ -48,7 +48,7 @@ returns-clause-of_lines g c =
     let bytes_of = line_as c.args.form (book_of c.compacting_by.result) keying in
     let input = c.args.input.now in
     let out = c.args.out.now in
-    let begin = started read_of bytes_of c.new.result input c.new-4.result out (c.new.ensures.read read_of input) c.new-4.ensures.held c.new-4.ensures.written in
+    let begin = started read_of bytes_of c.new.result input c.new-5.result out (c.new.ensures.read read_of input) c.new-5.ensures.held c.new-5.ensures.written in
     c.end_output-end.ensures.of_lines (of_lines read_of bytes_of input.remaining out.contents c.print_rest-end.new.input c.print_rest-end.new.self.output c.print_rest-end.new.out c.print_rest-end.result
     (c.print_rest-end.ensures.prints input.remaining out.contents [] begin))
 
