@@ -1,10 +1,11 @@
 -- What a change with other lists of the same texts and ranges keeps.
-use Rattle.std.proofs.Common.{◌≡◌, ◌↔◌, inl, inr, ⊎_elim, ℕ, List, Option, Contains, IsTrue, subst, sym}
+use Rattle.std.proofs.Common.{◌≡◌, ◌↔◌, inl, inr, ⊎_elim, ℕ, List, Contains, IsTrue, subst, sym}
 use Rattle.std.specs.List.{AllByRecursion}
 use Rattle.std.proofs.lemmas.List.Elements.{All-contains_itself, recursion_from_All}
 use Rattle.unicode_normalization.specs.Forms.{nfd}
-use Rattle.uca_weights.specs.declared.Depth.{Depth}
-use Rattle.uca_weights.specs.declared.Weighting.{Weighting}
+use Rattle.uca_weights.specs.declared.Asked.{Asked}
+use Rattle.uca_weights.specs.declared.Numbers.{Numbers}
+use Rattle.uca_order.specs.Depths.{written}
 use Rattle.uca_weights.proofs.Lists.{each_contained, each_weaker}
 use Rattle.uca_values.specs.declared.CodePointRange.{CodePointRange}
 use Rattle.uca_values.specs.Ranges.{is_within}
@@ -77,25 +78,29 @@ module _ (change : Change) (texts : List (List ℕ)) (ranges : List CodePointRan
         subst (λ (all : List CodePointRange). AllByRecursion (λ point. ¬ (IsTrue (is_within all point))) points) (sym same_ranges) stays.outside;
   }
 
-  unaffected_text_by_same : (text : List ℕ) → IsUnaffectedText (with_lists change texts ranges) text → IsUnaffectedText change text
-  unaffected_text_by_same text stays = record { scalars = stays.scalars; unaffected = unaffected_by_same (nfd text) stays.unaffected }
+  unaffected_text_by_same : (numbers : Numbers) (text : List ℕ) → IsUnaffectedText numbers (with_lists change texts ranges) text → IsUnaffectedText numbers change text
+  unaffected_text_by_same numbers text stays = record {
+    scalars = stays.scalars;
+    read_scalars = stays.read_scalars;
+    unaffected = unaffected_by_same (nfd (written numbers text)) stays.unaffected;
+  }
 
   -- so what it means with the one lists it means with the others
   module _ (old new : Collation) where
-    stored_by_same : (depth : Depth) (asked : Option Weighting) (text key : List ℕ)
-        → IsStoredKey (with_lists change texts ranges) old new depth asked text key → IsStoredKey change old new depth asked text key
-    stored_by_same depth asked text key = ⊎_elim (λ made. inl made) (λ kept. inr (unaffected_text_by_same text kept.0, kept.1))
+    stored_by_same : (asked : Asked) (text key : List ℕ)
+        → IsStoredKey (with_lists change texts ranges) old new asked text key → IsStoredKey change old new asked text key
+    stored_by_same asked text key = ⊎_elim (λ made. inl made) (λ kept. inr (unaffected_text_by_same asked.numbers text kept.0, kept.1))
 
     pub stays_by_same : UnaffectedTextsStay change old new → UnaffectedTextsStay (with_lists change texts ranges) old new
     stays_by_same stays = record {
       chosen = stays.chosen;
-      moves = λ text unaffected. stays.moves text (unaffected_text_by_same text unaffected);
-      compared = λ depth asked left right first second.
-          stays.compared depth asked left right (unaffected_text_by_same left first) (unaffected_text_by_same right second);
-      ordered = λ depth asked left right left_key right_key first second.
-          stays.ordered depth asked left right left_key right_key (stored_by_same depth asked left left_key first)
-          (stored_by_same depth asked right right_key second);
-      levels = λ depth asked left right left_key right_key first second.
-          stays.levels depth asked left right left_key right_key (stored_by_same depth asked left left_key first)
-          (stored_by_same depth asked right right_key second);
+      moves = λ numbers text unaffected. stays.moves numbers text (unaffected_text_by_same numbers text unaffected);
+      compared = λ asked left right first second.
+          stays.compared asked left right (unaffected_text_by_same asked.numbers left first) (unaffected_text_by_same asked.numbers right second);
+      ordered = λ asked left right left_key right_key first second.
+          stays.ordered asked left right left_key right_key (stored_by_same asked left left_key first)
+          (stored_by_same asked right right_key second);
+      levels = λ asked left right left_key right_key first second.
+          stays.levels asked left right left_key right_key (stored_by_same asked left left_key first)
+          (stored_by_same asked right right_key second);
     }

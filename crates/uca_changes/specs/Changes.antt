@@ -1,7 +1,7 @@
 -- Changes from an old table and its data file to a new table and its data file, and when one is accepted: nine conditions.
 use Rattle.std.specs.Prelude.{◌≡◌, ℕ, List, Option, None, IsTrue, Contains}
 use Rattle.std.specs.List.{AllByRecursion}
-use Rattle.uca_weights.specs.declared.Depth.{Depth}
+use Rattle.uca_weights.specs.declared.Asked.{Asked}
 use Rattle.uca_weights.specs.declared.Settings.{Settings}
 use Rattle.uca_weights.specs.declared.Weighting.{Weighting}
 use Rattle.uca_values.specs.declared.CodePointRange.{CodePointRange}
@@ -15,7 +15,7 @@ use Rattle.uca_change_lists.specs.Points.{IsSamePair, IsSamePoint, OutsideOf}
 use Rattle.uca_tailorings.specs.Images.{Maps, AreRisingMaps}
 use Rattle.uca_tailorings.specs.KeptRows.{IsKeptRow, IsKnownRow}
 use Rattle.uca_tailorings.specs.Tailorings.{IsCovered}
-use Rattle.uca_order.specs.Keyings.{as_text, settings_by, weighting_by}
+use Rattle.uca_order.specs.Keyings.{settings_by, weighting_by}
 use Rattle.uca_changes.specs.declared.conditions.ChangeCondition.{ChangeCondition}
 use Rattle.uca_changes.specs.declared.conditions.ChangeCondition.TheVariants.{OldIllFormed, NewIllFormed, RangeChanged, Uncovered, RowChanged, RowMissing, RowExtra, PointChanged, SettingChanged}
 
@@ -50,12 +50,12 @@ old_weighting change asked = weighting_by asked change.old.header.setting
 abbrev pub new_weighting : Change → Option Weighting → Weighting
 new_weighting change asked = weighting_by asked change.new.header.setting
 
--- the settings of these runs, to this depth
-abbrev pub old_settings : Change → Option Weighting → Depth → Settings
-old_settings change asked depth = settings_by (as_text asked depth) change.old.header.setting
+-- the settings of these runs
+abbrev pub old_settings : Change → Asked → Settings
+old_settings change asked = settings_by asked change.old.header.setting
 
-abbrev pub new_settings : Change → Option Weighting → Depth → Settings
-new_settings change asked depth = settings_by (as_text asked depth) change.new.header.setting
+abbrev pub new_settings : Change → Asked → Settings
+new_settings change asked = settings_by asked change.new.header.setting
 
 -- ---- What is listed
 

@@ -3,29 +3,32 @@ use Rattle.std.specs.Prelude.{◌≡◌, ◌⊎◌, ℕ, List, [], Option, map}
 use Rattle.std.specs.Char.{IsScalar}
 use Rattle.std.specs.List.{AllByRecursion}
 use Rattle.unicode_normalization.specs.Forms.{nfd}
-use Rattle.uca_weights.specs.declared.Depth.{Depth}
+use Rattle.uca_weights.specs.declared.Asked.{Asked}
+use Rattle.uca_weights.specs.declared.Numbers.{Numbers}
 use Rattle.uca_weights.specs.declared.Weighting.{Weighting}
-use Rattle.uca_text.specs.Texts.{nfd_text}
 use Rattle.uca_elements.specs.Collations.{Collation}
 use Rattle.uca_order.specs.Levels.{lexicographic}
-use Rattle.uca_order.specs.Depths.{read_text, levels_at, text_key, texts_compared}
+use Rattle.uca_order.specs.Depths.{levels_at, read_points, text_key, texts_compared, written}
 use Rattle.uca_order.specs.StoredKeys.{stored_level}
 use Rattle.uca_tailorings.specs.Moves.{KeyMoves, IsKeptKey}
 use Rattle.uca_tailorings.specs.Tailorings.{Tailoring, IsTailoring, IsAccepted}
 use Rattle.uca_tailorings.specs.Laws.{ReadsAs}
 use Rattle.uca_changes.specs.Changes.{Change, IsChange, old_reading, new_reading, old_weighting, new_weighting, old_settings, new_settings, IsUnaffected, IsAcceptedChange}
 
--- in Normalization Form D the text has Unicode scalar values alone, and the change leaves it as it is
-pub record IsUnaffectedText (change : Change) (text : List ℕ) : Type 0 where
+-- What is read of the text is left as it is by the change. In Normalization Form D, this and the text have Unicode scalar
+-- values alone.
+pub record IsUnaffectedText (numbers : Numbers) (change : Change) (text : List ℕ) : Type 0 where
   pub scalars : AllByRecursion IsScalar (nfd text)
-  pub unaffected : IsUnaffected change (nfd text)
+  pub read_scalars : AllByRecursion IsScalar (nfd (written numbers text))
+  pub unaffected : IsUnaffected change (nfd (written numbers text))
 
--- A key that a store has for a text, where each run was asked for this weighting or for none. It was made under the new reading.
--- Or the text is unaffected, and the key was kept from the old reading.
-abbrev pub IsStoredKey : Change → Collation → Collation → Depth → Option Weighting → List ℕ → List ℕ → Type 0
-IsStoredKey change old new depth asked text key =
-    (key ≡ text_key new (new_settings change asked depth) text)
-    ⊎ (IsUnaffectedText change text × IsKeptKey change.maps depth (old_weighting change asked) (read_text old (nfd_text old.properties text)) key)
+-- A key that a store has for a text, where each run was asked for these settings. It was made under the new reading. Or the text
+-- is unaffected, and the key was kept from the old reading.
+abbrev pub IsStoredKey : Change → Collation → Collation → Asked → List ℕ → List ℕ → Type 0
+IsStoredKey change old new asked text key =
+    (key ≡ text_key new (new_settings change asked) text)
+    ⊎ (IsUnaffectedText asked.numbers change text
+    × IsKeptKey change.maps asked.depth (old_weighting change asked.weighting) (read_points old asked.numbers text) key)
 
 -- What an accepted change means, by lookups `old` of the old table and `new` of the new one. A weighting may be asked for, as by an
 -- option of a command. Where none is, runs over the old table go by what it says, and runs over the new one by what that one says.
@@ -33,19 +36,19 @@ pub record UnaffectedTextsStay (change : Change) (old new : Collation) : Type 0 
   -- this is the same weighting
   pub chosen : (asked : Option Weighting) → new_weighting change asked ≡ old_weighting change asked
   -- the elements of an unaffected text are the images of the old ones, and its key is put through the maps
-  pub moves : (text : List ℕ) → IsUnaffectedText change text →
-      KeyMoves change.maps (read_text old (nfd_text old.properties text)) (read_text new (nfd_text new.properties text))
+  pub moves : (numbers : Numbers) (text : List ℕ) → IsUnaffectedText numbers change text →
+      KeyMoves change.maps (read_points old numbers text) (read_points new numbers text)
   -- two such texts compare as before, by order and level
-  pub compared : (depth : Depth) (asked : Option Weighting) (left right : List ℕ) → IsUnaffectedText change left → IsUnaffectedText change right →
-      texts_compared new (new_settings change asked depth) left right ≡ texts_compared old (old_settings change asked depth) left right
+  pub compared : (asked : Asked) (left right : List ℕ) → IsUnaffectedText asked.numbers change left → IsUnaffectedText asked.numbers change right →
+      texts_compared new (new_settings change asked) left right ≡ texts_compared old (old_settings change asked) left right
   -- the keys of a store compare as their texts do under the new reading
-  pub ordered : (depth : Depth) (asked : Option Weighting) (left right left_key right_key : List ℕ) →
-      IsStoredKey change old new depth asked left left_key → IsStoredKey change old new depth asked right right_key →
-      lexicographic left_key right_key ≡ (texts_compared new (new_settings change asked depth) left right).order
-  pub levels : (depth : Depth) (asked : Option Weighting) (left right left_key right_key : List ℕ) →
-      IsStoredKey change old new depth asked left left_key → IsStoredKey change old new depth asked right right_key →
-      stored_level (levels_at depth (new_weighting change asked)) left_key right_key
-      ≡ (texts_compared new (new_settings change asked depth) left right).level
+  pub ordered : (asked : Asked) (left right left_key right_key : List ℕ) →
+      IsStoredKey change old new asked left left_key → IsStoredKey change old new asked right right_key →
+      lexicographic left_key right_key ≡ (texts_compared new (new_settings change asked) left right).order
+  pub levels : (asked : Asked) (left right left_key right_key : List ℕ) →
+      IsStoredKey change old new asked left left_key → IsStoredKey change old new asked right right_key →
+      stored_level (levels_at asked.depth (new_weighting change asked.weighting)) left_key right_key
+      ≡ (texts_compared new (new_settings change asked) left right).level
 
 abbrev pub ChangesKeepUnaffectedTexts : Type 0
 ChangesKeepUnaffectedTexts = (change : Change) (old new : Collation) → IsChange change → IsAcceptedChange change →

@@ -4,10 +4,11 @@ ghost use Rattle.uca_changes.specs.Laws.{ChangesKeepUnaffectedTexts, TailoringsA
 ghost use Rattle.uca_changes.specs.Worked.{WorkedChanges};
 
 /// Acceptance is about all texts. Take a text in which no changed text occurs in order, and which has no code point of a
-/// changed range. If a change is accepted:
+/// changed range. With numbers by value that is to be so of what is read of the text: it has the code of each number in place
+/// of it. If a change is accepted:
 ///
-/// - Any two such texts compare under the new table and data file as under the old, by order and level, at either depth
-///   and under either weighting. They do so too where no weighting is asked for: both tables then say the same one.
+/// - Any two such texts compare under the new table and data file as under the old, by order and level, whatever settings
+///   are asked for. They do so too where no weighting is asked for: both tables then say the same one.
 /// - The elements of such a text are the images of those that it had. So its stored key can be put through the maps.
 /// - Keys of such texts that were put through the maps, or stay, may be stored beside new keys of all other texts. They
 ///   compare as the texts do under the new table.

@@ -5,8 +5,8 @@ use Rattle.std.specs.List.{AllByRecursion, list_any}
 use Rattle.std.proofs.lemmas.Bool.{or_from}
 use Rattle.unicode_normalization.specs.Forms.{nfd}
 use Rattle.uca_values.specs.Ranges.{is_within}
-use Rattle.uca_text.specs.Texts.{nfd_text}
-use Rattle.uca_order.specs.Depths.{read_text}
+use Rattle.uca_weights.specs.declared.Numbers.{Numbers}
+use Rattle.uca_order.specs.Depths.{read_points, written}
 use Rattle.uca_relations.specs.declared.Relation.{Relation}
 use Rattle.uca_tailorings.specs.Moves.{KeyMoves}
 use Rattle.uca_tailorings.specs.Tailorings.{IsAccepted}
@@ -22,7 +22,7 @@ use Rattle.uca_change_runs.proofs.AffectedTexts.{affected_are_the_others}
 use Rattle.uca_tailor_runs.specs.AuditRun.{tailoring_audit}
 use Rattle.uca_upgrades.specs.Upgrades.{Upgrade, IsUnaffectedLine, change_upgrade, tailoring_upgrade}
 use Rattle.uca_upgrades.specs.Laws.{AcceptedChangesKeepOrder, AuditedChangesKeepOrder, AcceptedTailoringsKeepOrder, AuditedTailoringsKeepOrder, MeanOnly, sources_of}
-use Rattle.uca_upgrades.proofs.KeptLines.{keeps_order, line_scalars}
+use Rattle.uca_upgrades.proofs.KeptLines.{keeps_order, own_scalars, read_scalars}
 use Rattle.uca_upgrades.proofs.Meanings.{means_change, means_tailoring, over_means}
 use Rattle.uca_upgrades.proofs.OneMeaning.{changes_mean_one, mean_one, tailorings_mean_one}
 
@@ -38,9 +38,12 @@ not_so : (is_so : List ℕ → Bool) (points line : List ℕ) (b : Bool) → is_
 not_so is_so points line false a none = refl
 not_so is_so points line true a none = absurd (never_empty line (rw a at none))
 
--- so the text of an unaffected line is not affected
-unaffected_text : (upgrade : Upgrade) (line : List ℕ) → IsUnaffectedLine upgrade line → upgrade.affects (nfd (chars line)) ≡ false
-unaffected_text upgrade line is = not_so upgrade.affects (nfd (chars line)) line (upgrade.affects (nfd (chars line))) refl is.unwritten
+-- so what is read of an unaffected line is not affected
+unaffected_text : (numbers : Numbers) (upgrade : Upgrade) (line : List ℕ) → IsUnaffectedLine numbers upgrade line
+    → upgrade.affects (nfd (written numbers (chars line))) ≡ false
+unaffected_text numbers upgrade line is =
+    let points = nfd (written numbers (chars line)) in
+    not_so upgrade.affects points line (upgrade.affects points) refl is.unwritten
 
 -- ---- Changes
 
@@ -52,20 +55,21 @@ stays_by law change is accepted =
     (record { rows = λ key. refl; ranges = refl; properties = refl })
     (record { rows = λ key. refl; ranges = refl; properties = refl })
 
--- the key of a line moves whose text the change does not affect
-change_moves : ChangesKeepUnaffectedTexts → (change : Change) → IsChange change → IsAcceptedChange change → (text : List ℕ) →
-    AllByRecursion IsScalar (nfd text) → is_affected_by (listed_in change) (nfd text) ≡ false →
-    KeyMoves change.maps (read_text (old_reading change) (nfd_text change.old_properties text)) (read_text (new_reading change) (nfd_text change.new_properties text))
-change_moves law change is accepted text scalars none =
-    (stays_by law change is accepted).moves text
-    (record { scalars = scalars; unaffected = (affected_are_the_others change (nfd text)).0 none })
+-- the key of a line moves where the change does not affect what is read of it
+change_moves : ChangesKeepUnaffectedTexts → (change : Change) → IsChange change → IsAcceptedChange change → (numbers : Numbers) (text : List ℕ) →
+    AllByRecursion IsScalar (nfd text) → AllByRecursion IsScalar (nfd (written numbers text)) → is_affected_by (listed_in change) (nfd (written numbers text)) ≡ false →
+    KeyMoves change.maps (read_points (old_reading change) numbers text) (read_points (new_reading change) numbers text)
+change_moves law change is accepted numbers text scalars read none =
+    (stays_by law change is accepted).moves numbers text
+    (record { scalars = scalars; read_scalars = read; unaffected = (affected_are_the_others change (nfd (written numbers text))).0 none })
 
 pub changes_keep : ChangesKeepUnaffectedTexts → AcceptedChangesKeepOrder
 changes_keep law old old_data new new_data changes certificate change means accepted =
     let is = means_change old old_data new new_data changes certificate change means in
-    keeps_order (change_upgrade change) is.old (λ line unaffected.
-    change_moves law change is accepted (chars line) (line_scalars (change_upgrade change) line unaffected)
-    (unaffected_text (change_upgrade change) line unaffected))
+    let upgrade = change_upgrade change in
+    keeps_order upgrade is.old (λ numbers line unaffected.
+    change_moves law change is accepted numbers (chars line) (own_scalars numbers upgrade line unaffected) (read_scalars numbers upgrade line unaffected)
+    (unaffected_text numbers upgrade line unaffected))
     (stays_by law change is accepted).chosen
 
 -- a run that accepts does so for a change that its files mean
@@ -96,11 +100,11 @@ tailorings_keep law are base properties rules tailored certificate tailoring mea
     let is = means_tailoring base properties rules tailored certificate tailoring means in
     let change = are tailoring is accepted in
     let upgrade = tailoring_upgrade tailoring in
-    keeps_order upgrade is.base (λ line unaffected.
-    let points = nfd (chars line) in
-    change_moves law (change_of tailoring) change.0 change.1 (chars line) (line_scalars upgrade line unaffected)
+    keeps_order upgrade is.base (λ numbers line unaffected.
+    let points = nfd (written numbers (chars line)) in
+    change_moves law (change_of tailoring) change.0 change.1 numbers (chars line) (own_scalars numbers upgrade line unaffected) (read_scalars numbers upgrade line unaffected)
     (or_from (list_any (λ text. occurs_in_order text points) (map (λ r. r.target.points) tailoring.relations)) (list_any (is_within []) points)
-    (same_targets points tailoring.relations ∙ unaffected_text upgrade line unaffected) (none_within points)))
+    (same_targets points tailoring.relations ∙ unaffected_text numbers upgrade line unaffected) (none_within points)))
     (stays_by law (change_of tailoring) change.0 change.1).chosen
 
 pub audited_tailorings_keep : AcceptedTailoringsKeepOrder → AuditedTailoringsKeepOrder

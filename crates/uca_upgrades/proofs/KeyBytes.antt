@@ -131,12 +131,13 @@ key_is_bytes weighting es all =
     levels_are_bytes (level_lists_from 1 (level_count weighting) (weighted weighting es))
     (lists_short 1 (level_count weighting) (weighted weighting es) (weighted_short weighting [] es all))
 
--- the key of a text, at either depth
-pub text_key_is_bytes : (table : TableContent) (properties : Properties) → IsTable table → (depth : Depth) (weighting : Weighting) (text : NfdText) →
-    AllByRecursion IsScalar text.points → AreBytes (key_at depth weighting (read_text (collation_under table properties) text))
-text_key_is_bytes table properties is Weights weighting text scalars =
-    key_is_bytes weighting (elements_of (collation_under table properties) text) (elements_fit table properties is text scalars)
-text_key_is_bytes table properties is Identical weighting text scalars =
-    each_append (λ n. n < 256) (key_bytes weighting (elements_of (collation_under table properties) text)) (0 ∷ 0 ∷ points_bytes text.points)
-    (key_is_bytes weighting (elements_of (collation_under table properties) text) (elements_fit table properties is text scalars))
-    (omega arith, (omega arith, points_are_bytes text.points scalars))
+-- the key of what is read of a text, at either depth, and with the code points of the text
+pub text_key_is_bytes : (table : TableContent) (properties : Properties) → IsTable table → (depth : Depth) (weighting : Weighting) (text : NfdText) (points : List ℕ) →
+    AllByRecursion IsScalar text.points → AllByRecursion IsScalar points →
+    AreBytes (key_at depth weighting (record { elements = elements_of (collation_under table properties) text; points = points }))
+text_key_is_bytes table properties is Weights weighting text points read_scalars scalars =
+    key_is_bytes weighting (elements_of (collation_under table properties) text) (elements_fit table properties is text read_scalars)
+text_key_is_bytes table properties is Identical weighting text points read_scalars scalars =
+    each_append (λ n. n < 256) (key_bytes weighting (elements_of (collation_under table properties) text)) (0 ∷ 0 ∷ points_bytes points)
+    (key_is_bytes weighting (elements_of (collation_under table properties) text) (elements_fit table properties is text read_scalars))
+    (omega arith, (omega arith, points_are_bytes points scalars))

@@ -16,8 +16,8 @@ use uca_changes::{changes_keep_unaffected_texts, tailorings_are_changes};
 ///   what `uca keys` prints of them under Unicode 15.0.0.
 /// - The next edition may come: its old keys are these.
 ///
-/// This is so for each weighting and depth. It is so too where no weighting is asked for: then both tables say the same one, and
-/// `uca rekey` is asked for that one. Nothing is asked of the files but that their bytes mean a change that is accepted.
+/// This is so for each weighting and depth, and also with `--numeric` where each run but `uca rekey` has it. It is so too where no
+/// weighting is asked for: then both tables say the same one, and `uca rekey` is asked for that one. Nothing is asked of the files but that their bytes mean a change that is accepted.
 pub fn accepted_changes_keep_order()
     ensures { AcceptedChangesKeepOrder }
 {
