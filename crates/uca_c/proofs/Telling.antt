@@ -1,12 +1,11 @@
 -- What a caller is told of an error of opening.
-use Rattle.std.proofs.Common.{◌≡◌, ◌∙◌, ℕ, List, Option, Some, ap, inl, inr, refl}
-use Rattle.uca_weights.specs.declared.Depth.{Depth}
-use Rattle.uca_weights.specs.declared.Weighting.{Weighting}
-use Rattle.uca_order.specs.Keyings.{as_text, keying}
+use Rattle.std.proofs.Common.{◌≡◌, ◌∙◌, ℕ, List, Some, ap, inl, inr, refl}
+use Rattle.uca_weights.specs.declared.Asked.{Asked}
+use Rattle.uca_order.specs.Keyings.{keying}
 use Rattle.uca_owned.specs.declared.faults.OpenFault.{OpenFault}
 use Rattle.uca_owned.specs.declared.faults.OpenFault.TheVariants as faults
 use Rattle.uca_owned.specs.Opening.{IsOpenCause, IsOpenStop}
-use Rattle.uca_c.specs.Numbers.{kind_number, weighting_of, depth_of}
+use Rattle.uca_c.specs.Numbers.{asked_of, kind_number}
 use Rattle.uca_c.specs.Opened.{IsOpenStatus, IsStopStatus, TellsFault}
 
 -- it is the status of a stop, if the error is in no file
@@ -15,26 +14,20 @@ told_stop (faults.Table fault) line kind status stop told = inr (inl told.2, tol
 told_stop (faults.Data fault) line kind status stop told = inr (inr told.2, told.1 ∙ ap kind_number stop)
 told_stop faults.Memory line kind status stop told = inl told.2
 
--- it is the status of an error that has a cause, where the numbers ask for a weighting and a depth
-pub told_cause : (weighting depth : ℕ) (asked : Option Weighting) (at : Depth) (table_bytes data_bytes : List ℕ) (fault : OpenFault) (line kind status : ℕ)
-    → weighting_of weighting ≡ Some asked → depth_of depth ≡ Some at → IsOpenCause table_bytes data_bytes fault → TellsFault fault line kind status
+-- it is the status of an error that has a cause, where the numbers ask for settings
+pub told_cause : (weighting depth : ℕ) (asked : Asked) (table_bytes data_bytes : List ℕ) (fault : OpenFault) (line kind status : ℕ)
+    → asked_of weighting depth ≡ Some asked → IsOpenCause table_bytes data_bytes fault → TellsFault fault line kind status
     → IsOpenStatus weighting depth table_bytes data_bytes line kind status
-told_cause weighting depth asked at table_bytes data_bytes (faults.Table fault) line kind status is_weighting is_depth cause told =
+told_cause weighting depth asked table_bytes data_bytes (faults.Table fault) line kind status is_asked cause told =
     inr (inl (told.2, record { fault = fault; cause = cause; line = told.0; kind = told.1 }))
-told_cause weighting depth asked at table_bytes data_bytes (faults.Data fault) line kind status is_weighting is_depth cause told =
+told_cause weighting depth asked table_bytes data_bytes (faults.Data fault) line kind status is_asked cause told =
     inr (inr (inl (told.2, record { fault = fault; cause = cause; line = told.0; kind = told.1 })))
-told_cause weighting depth asked at table_bytes data_bytes faults.Memory line kind status is_weighting is_depth cause told =
+told_cause weighting depth asked table_bytes data_bytes faults.Memory line kind status is_asked cause told =
     inr (inr (inr (
       told.2,
       (
-        keying (as_text asked at) cause.0 cause.1,
-        record {
-          asked = asked;
-          at = at;
-          is_weighting = is_weighting;
-          is_depth = is_depth;
-          opens = record { table = cause.0; properties = cause.1; mean = cause.2; same = refl };
-        },
+        keying asked cause.0 cause.1,
+        record { asked = asked; is_asked = is_asked; opens = record { table = cause.0; properties = cause.1; mean = cause.2; same = refl } },
       ),
       (told.0, told.1),
     )))

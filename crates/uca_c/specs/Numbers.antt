@@ -1,9 +1,12 @@
--- The numbers by which C says a weighting, a depth and a range, and gets kinds of errors and orders.
+-- The numbers by which C says settings and a range, and gets kinds of errors and orders.
 use Rattle.std.specs.Prelude.{ℕ, ℤ, pos, negsuc, ◌==◌, if◌then◌else◌, Option, Some, None}
 use Rattle.std.specs.declared.cmp.Ordering.{Ordering}
 use Rattle.std.specs.declared.cmp.Ordering.TheVariants.{Less, Equal, Greater}
+use Rattle.uca_weights.specs.declared.Asked.{Asked}
 use Rattle.uca_weights.specs.declared.Depth.{Depth}
 use Rattle.uca_weights.specs.declared.Depth.TheVariants.{Weights, Identical}
+use Rattle.uca_weights.specs.declared.Numbers.{Numbers}
+use Rattle.uca_weights.specs.declared.Numbers.TheVariants.{AsText, ByValue}
 use Rattle.uca_weights.specs.declared.Weighting.{Weighting}
 use Rattle.uca_weights.specs.declared.Weighting.TheVariants.{NonIgnorable, Shifted}
 use Rattle.uca_c.specs.declared.numbers.RangeOf.{RangeOf}
@@ -17,8 +20,21 @@ use Rattle.uca_values.specs.declared.faults.FaultKind.TheVariants as kinds
 abbrev pub weighting_of : ℕ → Option (Option Weighting)
 weighting_of n = if n == 0 then Some None else if n == 1 then Some (Some NonIgnorable) else if n == 2 then Some (Some Shifted) else None
 
-abbrev pub depth_of : ℕ → Option Depth
-depth_of n = if n == 0 then Some Weights else if n == 1 then Some Identical else None
+-- How far texts are compared that a number asks for, and how their numbers are: it is the sum of 1 for an identical level
+-- and 2 for numbers by value. Other numbers have no meaning.
+abbrev pub depth_of : ℕ → Option (Depth × Numbers)
+depth_of n =
+    if n == 0 then Some (Weights, AsText) else if n == 1 then Some (Identical, AsText) else
+    if n == 2 then Some (Weights, ByValue) else if n == 3 then Some (Identical, ByValue) else None
+
+-- the settings that two numbers ask for
+abbrev pub both_asked : Option (Option Weighting) → Option (Depth × Numbers) → Option Asked
+both_asked (Some weighting) (Some depth) = Some (record { weighting = weighting; depth = depth.0; numbers = depth.1 })
+both_asked (Some weighting) None = None
+both_asked None depth = None
+
+abbrev pub asked_of : (weighting depth : ℕ) → Option Asked
+asked_of weighting depth = both_asked (weighting_of weighting) (depth_of depth)
 
 -- the range that a number asks for; other numbers have no meaning
 abbrev pub range_of : ℕ → Option RangeOf

@@ -1,34 +1,29 @@
 -- What the status of opening says of the caller's bytes and numbers.
 use Rattle.std.specs.Prelude.{◌≡◌, ◌≢◌, ◌⊎◌, ℕ, List, Option, Some, None}
-use Rattle.uca_weights.specs.declared.Depth.{Depth}
-use Rattle.uca_weights.specs.declared.Weighting.{Weighting}
+use Rattle.uca_weights.specs.declared.Asked.{Asked}
 use Rattle.uca_values.specs.Content.{TableContent, Properties}
 use Rattle.uca_values.specs.declared.faults.FaultKind.TheVariants.{Read, Memory}
 use Rattle.uca_values.specs.declared.faults.TableFault.{TableFault}
-use Rattle.uca_order.specs.Keyings.{as_text, Keying}
+use Rattle.uca_order.specs.Keyings.{Keying}
 use Rattle.uca_books.specs.Books.{BookContent}
 use Rattle.uca_books.specs.BookTexts as books
 use Rattle.uca_owned.specs.Opening.{HasFingerprint, MeanFiles, Opens, IsOpenCause}
 use Rattle.uca_owned.specs.declared.faults.OpenFault.{OpenFault}
 use Rattle.uca_owned.specs.declared.faults.OpenFault.TheVariants as faults
-use Rattle.uca_c.specs.Numbers.{weighting_of, depth_of, kind_number}
+use Rattle.uca_c.specs.Numbers.{asked_of, kind_number}
 use Rattle.uca_c.specs.declared.statuses.TheConstants.{ARGUMENT, TABLE, DATA, MEMORY, BOOK}
 
--- the numbers ask for a weighting and a depth, and the bytes mean a table and a data file: texts are keyed by these
+-- the numbers ask for settings, and the bytes mean a table and a data file: texts are keyed by these
 pub record OpensBy (weighting depth : ℕ) (table_bytes data_bytes : List ℕ) (k : Keying) : Type 0 where
-  pub asked : Option Weighting
-  pub at : Depth
-  pub is_weighting : weighting_of weighting ≡ Some asked
-  pub is_depth : depth_of depth ≡ Some at
-  pub opens : Opens (as_text asked at) table_bytes data_bytes k
+  pub asked : Asked
+  pub is_asked : asked_of weighting depth ≡ Some asked
+  pub opens : Opens asked table_bytes data_bytes k
 
--- the numbers ask for a weighting and a depth, and this is the fingerprint of what texts are keyed by
+-- the numbers ask for settings, and this is the fingerprint of what texts are keyed by
 pub record FingerprintsBy (weighting depth : ℕ) (table_bytes data_bytes sum : List ℕ) : Type 0 where
-  pub asked : Option Weighting
-  pub at : Depth
-  pub is_weighting : weighting_of weighting ≡ Some asked
-  pub is_depth : depth_of depth ≡ Some at
-  pub has : HasFingerprint (as_text asked at) table_bytes data_bytes sum
+  pub asked : Asked
+  pub is_asked : asked_of weighting depth ≡ Some asked
+  pub has : HasFingerprint asked table_bytes data_bytes sum
 
 -- an error in a file, by its line and the number of its kind
 pub record IsFileError (Rejects : TableFault → Type 0) (at number : ℕ) : Type 0 where
@@ -50,15 +45,14 @@ TellsFault faults.Memory line kind status = (line ≡ 0) × (kind ≡ 0) × (sta
 -- why nothing was opened: a number, the table or the data file; or an allocation failed after both were read
 abbrev pub IsOpenStatus : ℕ → ℕ → List ℕ → List ℕ → ℕ → ℕ → ℕ → Type 0
 IsOpenStatus weighting depth table_bytes data_bytes line kind status =
-    ((status ≡ ARGUMENT) × ((weighting_of weighting ≡ None) ⊎ (depth_of depth ≡ None)) × IsNoFileError line kind)
+    ((status ≡ ARGUMENT) × (asked_of weighting depth ≡ None) × IsNoFileError line kind)
     ⊎ ((status ≡ TABLE) × IsFileError (λ fault. IsOpenCause table_bytes data_bytes (faults.Table fault)) line kind)
     ⊎ ((status ≡ DATA) × IsFileError (λ fault. IsOpenCause table_bytes data_bytes (faults.Data fault)) line kind)
     ⊎ ((status ≡ MEMORY) × ((k : Keying) × OpensBy weighting depth table_bytes data_bytes k) × IsNoFileError line kind)
 
--- the numbers ask for this weighting and this depth, and the bytes mean this table and these properties
-pub record Asks (weighting depth : ℕ) (table_bytes data_bytes : List ℕ) (asked : Option Weighting) (at : Depth) (table : TableContent) (properties : Properties) : Type 0 where
-  pub is_weighting : weighting_of weighting ≡ Some asked
-  pub is_depth : depth_of depth ≡ Some at
+-- the numbers ask for these settings, and the bytes mean this table and these properties
+pub record Asks (weighting depth : ℕ) (table_bytes data_bytes : List ℕ) (asked : Asked) (table : TableContent) (properties : Properties) : Type 0 where
+  pub is_asked : asked_of weighting depth ≡ Some asked
   pub mean : MeanFiles table_bytes data_bytes table properties
 
 -- nothing is rejected: an allocation failed

@@ -1,11 +1,10 @@
 //! The calls of compact keys that C makes. Their clauses hold for every argument: a wrong one is a status.
 
 ghost use Rattle.std.specs.Prelude.{◌≡◌, ◌≢◌, ◌↔◌, ◌⊎◌, ℕ, List, true, false, Option, None, Some};
-ghost use Rattle.uca_weights.specs.declared.Depth.{Depth};
-ghost use Rattle.uca_weights.specs.declared.Weighting.{Weighting};
+ghost use Rattle.uca_weights.specs.declared.Asked.{Asked};
 ghost use Rattle.uca_values.specs.Content.{TableContent, Properties};
 ghost use Rattle.uca_fingerprint.specs.Fingerprints as fingerprints;
-ghost use Rattle.uca_order.specs.Keyings.{as_text, keying};
+ghost use Rattle.uca_order.specs.Keyings.{keying};
 ghost use Rattle.uca_books.specs.Books.{BookContent};
 ghost use Rattle.uca_books.specs.BookTexts as books;
 ghost use Rattle.uca_c.specs.CompactCalls.{HasCompactKey, IsNoCompactKey, IsOneTooSmall, WritesOne};
@@ -38,9 +37,9 @@ pub extern "C" fn uca_open_compact(
     ensures book { result ≡ OK → HasBook book.now collator.new.handle.kept.book }
     ensures open { result ≡ OK → collator.new.full ≡ true }
     ensures same { result ≢ OK → collator.new ≡ collator.old }
-    ensures only { (asked : Option Weighting) (at : Depth) (meant : TableContent) (properties : Properties) (content : BookContent) →
-        collator.old.full ≡ false → Asks weighting depth table.now data_file.now asked at meant properties → books.Means book.now content →
-        ((result ≡ OK) × (keying_at collator.new.handle.kept ≡ keying (as_text asked at) meant properties) × (collator.new.handle.kept.book ≡ Some content))
+    ensures only { (asked : Asked) (meant : TableContent) (properties : Properties) (content : BookContent) →
+        collator.old.full ≡ false → Asks weighting depth table.now data_file.now asked meant properties → books.Means book.now content →
+        ((result ≡ OK) × (keying_at collator.new.handle.kept ≡ keying asked meant properties) × (collator.new.handle.kept.book ≡ Some content))
         ⊎ IsCompactStopStatus result error.new.kind }
     ensures no_error { (result ≡ OK) ⊎ (result ≡ ALREADY_OPEN) → IsNoFileError error.new.line error.new.kind }
     ensures rejected { result ≢ OK → result ≢ ALREADY_OPEN →

@@ -1,12 +1,11 @@
 //! The calls that C makes. Their clauses hold for every argument: a wrong one is a status.
 
 ghost use Rattle.std.specs.Prelude.{◌≡◌, ◌≢◌, ◌↔◌, ◌⊎◌, true, false, pos, Option, None};
-ghost use Rattle.uca_weights.specs.declared.Depth.{Depth};
-ghost use Rattle.uca_weights.specs.declared.Weighting.{Weighting};
+ghost use Rattle.uca_weights.specs.declared.Asked.{Asked};
 ghost use Rattle.uca_values.specs.Content.{TableContent, Properties};
 ghost use Rattle.uca_order.specs.Levels.{lexicographic};
 ghost use Rattle.uca_order.specs.StoredKeys.{stored_level};
-ghost use Rattle.uca_order.specs.Keyings.{as_text, keying, bytes_compared};
+ghost use Rattle.uca_order.specs.Keyings.{keying, bytes_compared};
 ghost use Rattle.uca_owned.specs.Opening.{fingerprint_by};
 ghost use Rattle.uca_c.specs.Numbers.{order_number};
 ghost use Rattle.uca_c.specs.OpenCollators.{keying_at, key_by};
@@ -61,9 +60,9 @@ pub extern "C" fn uca_open(
     ensures book { result ≡ OK → collator.new.handle.kept.book ≡ None }
     ensures open { result ≡ OK → collator.new.full ≡ true }
     ensures same { result ≢ OK → collator.new ≡ collator.old }
-    ensures only { (asked : Option Weighting) (at : Depth) (meant : TableContent) (properties : Properties) → collator.old.full ≡ false →
-        Asks weighting depth table.now data_file.now asked at meant properties →
-        ((result ≡ OK) × (keying_at collator.new.handle.kept ≡ keying (as_text asked at) meant properties)) ⊎ IsStopStatus result error.new.kind }
+    ensures only { (asked : Asked) (meant : TableContent) (properties : Properties) → collator.old.full ≡ false →
+        Asks weighting depth table.now data_file.now asked meant properties →
+        ((result ≡ OK) × (keying_at collator.new.handle.kept ≡ keying asked meant properties)) ⊎ IsStopStatus result error.new.kind }
     ensures no_error { (result ≡ OK) ⊎ (result ≡ ALREADY_OPEN) → IsNoFileError error.new.line error.new.kind }
     ensures rejected { result ≢ OK → result ≢ ALREADY_OPEN →
         IsOpenStatus weighting depth table.now data_file.now error.new.line error.new.kind result }
@@ -196,9 +195,9 @@ pub extern "C" fn uca_fingerprint(
     error: &mut FileError,
 ) -> u32
     ensures ok { result ≡ OK → FingerprintsBy weighting depth table.now data_file.now out.new }
-    ensures only { (asked : Option Weighting) (at : Depth) (meant : TableContent) (properties : Properties) →
-        Asks weighting depth table.now data_file.now asked at meant properties →
-        ((result ≡ OK) × (out.new ≡ fingerprint_by (keying (as_text asked at) meant properties) table.now data_file.now)) ⊎ IsStopStatus result error.new.kind }
+    ensures only { (asked : Asked) (meant : TableContent) (properties : Properties) →
+        Asks weighting depth table.now data_file.now asked meant properties →
+        ((result ≡ OK) × (out.new ≡ fingerprint_by (keying asked meant properties) table.now data_file.now)) ⊎ IsStopStatus result error.new.kind }
     ensures unwritten { result ≢ OK → out.new ≡ out.old }
     ensures no_error { result ≡ OK → IsNoFileError error.new.line error.new.kind }
     ensures rejected { result ≢ OK → IsOpenStatus weighting depth table.now data_file.now error.new.line error.new.kind result }

@@ -1,11 +1,11 @@
 //! What numbers of a caller mean, and which numbers a caller gets.
 
 ghost use Rattle.std.specs.Prelude.{◌≡◌};
-ghost use Rattle.uca_c.specs.Numbers.{weighting_of, depth_of, range_of, end_of, kind_number, order_number};
+ghost use Rattle.uca_c.specs.Numbers.{asked_of, weighting_of, depth_of, range_of, end_of, kind_number, order_number};
 
 use std::cmp::Ordering;
 use uca_values::FaultKind;
-use uca_weights::{Depth, Weighting};
+use uca_weights::{Asked, Depth, Numbers, Weighting};
 
 /// Which keys a range has.
 #[derive(Clone, Copy, Debug, PartialEq, Eq)]
@@ -28,7 +28,7 @@ pub enum End {
 }
 
 // The weighting that is asked for: 0 asks for none. Other numbers have no meaning.
-pub fn asked_weighting(number: u32) -> Option<Option<Weighting>>
+fn asked_weighting(number: u32) -> Option<Option<Weighting>>
     ensures { result ≡ weighting_of number }
 {
     match number {
@@ -39,14 +39,33 @@ pub fn asked_weighting(number: u32) -> Option<Option<Weighting>>
     }
 }
 
-// The depth that is asked for. Other numbers have no meaning.
-pub fn asked_depth(number: u32) -> Option<Depth>
+// How far texts are compared that is asked for, and how their numbers are. Other numbers have no meaning.
+fn asked_depth(number: u32) -> Option<(Depth, Numbers)>
     ensures { result ≡ depth_of number }
 {
     match number {
-        0 => Some(Depth::Weights),
-        1 => Some(Depth::Identical),
+        0 => Some((Depth::Weights, Numbers::AsText)),
+        1 => Some((Depth::Identical, Numbers::AsText)),
+        2 => Some((Depth::Weights, Numbers::ByValue)),
+        3 => Some((Depth::Identical, Numbers::ByValue)),
         _ => None,
+    }
+}
+
+// The settings that are asked for.
+pub fn asked_settings(weighting: u32, depth: u32) -> Option<Asked>
+    ensures { result ≡ asked_of weighting depth }
+{
+    match asked_weighting(weighting) {
+        Some(weighting) => match asked_depth(depth) {
+            Some((depth, numbers)) => Some(Asked {
+                weighting,
+                depth,
+                numbers,
+            }),
+            None => None,
+        },
+        None => None,
     }
 }
 

@@ -1,11 +1,10 @@
 //! How a collator of C's is opened, and the fingerprint of its files.
 
 ghost use Rattle.std.specs.Prelude.{◌≡◌, Option, None, Some, MatchResult, IfOk, IfErr, OnOk};
-ghost use Rattle.uca_weights.specs.declared.Depth.{Depth};
-ghost use Rattle.uca_weights.specs.declared.Weighting.{Weighting};
+ghost use Rattle.uca_weights.specs.declared.Asked.{Asked};
 ghost use Rattle.uca_values.specs.Content.{TableContent, Properties};
 ghost use Rattle.uca_values.specs.declared.faults.FaultKind.TheVariants as kinds;
-ghost use Rattle.uca_order.specs.Keyings.{as_text, keying};
+ghost use Rattle.uca_order.specs.Keyings.{keying};
 ghost use Rattle.uca_books.specs.Books.{BookContent};
 ghost use Rattle.uca_books.specs.BookTexts as books;
 ghost use Rattle.uca_owned.specs.Opening.{fingerprint_by};
@@ -16,7 +15,7 @@ ghost use Rattle.uca_c.specs.Opened.{Asks, FingerprintsBy, OpensBy, IsNoFileErro
 ghost use Rattle.uca_c.specs.Opened.{HasBook, RejectsBook, IsCompactOpenStatus, IsCompactStopStatus};
 
 use crate::kept::keep;
-use crate::numbers::{asked_depth, asked_weighting, number_of_kind};
+use crate::numbers::{asked_settings, number_of_kind};
 use crate::open_collator::OpenCollator;
 use crate::statuses::{ARGUMENT, BOOK, DATA, MEMORY, TABLE};
 use crate::structs::FileError;
@@ -24,7 +23,7 @@ use std::alloc::Global;
 use uca_books::{Book, read_book};
 use uca_owned::{OpenFault, OwnedCollator, fingerprint_of, in_memory};
 use uca_values::TableFault;
-use uca_weights::{Asked, Depth, Numbers, Source, Weighting};
+use uca_weights::Source;
 
 fn file_error(fault: TableFault) -> FileError
     ensures line { result.line ≡ fault.line }
@@ -56,17 +55,6 @@ fn tell(fault: OpenFault, error: &mut FileError) -> u32
     }
 }
 
-// What is asked for where numbers compare as any other text.
-fn asked_as_text(weighting: Option<Weighting>, depth: Depth) -> Asked
-    ensures { result ≡ as_text weighting depth }
-{
-    Asked {
-        weighting,
-        depth,
-        numbers: Numbers::AsText,
-    }
-}
-
 // A collator of these bytes, or the status of the call.
 fn open_texts(
     alloc: Global,
@@ -77,20 +65,17 @@ fn open_texts(
     error: &mut FileError,
 ) -> Result<OwnedCollator, u32>
     ensures found { IfOk result (λ collator. OpensBy weighting depth table.now data_file.now (keying_in collator)) }
-    ensures only { (asked : Option Weighting) (at : Depth) (meant : TableContent) (properties : Properties) →
-        Asks weighting depth table.now data_file.now asked at meant properties →
-        MatchResult result (λ collator. keying_in collator ≡ keying (as_text asked at) meant properties) (λ status. IsStopStatus status error.new.kind) }
+    ensures only { (asked : Asked) (meant : TableContent) (properties : Properties) →
+        Asks weighting depth table.now data_file.now asked meant properties →
+        MatchResult result (λ collator. keying_in collator ≡ keying asked meant properties) (λ status. IsStopStatus status error.new.kind) }
     ensures no_error { OnOk result (IsNoFileError error.new.line error.new.kind) }
     ensures rejected { IfErr result (IsOpenStatus weighting depth table.now data_file.now error.new.line error.new.kind) }
 {
     *error = FileError { line: 0, kind: 0 };
-    let Some(asked) = asked_weighting(weighting) else {
+    let Some(asked) = asked_settings(weighting, depth) else {
         return Err(ARGUMENT);
     };
-    let Some(depth) = asked_depth(depth) else {
-        return Err(ARGUMENT);
-    };
-    match OwnedCollator::open(alloc, table, data_file, asked_as_text(asked, depth)) {
+    match OwnedCollator::open(alloc, table, data_file, asked) {
         Ok(opened) => Ok(opened),
         Err(fault) => Err(tell(fault, error)),
     }
@@ -119,9 +104,9 @@ pub fn open(
 ) -> Result<Box<OpenCollator>, u32>
     ensures found { IfOk result (λ kept. OpensBy weighting depth table.now data_file.now (keying_at kept.value)) }
     ensures book { IfOk result (λ kept. kept.value.book ≡ None) }
-    ensures only { (asked : Option Weighting) (at : Depth) (meant : TableContent) (properties : Properties) →
-        Asks weighting depth table.now data_file.now asked at meant properties →
-        MatchResult result (λ kept. keying_at kept.value ≡ keying (as_text asked at) meant properties) (λ status. IsStopStatus status error.new.kind) }
+    ensures only { (asked : Asked) (meant : TableContent) (properties : Properties) →
+        Asks weighting depth table.now data_file.now asked meant properties →
+        MatchResult result (λ kept. keying_at kept.value ≡ keying asked meant properties) (λ status. IsStopStatus status error.new.kind) }
     ensures no_error { OnOk result (IsNoFileError error.new.line error.new.kind) }
     ensures rejected { IfErr result (IsOpenStatus weighting depth table.now data_file.now error.new.line error.new.kind) }
 {
@@ -143,9 +128,9 @@ pub fn open_compact(
 ) -> Result<Box<OpenCollator>, u32>
     ensures found { IfOk result (λ kept. OpensBy weighting depth table.now data_file.now (keying_at kept.value)) }
     ensures book { IfOk result (λ kept. HasBook book.now kept.value.book) }
-    ensures only { (asked : Option Weighting) (at : Depth) (meant : TableContent) (properties : Properties) (content : BookContent) →
-        Asks weighting depth table.now data_file.now asked at meant properties → books.Means book.now content →
-        MatchResult result (λ kept. (keying_at kept.value ≡ keying (as_text asked at) meant properties) × (kept.value.book ≡ Some content))
+    ensures only { (asked : Asked) (meant : TableContent) (properties : Properties) (content : BookContent) →
+        Asks weighting depth table.now data_file.now asked meant properties → books.Means book.now content →
+        MatchResult result (λ kept. (keying_at kept.value ≡ keying asked meant properties) × (kept.value.book ≡ Some content))
         (λ status. IsCompactStopStatus status error.new.kind) }
     ensures no_error { OnOk result (IsNoFileError error.new.line error.new.kind) }
     ensures rejected { IfErr result (IsCompactOpenStatus weighting depth table.now data_file.now book.now error.new.line error.new.kind) }
@@ -173,21 +158,18 @@ pub fn fingerprint(
     error: &mut FileError,
 ) -> Result<[u8; 32], u32>
     ensures found { IfOk result (FingerprintsBy weighting depth table.now data_file.now) }
-    ensures only { (asked : Option Weighting) (at : Depth) (meant : TableContent) (properties : Properties) →
-        Asks weighting depth table.now data_file.now asked at meant properties →
-        MatchResult result (λ sum. sum ≡ fingerprint_by (keying (as_text asked at) meant properties) table.now data_file.now)
+    ensures only { (asked : Asked) (meant : TableContent) (properties : Properties) →
+        Asks weighting depth table.now data_file.now asked meant properties →
+        MatchResult result (λ sum. sum ≡ fingerprint_by (keying asked meant properties) table.now data_file.now)
         (λ status. IsStopStatus status error.new.kind) }
     ensures no_error { OnOk result (IsNoFileError error.new.line error.new.kind) }
     ensures rejected { IfErr result (IsOpenStatus weighting depth table.now data_file.now error.new.line error.new.kind) }
 {
     *error = FileError { line: 0, kind: 0 };
-    let Some(asked) = asked_weighting(weighting) else {
+    let Some(asked) = asked_settings(weighting, depth) else {
         return Err(ARGUMENT);
     };
-    let Some(depth) = asked_depth(depth) else {
-        return Err(ARGUMENT);
-    };
-    match fingerprint_of(alloc, table, data_file, asked_as_text(asked, depth)) {
+    match fingerprint_of(alloc, table, data_file, asked) {
         Ok(sum) => Ok(sum),
         Err(fault) => Err(tell(fault, error)),
     }

@@ -1,9 +1,7 @@
 //! The calls of an upgrade that C makes. Their clauses hold for every argument: a wrong one is a status.
 
 ghost use Rattle.std.specs.Prelude.{◌≡◌, ◌≢◌, ◌↔◌, ◌⊎◌, true, false, Option, None, if◌then◌else◌};
-ghost use Rattle.uca_weights.specs.declared.Depth.{Depth};
-ghost use Rattle.uca_weights.specs.declared.Weighting.{Weighting};
-ghost use Rattle.uca_values.specs.Content.{properties_of};
+ghost use Rattle.uca_weights.specs.declared.Asked.{Asked};
 ghost use Rattle.uca_changes.specs.Changes.{Change};
 ghost use Rattle.uca_upgrade.specs.Causes.{IsUpgradeStop};
 ghost use Rattle.uca_upgrade.specs.Opening.{IsUpgradeOf};
@@ -50,8 +48,8 @@ pub extern "C" fn uca_open_upgrade(
     ensures open { result ≡ OK → upgrade.new.full ≡ true }
     ensures same { result ≢ OK → upgrade.new ≡ upgrade.old }
     ensures only { let files = files_of old_table.entry old_data.entry new_table.entry new_data.entry changes.entry certificate.entry in
-        (asked : Option Weighting) (at : Depth) (change : Change) → upgrade.old.full ≡ false → AsksUpgrade weighting depth files asked at change →
-        ((result ≡ OK) × IsUpgradeOf files change asked at upgrade.new.handle.kept) ⊎ TellsUpgrade (IsUpgradeStop change) error.new result }
+        (asked : Asked) (change : Change) → upgrade.old.full ≡ false → AsksUpgrade weighting depth files asked change →
+        ((result ≡ OK) × IsUpgradeOf files change asked upgrade.new.handle.kept) ⊎ TellsUpgrade (IsUpgradeStop change) error.new result }
     ensures no_error { (result ≡ OK) ⊎ (result ≡ ALREADY_OPEN) → error.new ≡ no_error }
     ensures rejected { let files = files_of old_table.entry old_data.entry new_table.entry new_data.entry changes.entry certificate.entry in
         result ≢ OK → result ≢ ALREADY_OPEN → IsUpgradeOpenStatus weighting depth files error.new result }
@@ -87,7 +85,7 @@ pub extern "C" fn uca_affected(
 ) -> u32
     ensures closed { (result ≡ CLOSED) ↔ (upgrade.old.full ≡ false) }
     ensures ok { result ≡ OK → affected.new ≡ (if is_affected_in upgrade.old.handle.kept text.now then 1 else 0) }
-    ensures rejected { upgrade.old.full ≡ true → IsTextStatus (properties_of upgrade.old.handle.kept.data_file) text.now result }
+    ensures rejected { upgrade.old.full ≡ true → IsTextStatus upgrade.old.handle.kept text.now result }
     ensures none { result ≢ OK → affected.new ≡ 0 }
     ensures full { upgrade.new.full ≡ upgrade.old.full }
     ensures kept { upgrade.old.full ≡ true → upgrade.new.handle.kept ≡ upgrade.old.handle.kept }

@@ -1,8 +1,7 @@
 //! How an upgrade of C's is opened.
 
 ghost use Rattle.std.specs.Prelude.{◌≡◌, Option, IfOk, IfErr, OnOk, MatchResult};
-ghost use Rattle.uca_weights.specs.declared.Depth.{Depth};
-ghost use Rattle.uca_weights.specs.declared.Weighting.{Weighting};
+ghost use Rattle.uca_weights.specs.declared.Asked.{Asked};
 ghost use Rattle.uca_changes.specs.Changes.{Change};
 ghost use Rattle.uca_upgrade.specs.Causes.{IsUpgradeStop};
 ghost use Rattle.uca_upgrade.specs.Opening.{IsUpgradeOf};
@@ -10,7 +9,7 @@ ghost use Rattle.uca_c.specs.UpgradeCalls.{AsksUpgrade, OpensUpgradeBy, IsUpgrad
 ghost use Rattle.uca_c.specs.UpgradeErrors.{TellsUpgrade, no_error};
 
 use crate::kept::keep;
-use crate::numbers::{asked_depth, asked_weighting};
+use crate::numbers::asked_settings;
 use crate::open_upgrade::OpenUpgrade;
 use crate::statuses::ARGUMENT;
 use crate::structs::UpgradeError;
@@ -27,19 +26,16 @@ fn open_files(
     error: &mut UpgradeError,
 ) -> Result<OwnedUpgrade, u32>
     ensures found { IfOk result (OpensUpgradeBy weighting depth files.now) }
-    ensures only { (asked : Option Weighting) (at : Depth) (change : Change) → AsksUpgrade weighting depth files.now asked at change →
-        MatchResult result (IsUpgradeOf files.now change asked at) (TellsUpgrade (IsUpgradeStop change) error.new) }
+    ensures only { (asked : Asked) (change : Change) → AsksUpgrade weighting depth files.now asked change →
+        MatchResult result (IsUpgradeOf files.now change asked) (TellsUpgrade (IsUpgradeStop change) error.new) }
     ensures no_error { OnOk result (error.new ≡ no_error) }
     ensures rejected { IfErr result (IsUpgradeOpenStatus weighting depth files.now error.new) }
 {
     *error = nothing();
-    let Some(asked) = asked_weighting(weighting) else {
+    let Some(asked) = asked_settings(weighting, depth) else {
         return Err(ARGUMENT);
     };
-    let Some(depth) = asked_depth(depth) else {
-        return Err(ARGUMENT);
-    };
-    match OwnedUpgrade::open(alloc, files, asked, depth) {
+    match OwnedUpgrade::open(alloc, files, asked) {
         Ok(upgrade) => Ok(upgrade),
         Err(fault) => Err(tell(fault, error)),
     }
@@ -54,8 +50,8 @@ pub fn open(
     error: &mut UpgradeError,
 ) -> Result<Box<OpenUpgrade>, u32>
     ensures found { IfOk result (λ kept. OpensUpgradeBy weighting depth files.now kept.value) }
-    ensures only { (asked : Option Weighting) (at : Depth) (change : Change) → AsksUpgrade weighting depth files.now asked at change →
-        MatchResult result (λ kept. IsUpgradeOf files.now change asked at kept.value) (TellsUpgrade (IsUpgradeStop change) error.new) }
+    ensures only { (asked : Asked) (change : Change) → AsksUpgrade weighting depth files.now asked change →
+        MatchResult result (λ kept. IsUpgradeOf files.now change asked kept.value) (TellsUpgrade (IsUpgradeStop change) error.new) }
     ensures no_error { OnOk result (error.new ≡ no_error) }
     ensures rejected { IfErr result (IsUpgradeOpenStatus weighting depth files.now error.new) }
 {

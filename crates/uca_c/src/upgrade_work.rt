@@ -1,7 +1,6 @@
 //! What a call does with an open upgrade.
 
 ghost use Rattle.std.specs.Prelude.{◌≡◌, ◌≢◌, ◌⊎◌, None, if◌then◌else◌};
-ghost use Rattle.uca_values.specs.Content.{properties_of};
 ghost use Rattle.uca_upgrade.specs.Upgrades.{is_affected_in, rekeyed_in};
 ghost use Rattle.uca_c.specs.CompactCalls.{IsOneTooSmall, WritesOne};
 ghost use Rattle.uca_c.specs.UpgradeCalls.{IsRekeyed, IsTextStatus};
@@ -13,7 +12,7 @@ use crate::work::copy_out;
 // Tells whether a text is affected, by 1 or 0.
 pub fn affected(upgrade: &mut OpenUpgrade, text: &[u8], affected: &mut u32) -> u32
     ensures ok { result ≡ OK → affected.new ≡ (if is_affected_in upgrade.old text.now then 1 else 0) }
-    ensures rejected { IsTextStatus (properties_of upgrade.old.data_file) text.now result }
+    ensures rejected { IsTextStatus upgrade.old text.now result }
     ensures none { result ≢ OK → affected.new ≡ 0 }
     ensures upgrade { upgrade.new ≡ upgrade.old }
 {

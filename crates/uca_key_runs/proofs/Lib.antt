@@ -2,7 +2,6 @@ pub mod Keyings
 pub mod Rows
 pub mod KeyLines
 pub mod LineLaws
-pub mod WrittenScalars
 pub mod NormalLines
 pub mod UntouchedLines
 pub mod OneOrder

@@ -17,7 +17,7 @@ use Rattle.uca_text.specs.Limits.{IsNormal}
 use Rattle.uca_run_parts.specs.declared.faults.InputKind.TheVariants.{Utf8, TooLong, LongRun, Limit}
 use Rattle.uca_run_parts.specs.Input.{first_long_run, text_cause, cause_of, line_text}
 use Rattle.uca_run_parts.proofs.LongRuns.{none_is_long}
-use Rattle.uca_key_runs.proofs.WrittenScalars.{written_scalars}
+use Rattle.uca_run_parts.proofs.WrittenScalars.{written_scalars}
 
 each_scalar : (points : List ℕ) → list_all scalar points ≡ true → AllByRecursion IsScalar points
 each_scalar [] all = tt

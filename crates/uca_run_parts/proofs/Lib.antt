@@ -15,3 +15,4 @@ pub mod AffectedLines
 pub mod PointTexts
 pub mod PrintLemmas
 pub mod RoleTexts
+pub mod WrittenScalars

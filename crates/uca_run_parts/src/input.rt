@@ -275,8 +275,13 @@ fn take_text<A: Allocator, D: Allocator>(
     }
 }
 
-// Makes the text what is read of a line.
-fn renew_text<D: Allocator>(
+/// Makes the text what is read of a line, in Normalization Form D. With numbers by value that is the line with the code of
+/// each number in place of it, and `written` has it.
+///
+/// # Errors
+///
+/// Those of [`normal`](uca_text::normal) for what is read.
+pub fn renew_text<D: Allocator>(
     text: &mut Normal,
     written: &mut WrittenText,
     line: &str,

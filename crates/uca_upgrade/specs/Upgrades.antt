@@ -1,18 +1,17 @@
 -- What a clause sees of an upgrade, and what is true of stored keys where it is that of an accepted change.
-use Rattle.std.specs.Prelude.{◌≡◌, ℕ, List, Bool, false, Option, Some, chars}
+use Rattle.std.specs.Prelude.{◌≡◌, ℕ, List, Bool, false, Option, Some}
 use Rattle.std.specs.Str.{IsUtf8}
-use Rattle.uca_weights.specs.declared.Depth.{Depth}
+use Rattle.uca_weights.specs.declared.Asked.{Asked}
 use Rattle.uca_weights.specs.declared.Settings.{Settings}
-use Rattle.uca_weights.specs.declared.Weighting.{Weighting}
 use Rattle.uca_values.specs.Content.{DataContent, properties_of}
-use Rattle.uca_text.specs.Texts.{nfd_text}
-use Rattle.uca_order.specs.Keyings.{as_text, Keying, keying, key_of_bytes}
+use Rattle.uca_order.specs.Keyings.{Keying, keying, key_of_bytes}
 use Rattle.uca_certificates.specs.Certificates.{CertificateContent}
 use Rattle.uca_tailorings.specs.Inputs.{maps_of}
 use Rattle.uca_tailorings.specs.Moves.{moved_key}
 use Rattle.uca_change_files.specs.Changes.{ChangeContent}
 use Rattle.uca_changes.specs.Changes.{Change, new_reading, old_reading, new_settings, old_settings}
 use Rattle.uca_changes.specs.Laws.{UnaffectedTextsStay}
+use Rattle.uca_run_parts.specs.Input.{line_text}
 use Rattle.uca_change_runs.specs.AffectedRun.{is_affected_by, listed_in}
 use Rattle.uca_fingerprint.specs.Fingerprints.{fingerprint}
 use Rattle.uca_upgrade.specs.declared.files.UpgradeFiles.{UpgradeFiles}
@@ -27,18 +26,19 @@ pub record UpgradeState : Type 0 where
   pub old_fingerprint : List ℕ
   pub new_fingerprint : List ℕ
 
--- It keeps these of a change which files mean, for keys that were made with this weighting asked for, or none, and to this depth.
-pub record KeepsChange (files : UpgradeFiles) (change : Change) (asked : Option Weighting) (depth : Depth) (upgrade : UpgradeState) : Type 0 where
+-- It keeps these of a change which files mean, for keys that were made with these settings asked for.
+pub record KeepsChange (files : UpgradeFiles) (change : Change) (asked : Asked) (upgrade : UpgradeState) : Type 0 where
   pub list : upgrade.list ≡ listed_in change
   pub maps : maps_of upgrade.certificate ≡ change.maps
-  pub settings : upgrade.settings ≡ old_settings change asked depth
+  pub settings : upgrade.settings ≡ old_settings change asked
   pub properties : properties_of upgrade.data_file ≡ change.new_properties
-  pub old_fingerprint : upgrade.old_fingerprint ≡ fingerprint (old_settings change asked depth) files.old_table.now files.old_data.now
-  pub new_fingerprint : upgrade.new_fingerprint ≡ fingerprint (new_settings change asked depth) files.new_table.now files.new_data.now
+  pub old_fingerprint : upgrade.old_fingerprint ≡ fingerprint (old_settings change asked) files.old_table.now files.old_data.now
+  pub new_fingerprint : upgrade.new_fingerprint ≡ fingerprint (new_settings change asked) files.new_table.now files.new_data.now
 
--- whether it affects a text of UTF-8: a changed text occurs in order in the text, or a changed range has one of its code points
+-- Whether it affects a text of UTF-8: a changed text occurs in order in what is read of the text, or a changed range has one
+-- of the code points of this.
 abbrev pub is_affected_in : UpgradeState → List ℕ → Bool
-is_affected_in upgrade text = is_affected_by upgrade.list (nfd_text (properties_of upgrade.data_file) (chars text)).points
+is_affected_in upgrade text = is_affected_by upgrade.list (line_text upgrade.settings.numbers (properties_of upgrade.data_file) text).points
 
 -- a stored key put through its maps
 abbrev pub rekeyed_in : UpgradeState → List ℕ → Option (List ℕ)
@@ -47,16 +47,16 @@ rekeyed_in upgrade key = moved_key (maps_of upgrade.certificate) upgrade.setting
 -- ---- Stored keys
 
 -- what keys go by under the old table and its data file, and under the new ones
-abbrev pub old_keying : Change → Option Weighting → Depth → Keying
-old_keying change asked depth = keying (as_text asked depth) change.old change.old_properties
+abbrev pub old_keying : Change → Asked → Keying
+old_keying change asked = keying asked change.old change.old_properties
 
-abbrev pub new_keying : Change → Option Weighting → Depth → Keying
-new_keying change asked depth = keying (as_text asked depth) change.new change.new_properties
+abbrev pub new_keying : Change → Asked → Keying
+new_keying change asked = keying asked change.new change.new_properties
 
 -- What is true of stored keys by an upgrade from the old edition of a change to its new one.
-pub record KeysAreRenewed (change : Change) (asked : Option Weighting) (depth : Depth) (upgrade : UpgradeState) : Type 0 where
+pub record KeysAreRenewed (change : Change) (asked : Asked) (upgrade : UpgradeState) : Type 0 where
   -- the old key of a text that is not affected, put through the maps, is its new key
   pub renewed : (text : List ℕ) → IsUtf8 text → is_affected_in upgrade text ≡ false →
-      rekeyed_in upgrade (key_of_bytes (old_keying change asked depth) text) ≡ Some (key_of_bytes (new_keying change asked depth) text)
+      rekeyed_in upgrade (key_of_bytes (old_keying change asked) text) ≡ Some (key_of_bytes (new_keying change asked) text)
   -- and all that an accepted change promises: two such texts compare as before, and stored keys have the order of the new edition
   pub texts : UnaffectedTextsStay change (old_reading change) (new_reading change)

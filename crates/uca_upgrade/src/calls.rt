@@ -1,7 +1,6 @@
 //! Which texts an upgrade affects, and the keys of all others.
 
 ghost use Rattle.std.specs.Prelude.{◌≡◌, IfOk, IfErr, OnOk, OnErr, Some, None, false, if◌then◌else◌};
-ghost use Rattle.uca_weights.specs.declared.Numbers.TheVariants.{AsText};
 ghost use Rattle.uca_values.specs.Content.{properties_of};
 ghost use Rattle.uca_owned.specs.Causes.{IsAcceptedText, IsKeyCause};
 ghost use Rattle.uca_upgrade.specs.Upgrades.{is_affected_in, rekeyed_in};
@@ -10,10 +9,12 @@ use crate::OwnedUpgrade;
 use std::alloc::AllocError;
 use uca_owned::KeyFault;
 use uca_run_parts::Affects;
+use uca_run_parts::input::renew_text;
 
 impl OwnedUpgrade {
-    /// Whether the key of a text has to be made anew: a changed text occurs in order in the text, or a changed range
-    /// has one of its code points. `uca affected --changes` prints exactly the lines of such texts.
+    /// Whether the key of a text has to be made anew: a changed text occurs in order in what is read of the text, or a
+    /// changed range has one of the code points of this. With numbers by value that is the text with the code of each
+    /// number in place of it. `uca affected --changes` prints exactly the lines of such texts, with `--numeric` there.
     ///
     /// # Errors
     ///
@@ -21,29 +22,35 @@ impl OwnedUpgrade {
     /// is no key of such a text.
     pub fn affected(&mut self, text: &[u8]) -> Result<bool, KeyFault>
         ensures affected { IfOk result (λ affected. affected ≡ is_affected_in self.old text.now) }
-        ensures accepted { OnOk result (IsAcceptedText AsText (properties_of self.old.data_file) text.now) }
-        ensures fault { IfErr result (IsKeyCause AsText (properties_of self.old.data_file) text.now) }
+        ensures accepted { OnOk result (IsAcceptedText self.old.settings.numbers (properties_of self.old.data_file) text.now) }
+        ensures fault { IfErr result (IsKeyCause self.old.settings.numbers (properties_of self.old.data_file) text.now) }
         ensures upgrade { self.new ≡ self.old }
     {
         let Ok(text) = str::from_utf8(text) else {
             return Err(KeyFault::Utf8);
         };
-        match self.text.renew(text, &self.data_file) {
+        match renew_text(
+            &mut self.text,
+            &mut self.written,
+            text,
+            self.numbers,
+            &self.data_file,
+        ) {
             Ok(()) => Ok(self.index.affects(&self.text)),
             Err(fault) => Err(KeyFault::Text(fault)),
         }
     }
 
-    /// The fingerprint of what the stored keys were made by: the bytes of the old table and of its data file, the
-    /// weighting and the depth. The upgrade is for keys of this fingerprint alone.
+    /// The fingerprint of what the stored keys were made by: the bytes of the old table and of its data file, and the
+    /// settings. The upgrade is for keys of this fingerprint alone.
     pub fn old_fingerprint(&self) -> [u8; 32]
         ensures { result ≡ self.now.old_fingerprint }
     {
         self.old_fingerprint
     }
 
-    /// The fingerprint of what the new keys are made by: the bytes of the new table and of its data file, the weighting
-    /// and the depth.
+    /// The fingerprint of what the new keys are made by: the bytes of the new table and of its data file, and the
+    /// settings.
     pub fn new_fingerprint(&self) -> [u8; 32]
         ensures { result ≡ self.now.new_fingerprint }
     {

@@ -2,7 +2,7 @@
 
 ghost use Rattle.std.specs.Prelude.{◌≡◌, IfOk, IfErr, MatchResult};
 ghost use Rattle.uca_changes.specs.Changes.{Change};
-ghost use Rattle.uca_order.specs.Keyings.{as_text, settings_by};
+ghost use Rattle.uca_order.specs.Keyings.{settings_by};
 ghost use Rattle.uca_upgrade.specs.Causes.{IsUpgradeCause, IsUpgradeStop};
 ghost use Rattle.uca_upgrade.specs.Files.{MeanChange};
 ghost use Rattle.uca_upgrade.specs.Opening.{IsUpgradeOf, OpensUpgrade};
@@ -18,14 +18,15 @@ use uca_change_runs::{ChangeFiles, ChangeIndex, EditionFiles, Listed, audit_file
 use uca_editions::ChangeFault;
 use uca_fingerprint::fingerprint;
 use uca_images::KeyMover;
+use uca_numbers::WrittenText;
 use uca_text::Normal;
 use uca_values::Header;
-use uca_weights::{Depth, Numbers, Settings, Weighting};
+use uca_weights::{Asked, Settings, Weighting};
 
 impl OwnedUpgrade {
     /// Reads the six files from their bytes, audits the change that they mean, and keeps what an upgrade of stored keys
-    /// needs. The weighting and the depth are those that the stored keys were made with: the one that was asked for, or
-    /// none, where keys go by what the tables say. It keeps none of the bytes.
+    /// needs. The settings are those that were asked for when the stored keys were made. Where no weighting was, keys go by
+    /// what the tables say. It keeps none of the bytes.
     ///
     /// An upgrade that is opened keeps the promise of the change. Take a text that is not
     /// [`affected`](OwnedUpgrade::affected): its key by the old files becomes its key by the new ones through
@@ -42,16 +43,15 @@ impl OwnedUpgrade {
     pub fn open(
         alloc: Global,
         files: &UpgradeFiles,
-        asked: Option<Weighting>,
-        depth: Depth,
+        asked: Asked,
     ) -> Result<OwnedUpgrade, UpgradeFault>
-        ensures found { IfOk result (OpensUpgrade files.now asked depth) }
+        ensures found { IfOk result (OpensUpgrade files.now asked) }
         ensures only { (change : Change) → MeanChange files.now change →
-            MatchResult result (IsUpgradeOf files.now change asked depth) (IsUpgradeStop change) }
+            MatchResult result (IsUpgradeOf files.now change asked) (IsUpgradeStop change) }
         ensures fault { IfErr result (IsUpgradeCause files.now) }
     {
         match read_change(alloc, files) {
-            Ok(read) => audited(alloc, files, read, asked, depth),
+            Ok(read) => audited(alloc, files, read, asked),
             Err(fault) => Err(fault),
         }
     }
@@ -62,13 +62,12 @@ fn audited(
     alloc: Global,
     files: &UpgradeFiles,
     read: ChangeFiles,
-    asked: Option<Weighting>,
-    depth: Depth,
+    asked: Asked,
 ) -> Result<OwnedUpgrade, UpgradeFault>
-    ensures { MatchResult result (IsUpgradeOf files.now (change_of read) asked depth) (IsAuditStop (change_of read)) }
+    ensures { MatchResult result (IsUpgradeOf files.now (change_of read) asked) (IsAuditStop (change_of read)) }
 {
     match audit_files(alloc, &read) {
-        Ok(()) => match kept(alloc, files, read, asked, depth) {
+        Ok(()) => match kept(alloc, files, read, asked) {
             Ok(upgrade) => Ok(upgrade),
             Err(_) => Err(UpgradeFault::Memory),
         },
@@ -94,24 +93,25 @@ fn kept(
     alloc: Global,
     files: &UpgradeFiles,
     read: ChangeFiles,
-    asked: Option<Weighting>,
-    depth: Depth,
+    asked: Asked,
 ) -> Result<OwnedUpgrade, AllocError>
-    ensures { IfOk result (KeepsChange files.now (change_of read) asked depth) }
+    ensures { IfOk result (KeepsChange files.now (change_of read) asked) }
 {
     let ChangeFiles {
         editions: EditionFiles { old, new },
         listed: Listed { list, certificate },
     } = read;
-    let settings = settings_under(asked, &old.table.header, depth);
-    let new_settings = settings_under(asked, &new.table.header, depth);
+    let settings = settings_under(asked, &old.table.header);
+    let new_settings = settings_under(asked, &new.table.header);
     let index = ChangeIndex::new(alloc, list)?;
     let mover = KeyMover::new(alloc, certificate, settings)?;
     Ok(OwnedUpgrade {
         index,
         mover,
+        numbers: asked.numbers,
         data_file: new.properties,
         text: Normal::new(alloc),
+        written: WrittenText::new(alloc),
         before: Vec::new(alloc),
         old_fingerprint: fingerprint(settings, files.old_table, files.old_data),
         new_fingerprint: fingerprint(new_settings, files.new_table, files.new_data),
@@ -119,12 +119,15 @@ fn kept(
 }
 
 // The settings of keys under a table: the weighting that was asked for, or else that of the table, or else shifted.
-fn settings_under(asked: Option<Weighting>, header: &Header, depth: Depth) -> Settings
-    ensures { result ≡ settings_by (as_text asked depth) header.now.setting }
+fn settings_under(asked: Asked, header: &Header) -> Settings
+    ensures { result ≡ settings_by asked header.now.setting }
 {
     Settings {
-        weighting: asked.or(header.setting).unwrap_or(Weighting::Shifted),
-        depth,
-        numbers: Numbers::AsText,
+        weighting: asked
+            .weighting
+            .or(header.setting)
+            .unwrap_or(Weighting::Shifted),
+        depth: asked.depth,
+        numbers: asked.numbers,
     }
 }

@@ -3,8 +3,10 @@
 use std::marker::Model;
 use uca_change_runs::ChangeIndex;
 use uca_images::KeyMover;
+use uca_numbers::WrittenText;
 use uca_text::Normal;
 use uca_values::Data;
+use uca_weights::Numbers;
 
 /// An upgrade of stored keys from an old table and its data file to new ones. It owns all that it needs: the list of
 /// changes, the maps of weights, the properties of the new data file, and memory for one text and one key.
@@ -14,10 +16,13 @@ pub struct OwnedUpgrade {
     pub(crate) index: ChangeIndex,
     // the maps of weights, for keys of these settings
     pub(crate) mover: KeyMover,
+    // how the numbers of texts compare
+    pub(crate) numbers: Numbers,
     // what texts are normalized by
     pub(crate) data_file: Data,
-    // memory for a text
+    // memory for what is read of a text, and for a text by value
     pub(crate) text: Normal,
+    pub(crate) written: WrittenText,
     // memory for a key as it was
     pub(crate) before: Vec<u8>,
     // the fingerprints of what keys are made by
@@ -33,7 +38,11 @@ impl Model for OwnedUpgrade {
     ghost view = { λ u. record {
       list = u.index;
       certificate = u.mover.certificate;
-      settings = u.mover.settings;
+      settings = record {
+        weighting = u.mover.settings.weighting;
+        depth = u.mover.settings.depth;
+        numbers = u.numbers;
+      };
       data_file = u.data_file;
       old_fingerprint = u.old_fingerprint;
       new_fingerprint = u.new_fingerprint;

@@ -1,6 +1,6 @@
 -- What is kept is what was opened, with the book that was read.
 use Rattle.std.proofs.Common.{◌≡◌, ◌∙◌, Some, ap, inl, inr, refl}
-use Rattle.uca_order.specs.Keyings.{as_text, keying}
+use Rattle.uca_order.specs.Keyings.{keying}
 use Rattle.uca_owned.specs.Owned.{keying_in}
 use Rattle.uca_c.specs.OpenCollators.{OpenState, keying_at}
 use Rattle.uca_c.specs.Opened.{IsCompactOpenStatus, IsCompactStopStatus}
@@ -8,7 +8,7 @@ use Rattle.uca_c.proofs.Keeping.{kept_by, or_memory}
 use Rattle.uca_c.proofs.opening.open_compact.Goals as goal
 
 pub returns-in-Err-clause-only : goal.returns-in-Err-clause-only
-returns-in-Err-clause-only c asked at meant properties content asks means = inl (c.in-Err.ensures.only asked at meant properties asks)
+returns-in-Err-clause-only c asked meant properties content asks means = inl (c.in-Err.ensures.only asked meant properties asks)
 
 -- a rejected book comes after files that could be opened
 pub returns-in-Err-book_of-clause-rejected : goal.returns-in-Err-book_of-clause-rejected
@@ -25,12 +25,12 @@ returns-in-Err-book_of-clause-rejected c =
     )
 
 pub returns-in-Ok-book_of-clause-only : goal.returns-in-Ok-book_of-clause-only
-returns-in-Ok-book_of-clause-only c asked at meant properties content asks means =
+returns-in-Ok-book_of-clause-only c asked meant properties content asks means =
     kept_by c.keep.result (λ kept. kept.value ≡ c.with_book.result)
-    (λ kept. (keying_at kept.value ≡ keying (as_text asked at) meant properties) × (kept.value.book ≡ Some content))
+    (λ kept. (keying_at kept.value ≡ keying asked meant properties) × (kept.value.book ≡ Some content))
     (λ status. IsCompactStopStatus status c.open_texts.new.error.kind) c.keep.ensures
     (λ kept same. (
-      ap keying_at (same ∙ c.with_book.ensures) ∙ c.in-Ok.ensures.only asked at meant properties asks,
+      ap keying_at (same ∙ c.with_book.ensures) ∙ c.in-Ok.ensures.only asked meant properties asks,
       ap (λ (s : OpenState). s.book) (same ∙ c.with_book.ensures) ∙ ap Some (c.in-Ok-book_of.ensures.only content means),
     ))
     (λ status is. inl (inl is))

@@ -9,10 +9,10 @@ use Rattle.uca_c.proofs.Keeping.{kept_by, or_memory}
 use Rattle.uca_c.proofs.upgrade_opening.open.Goals as goal
 
 pub returns-in-Ok-clause-only : goal.returns-in-Ok-clause-only
-returns-in-Ok-clause-only c asked at change asks =
-    kept_by c.keep.result (λ kept. kept.value ≡ c.new.result) (λ kept. IsUpgradeOf c.args.files.now change asked at kept.value)
+returns-in-Ok-clause-only c asked change asks =
+    kept_by c.keep.result (λ kept. kept.value ≡ c.new.result) (λ kept. IsUpgradeOf c.args.files.now change asked kept.value)
     (TellsUpgrade (IsUpgradeStop change) c.open_files.new.error) c.keep.ensures
-    (λ kept same. subst (IsUpgradeOf c.args.files.now change asked at) (sym (same ∙ c.new.ensures)) (c.in-Ok.ensures.only asked at change asks))
+    (λ kept same. subst (IsUpgradeOf c.args.files.now change asked) (sym (same ∙ c.new.ensures)) (c.in-Ok.ensures.only asked change asks))
     (λ status is. record { fault = Memory; cause = (tt, c.in-Ok.ensures.no_error); same = is })
 
 pub returns-in-Ok-clause-rejected : goal.returns-in-Ok-clause-rejected

@@ -1,22 +1,18 @@
 -- Files that mean a change are rejected by no cause of their own, and the numbers are those that were asked for.
-use Rattle.std.proofs.Common.{◌∙◌, ap, inr, subst}
+use Rattle.std.proofs.Common.{◌∙◌, inr, subst}
 use Rattle.std.specs.Prelude.{Option, unwrap_or}
-use Rattle.uca_weights.specs.declared.Depth.{Depth}
-use Rattle.uca_weights.specs.declared.Weighting.{Weighting}
+use Rattle.uca_weights.specs.declared.Asked.{Asked}
 use Rattle.uca_upgrade.specs.Opening.{IsUpgradeOf}
 use Rattle.uca_c.proofs.upgrade_opening.open_files.Goals as goal
 
 pub returns-in-Ok-clause-only : goal.returns-in-Ok-clause-only
-returns-in-Ok-clause-only c asked at change asks =
+returns-in-Ok-clause-only c asked change asks =
     let files = c.args.files.now in
-    subst (λ (it : Option Weighting). IsUpgradeOf files change it at c.in-Ok.upgrade)
-    (ap (λ (o : Option (Option Weighting)). unwrap_or o asked) (c.in-Some.ensures ∙ asks.is_weighting))
-    (subst (λ (it : Depth). IsUpgradeOf files change c.in-Some.asked it c.in-Ok.upgrade)
-    (ap (λ (o : Option Depth). unwrap_or o at) (c.in-Some-asked_depth.ensures ∙ asks.is_depth))
-    (c.in-Ok.ensures.only change asks.mean))
+    subst (λ (it : Option Asked). IsUpgradeOf files change (unwrap_or it asked) c.in-Ok.upgrade) (c.in-Some.ensures ∙ asks.is_asked)
+    (c.in-Ok.ensures.only change asks.mean)
 
 pub returns-in-Err-clause-only : goal.returns-in-Err-clause-only
-returns-in-Err-clause-only c asked at change asks = record {
+returns-in-Err-clause-only c asked change asks = record {
   fault = c.in-Err.fault;
   cause = (c.in-Err.ensures.only change asks.mean, c.tell.ensures.error);
   same = c.tell.ensures.status;

@@ -7,5 +7,5 @@ pub returns-in-Ok-kept : goal.returns-in-Ok-kept
 returns-in-Ok-kept c = record {
   accepted = c.in-Ok.ensures.accepted;
   kept = c.in-Ok-kept.ensures;
-  keys = keys_renewed c.args.files.now (change_of c.args.read) c.args.asked c.args.depth c.in-Ok-kept.upgrade c.in-Ok-kept.ensures c.in-Ok.ensures.meaning;
+  keys = keys_renewed c.args.files.now (change_of c.args.read) c.args.asked c.in-Ok-kept.upgrade c.in-Ok-kept.ensures c.in-Ok.ensures.meaning;
 }
