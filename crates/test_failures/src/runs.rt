@@ -12,7 +12,16 @@ use uca_tailor_runs::{run_audit_in, run_tailor_in, write_tailored};
 use uca_values::Table;
 use uca_weights::Depth::{Identical, Weights};
 use uca_weights::Weighting::NonIgnorable;
-use uca_weights::{Depth, Sink};
+use uca_weights::{Asked, Depth, Numbers, Sink};
+
+// What keys are asked for.
+fn asked_at(depth: Depth) -> Asked {
+    Asked {
+        weighting: Some(NonIgnorable),
+        depth,
+        numbers: Numbers::AsText,
+    }
+}
 
 fn keys(memory: Memory, streams: &mut Streams, depth: Depth) -> Result<(), RunFault> {
     run_keys_in(
@@ -22,8 +31,7 @@ fn keys(memory: Memory, streams: &mut Streams, depth: Depth) -> Result<(), RunFa
         &mut streams.properties,
         &mut streams.text,
         &mut streams.out,
-        Some(NonIgnorable),
-        depth,
+        asked_at(depth),
     )
 }
 
@@ -35,8 +43,7 @@ fn keyed_lines(memory: Memory, streams: &mut Streams, depth: Depth) -> Result<()
         &mut streams.properties,
         &mut streams.text,
         &mut streams.out,
-        Some(NonIgnorable),
-        depth,
+        asked_at(depth),
     )
 }
 
@@ -49,6 +56,7 @@ fn affected(memory: Memory, streams: &mut Streams) -> Result<(), RunFault> {
         &mut streams.properties,
         &mut streams.text,
         &mut streams.out,
+        Numbers::AsText,
     )
 }
 
@@ -60,8 +68,7 @@ fn sort(memory: Memory, streams: &mut Streams) -> Result<(), RunFault> {
         &mut streams.properties,
         &mut streams.text,
         &mut streams.out,
-        Some(NonIgnorable),
-        Weights,
+        asked_at(Weights),
     )
 }
 
@@ -74,8 +81,7 @@ fn compare(memory: Memory, streams: &mut Streams) -> Result<(), RunFault> {
         "a",
         "b",
         &mut streams.out,
-        Some(NonIgnorable),
-        Weights,
+        asked_at(Weights),
     )
 }
 

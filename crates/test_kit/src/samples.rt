@@ -17,6 +17,22 @@ pub const TABLE: &str = "@version 1\n\
     0301 ; [.0000.0024.0002]\n\
     0323 ; [.0000.002C.0002]\n";
 
+/// The ten digits, two letters and an accent. The digit 7 has the weight 1C44, and 1 has 1C3E.
+pub const NUMBER_TABLE: &str = "@version 1\n\
+    0030 ; [.1C3D.0020.0002]\n\
+    0031 ; [.1C3E.0020.0002]\n\
+    0032 ; [.1C3F.0020.0002]\n\
+    0033 ; [.1C40.0020.0002]\n\
+    0034 ; [.1C41.0020.0002]\n\
+    0035 ; [.1C42.0020.0002]\n\
+    0036 ; [.1C43.0020.0002]\n\
+    0037 ; [.1C44.0020.0002]\n\
+    0038 ; [.1C45.0020.0002]\n\
+    0039 ; [.1C46.0020.0002]\n\
+    0061 ; [.1C47.0020.0002]\n\
+    0062 ; [.1C60.0020.0002]\n\
+    0301 ; [.0000.0024.0002]\n";
+
 /// Classes of accents, and two ranges of Han.
 pub const DATA: &str = "@data 1\n\
     ccc 0300..0314 230\n\

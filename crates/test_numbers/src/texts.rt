@@ -7,7 +7,7 @@ use std::alloc::{AllocError, Global};
 use std::cmp::Ordering;
 use std::cmp::Ordering::{Equal, Greater, Less};
 use std::test::Fail;
-use test_kit::{DATA, data_of, holds, repeated, same_bytes, table_of};
+use test_kit::{DATA, NUMBER_TABLE, data_of, holds, repeated, same_bytes, table_of};
 use uca_key_writer::KeyMemory;
 use uca_match::{Collator, Lookup, Trie};
 use uca_number_keys::orders_numbers;
@@ -16,22 +16,6 @@ use uca_text::TextFault;
 use uca_text_comparer::{PairFault, TextComparison};
 use uca_weights::Depth::{Identical, Weights};
 use uca_weights::{Depth, Numbers, Settings, Source, Weighting};
-
-/// The ten digits, two letters and an accent. The digit 7 has the weight 1C44, and 1 has 1C3E.
-const TABLE: &str = "@version 1\n\
-    0030 ; [.1C3D.0020.0002]\n\
-    0031 ; [.1C3E.0020.0002]\n\
-    0032 ; [.1C3F.0020.0002]\n\
-    0033 ; [.1C40.0020.0002]\n\
-    0034 ; [.1C41.0020.0002]\n\
-    0035 ; [.1C42.0020.0002]\n\
-    0036 ; [.1C43.0020.0002]\n\
-    0037 ; [.1C44.0020.0002]\n\
-    0038 ; [.1C45.0020.0002]\n\
-    0039 ; [.1C46.0020.0002]\n\
-    0061 ; [.1C47.0020.0002]\n\
-    0062 ; [.1C60.0020.0002]\n\
-    0301 ; [.0000.0024.0002]\n";
 
 /// A text, the weights of its key, and its code points in Normalization Form D.
 type Case = (&'static str, &'static [u16], &'static str);
@@ -234,7 +218,7 @@ fn check_all<L: Lookup>(alloc: Global, collator: &Collator<L>) -> Result<(), Fai
 #[test]
 fn orders_numbers_by_value(rt: HostRuntime) -> Result<(), Fail> {
     let alloc = rt.alloc();
-    let table = table_of(alloc, &mut Source::new(TABLE.as_bytes()))?;
+    let table = table_of(alloc, &mut Source::new(NUMBER_TABLE.as_bytes()))?;
     let data = data_of(alloc, &mut Source::new(DATA.as_bytes()))?;
     let trie = Trie::new(alloc, &table)?;
     check_all(alloc, &Collator::new(&trie, &table.header, &data))
@@ -250,8 +234,8 @@ fn check_table(alloc: Global, file: &str, wanted: bool) -> Result<(), Fail> {
 #[test]
 fn finds_tables_that_order_numbers(rt: HostRuntime) -> Result<(), Fail> {
     let alloc = rt.alloc();
-    check_table(alloc, TABLE, true)?;
+    check_table(alloc, NUMBER_TABLE, true)?;
     // a row of a digit with an accent, so the digit has a part in another key
-    let file = format!(in alloc; "{TABLE}0031 0301 ; [.1C50.0020.0002]\n")?;
+    let file = format!(in alloc; "{NUMBER_TABLE}0031 0301 ; [.1C50.0020.0002]\n")?;
     check_table(alloc, &file, false)
 }

@@ -8,7 +8,7 @@ use test_kit::{
     Calls, DATA, Failure, FakeReader, FakeWriter, Pace, bytes_of, halves, holds, thirds,
 };
 use uca_cli::{RunFault, run_affected};
-use uca_weights::{Sink, Source};
+use uca_weights::{Numbers, Sink, Source};
 
 /// The texts of a run: the data file, the rules and the lines.
 type Texts<'a> = [&'a [u8]; 3];
@@ -46,7 +46,14 @@ fn run_over(
     let mut rules = Source::new(FakeReader::new(rules, rules_pace, rules_calls));
     let mut input = Source::new(FakeReader::new(lines, input_pace, input_calls));
     let mut out = Sink::new(FakeWriter::new(alloc, out_pace, out_calls));
-    let end = run_affected(alloc, &mut properties, &mut rules, &mut input, &mut out);
+    let end = run_affected(
+        alloc,
+        &mut properties,
+        &mut rules,
+        &mut input,
+        &mut out,
+        Numbers::AsText,
+    );
     let failed = [
         properties.failed(),
         rules.failed(),

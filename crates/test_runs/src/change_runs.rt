@@ -14,7 +14,7 @@ use uca_rekey::{run_compact, run_expand, run_headed_compact, run_headed_expand, 
 use uca_run_parts::RunFault;
 use uca_weights::Depth::Weights;
 use uca_weights::Weighting::NonIgnorable;
-use uca_weights::{Sink, Source};
+use uca_weights::{Asked, Numbers, Sink, Source};
 
 /// What the files of a change are, in their order: one weight moves up, and a letter and the class of an accent are new.
 const FILES: [&str; 6] = [
@@ -25,6 +25,13 @@ const FILES: [&str; 6] = [
     "@changes 1\ntext 0063\nrange 0324..0324\n",
     "1 1C47 1C47 0001\n1 1C60 1C61 0001\n2 0020 0020 0001\n3 0002 0002 0001\n",
 ];
+
+/// What keys are asked for.
+const ASKED: Asked = Asked {
+    weighting: Some(NonIgnorable),
+    depth: Weights,
+    numbers: Numbers::AsText,
+};
 
 /// All lines but the last one are affected.
 const LINES: &str = "c\nccccccccc\u{324}\nb\n";
@@ -216,8 +223,7 @@ fn compact_lines(ample: Global, tried: &Refusing, out: &mut Sink<Vec<u8>>) -> En
         &mut Source::new(BOOK.as_bytes()),
         &mut Source::new(WORDS.as_bytes()),
         out,
-        Some(NonIgnorable),
-        Weights,
+        ASKED,
     )
 }
 
@@ -230,8 +236,7 @@ fn headed_compact_keys(ample: Global, tried: &Refusing, out: &mut Sink<Vec<u8>>)
         &mut Source::new(BOOK.as_bytes()),
         &mut Source::new(WORDS.as_bytes()),
         out,
-        Some(NonIgnorable),
-        Weights,
+        ASKED,
     )
 }
 
@@ -242,7 +247,15 @@ pub fn call(ample: Global, tried: &Refusing, run: Run, out: &mut Sink<Vec<u8>>) 
         Run::Changes => changes(tried, out),
         Run::Audit => audit(tried, out),
         Run::Affected => {
-            run_affected_by_changes_in(tried, ample, &mut file(1), &mut file(4), &mut lines, out)
+            run_affected_by_changes_in(
+                tried,
+                ample,
+                &mut file(1),
+                &mut file(4),
+                &mut lines,
+                out,
+                Numbers::ByValue,
+            )
         }
         Run::Rekey => rekey(tried, &mut Source::new(KEYS.as_bytes()), out),
         Run::Compact => compact(tried, out),

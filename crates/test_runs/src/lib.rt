@@ -14,6 +14,8 @@ mod change_runs;
 #[cfg(test)]
 mod files;
 #[cfg(test)]
+mod numbers;
+#[cfg(test)]
 mod paces;
 #[cfg(test)]
 mod pieces;

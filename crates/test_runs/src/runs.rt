@@ -4,7 +4,7 @@ use std::alloc::{AllocError, Global};
 use std::io::{Read, Write};
 use test_kit::Streams;
 use uca_cli::{RunFault, run_check, run_compare, run_keyed_lines, run_keys, run_sort};
-use uca_weights::{Depth, Sink, Source, Weighting};
+use uca_weights::{Asked, Depth, Numbers, Sink, Source, Weighting};
 
 /// A run, the weighting that it is asked for, if any, and its depth.
 #[derive(Clone, Copy)]
@@ -75,9 +75,16 @@ pub fn run_over<T: Read, D: Read, I: Read, W: Write>(
         Run::Keys(asked, depth) => done(run_keys(
             alloc, table, properties, input, out, asked, depth,
         )),
-        Run::KeyedLines(asked, depth) => done(run_keyed_lines(
-            alloc, table, properties, input, out, asked, depth,
-        )),
+        Run::KeyedLines(weighting, depth) => {
+            let asked = Asked {
+                weighting,
+                depth,
+                numbers: Numbers::AsText,
+            };
+            done(run_keyed_lines(
+                alloc, table, properties, input, out, asked,
+            ))
+        }
         Run::Sort(asked, depth) => done(run_sort(
             alloc, table, properties, input, out, asked, depth,
         )),
