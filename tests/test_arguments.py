@@ -70,6 +70,7 @@ class Help(ProgramTest):
             ("sort --lines t d", unexpected("--lines", sort)),
             ("changes --changes o d n e c", unexpected("--changes", changes)),
             ("rekey --lines c", unexpected("--lines", rekey)),
+            ("rekey --numeric c", unexpected("--numeric", rekey)),
             ("compact", missing("BOOK", compact)),
             ("expand", missing("BOOK", expand)),
             ("compact b b", unexpected("b", compact)),
@@ -93,19 +94,19 @@ class Model:
     # How many names and texts a command takes, and which options.
     TAKES = {
         "check": (2, []),
-        "keys": (2, ["--weighting", "--identical", "--lines", "--header", "--compact"]),
-        "sort": (2, ["--weighting", "--identical"]),
-        "compare": (4, ["--weighting", "--identical"]),
+        "keys": (2, ["--weighting", "--identical", "--numeric", "--lines", "--header", "--compact"]),
+        "sort": (2, ["--weighting", "--identical", "--numeric"]),
+        "compare": (4, ["--weighting", "--identical", "--numeric"]),
         "tailor": (4, []),
         "audit": (5, []),
-        "affected": (2, ["--changes"]),
+        "affected": (2, ["--changes", "--numeric"]),
         "changes": (5, []),
         "audit-changes": (6, []),
         "rekey": (1, ["--weighting", "--identical", "--from", "--to"]),
         "compact": (1, ["--weighting", "--identical", "--from", "--to"]),
         "expand": (1, ["--weighting", "--identical", "--from", "--to"]),
         "book": (2, []),
-        "fingerprint": (2, ["--weighting", "--identical", "--compact"]),
+        "fingerprint": (2, ["--weighting", "--identical", "--numeric", "--compact"]),
     }
 
     def __init__(self, line):
@@ -149,6 +150,7 @@ LINES = """check t d
 keys t d
 keys --weighting shifted t d --identical --lines
 keys --header t d
+keys --numeric t d --identical
 keys t --compact k d --lines
 sort --weighting=non-ignorable --identical t d
 compare t d a b
@@ -157,6 +159,7 @@ tailor t d r -- c
 audit b d r t c
 affected d r
 affected --changes d h
+affected d r --numeric
 changes b d t d c
 audit-changes b d t d h c
 rekey --weighting shifted c --identical
@@ -169,7 +172,7 @@ fingerprint --identical t --weighting=shifted d
 fingerprint t --compact k d""".format("0123456789abcdef" * 4).splitlines()
 
 PUT_IN = """check keys sort compare tailor audit affected changes audit-changes rekey compact expand book fingerprint help order t - -- ---
---weighting --weighting= --weighting=shifted --weightings shifted non-ignorable Shifted --identical --identical= --lines --linest
+--weighting --weighting= --weighting=shifted --weightings shifted non-ignorable Shifted --identical --identical= --numeric --lines --linest
 --changes --changes= --change --header --compact --compact= --from --to={} -i -h --help -V --version é =""".format("0123456789abcdef" * 4).split()
 
 

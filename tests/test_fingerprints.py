@@ -20,13 +20,13 @@ COMPACT_VALUES = [
 SETTINGS = [(weighting, depth) for weighting in ("shifted", "non-ignorable") for depth in ("weights", "identical")]
 
 
-def fingerprint(table, data, weighting, depth):
+def fingerprint(table, data, weighting, depth, numbers=()):
     """The line that is printed, worked out from docs/FORMATS.md."""
 
     def digits(file):
         return hashlib.sha256(file.encode()).hexdigest()
 
-    made_by = ["uca keys 1", "unicode 18.0.0", f"weighting {weighting}", f"depth {depth}", f"table {digits(table)}", f"data {digits(data)}"]
+    made_by = ["uca keys 1", "unicode 18.0.0", f"weighting {weighting}", f"depth {depth}", *numbers, f"table {digits(table)}", f"data {digits(data)}"]
     return digits("".join(line + "\n" for line in made_by)) + "\n"
 
 
@@ -58,6 +58,13 @@ class Fingerprints(ProgramTest):
         for weighting, depth in SETTINGS:
             self.expect(["fingerprint", *options_of(weighting, depth), "t", "d"], out=fingerprint(TABLE, DATA, weighting, depth))
         self.assertEqual(len({fingerprint(TABLE, DATA, *setting) for setting in SETTINGS}), 4)
+
+    def test_numbers(self):
+        """With numbers by value the text has a line more."""
+        self.write(t=TABLE, d=DATA)
+        for weighting, depth in SETTINGS:
+            printed = fingerprint(TABLE, DATA, weighting, depth, ["numbers by value"])
+            self.expect(["fingerprint", "--numeric", *options_of(weighting, depth), "t", "d"], out=printed)
 
     def test_the_weighting_that_holds(self):
         """The one that is asked for, or else the table's, or else shifted."""
