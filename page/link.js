@@ -4,7 +4,7 @@
 export const MOST_CHARACTERS = 30000;
 
 const NAMES = ["rules", "words", "table", "weighting"];
-const MARKS = ["upper", "identical"];
+const MARKS = ["upper", "identical", "numeric"];
 
 export function link_of(state) {
   const found = new URLSearchParams(NAMES.filter((name) => state[name]).map((name) => [name, state[name]]));

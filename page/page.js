@@ -34,7 +34,11 @@ const page = {
 // ---- What the fields say
 
 const lines_text = (text) => (text === "" || text.endsWith("\n") ? text : `${text}\n`);
-const settings = () => ({ weighting: element("weighting").value, identical: element("identical").checked });
+const settings = () => ({
+  weighting: element("weighting").value,
+  identical: element("identical").checked,
+  numeric: element("numeric").checked,
+});
 
 function table() {
   const chosen = page.tables.find((it) => it.path === element("table").value) ?? UNICODE;
@@ -252,8 +256,9 @@ function save(name) {
   element("saved").textContent = `${name} is saved.`;
 }
 
-function show_commands({ table: path, settings: { weighting, identical } }) {
-  const options = (weighting ? `--weighting ${weighting} ` : "") + (identical ? "--identical " : "");
+function show_commands({ table: path, settings: { weighting, identical, numeric } }) {
+  const marks = (identical ? "--identical " : "") + (numeric ? "--numeric " : "");
+  const options = (weighting ? `--weighting ${weighting} ` : "") + marks;
   element("table-link").href = path;
   element("commands").textContent = [
     "uca tailor table.txt data.txt rules.txt certificate.txt > tailored.txt",
@@ -267,9 +272,9 @@ function show_commands({ table: path, settings: { weighting, identical } }) {
 function current_state() {
   const { rules, words } = asked();
   const path = element("table").value;
-  const { weighting, identical } = settings();
+  const { weighting, identical, numeric } = settings();
   const named = path === UNICODE.path ? "" : path;
-  return { rules, words, table: named, weighting, upper: element("upper").checked, identical };
+  return { rules, words, table: named, weighting, upper: element("upper").checked, identical, numeric };
 }
 
 async function copy_link() {
@@ -293,6 +298,7 @@ function take_state(state) {
   element("words").value = state.words;
   element("weighting").value = state.weighting ?? "";
   element("identical").checked = Boolean(state.identical);
+  element("numeric").checked = Boolean(state.numeric);
   element("table").value = page.tables.some((it) => it.path === state.table) ? state.table : UNICODE.path;
   offer_upper();
   element("upper").checked = Boolean(state.upper) && !element("upper").disabled;
@@ -304,7 +310,7 @@ function take_state(state) {
 // ---- The start
 
 function listen() {
-  for (const id of ["rules", "words", "weighting", "identical", "upper"]) element(id).addEventListener("input", soon);
+  for (const id of ["rules", "words", "weighting", "identical", "numeric", "upper"]) element(id).addEventListener("input", soon);
   element("table").onchange = () => { offer_upper(); soon(); };
   element("language").onchange = offer_language;
   element("load-rules").onclick = load_rules;

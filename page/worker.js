@@ -33,8 +33,10 @@ async function file(path) {
 // The texts of printed lines. An LF ends each.
 const lines_of = (done) => done.text().split("\n").slice(0, -1);
 
-function options_of({ weighting, identical }) {
-  return [...(weighting ? ["--weighting", weighting] : []), ...(identical ? ["--identical"] : [])];
+const numeric_of = ({ numeric }) => (numeric ? ["--numeric"] : []);
+
+function options_of({ weighting, identical, numeric }) {
+  return [...(weighting ? ["--weighting", weighting] : []), ...(identical ? ["--identical"] : []), ...numeric_of({ numeric })];
 }
 
 // Runs a command. Where memory runs out, this worker ends, and another one has all memory again.
@@ -74,7 +76,7 @@ async function order({ table, rules, words, settings }) {
   const found = { ...judged, before: lines_of(before) };
   if (!tailored) return found;
   const after = done_by(sort("tailored.txt"), files, words);
-  const may_move = done_by(["affected", "data.txt", "rules.txt"], files, words);
+  const may_move = done_by(["affected", ...numeric_of(settings), "data.txt", "rules.txt"], files, words);
   return { ...found, after: lines_of(after), sorted: after.out, may_move: lines_of(may_move) };
 }
 

@@ -271,6 +271,19 @@ def see_keys(browser, counts):
     write(browser, "weighting", "")
 
 
+def sort_numbers(browser, address, counts):
+    """Numbers are in the order of their values where that is asked for."""
+    ready(browser, f"{address}/page/")
+    write(browser, "rules", "&z < å")
+    write(browser, "words", "a10\na9\n")
+    settled(browser)
+    counts.same(order(browser, "after"), ["a10", "a9"], "numbers as text")
+    click(browser, "numeric")
+    settled(browser)
+    counts.same(order(browser, "after"), ["a9", "a10"], "numbers by value")
+    click(browser, "numeric")
+
+
 DROP = """(() => {
   const part = document.getElementById("PART"), moved = new DataTransfer();
   moved.items.add(new File([CONTENT], NAME));
@@ -394,7 +407,7 @@ FOCUSED = """(() => {
   const name = it.id || it.closest("ol")?.id || it.dataset.save || it.className || it.tagName;
   return [name, it === document.body || getComputedStyle(shown).outlineStyle !== "none"];
 })()"""
-BY_TAB = ["skip", "rules", "rules-file", "language", "table", "weighting", "identical", "words", "words-file", "before", "after", "copy", "rules.txt", "table-link"]
+BY_TAB = ["skip", "rules", "rules-file", "language", "table", "weighting", "identical", "numeric", "words", "words-file", "before", "after", "copy", "rules.txt", "table-link"]
 
 
 def use_keyboard(browser, address, counts):
@@ -484,6 +497,7 @@ def as_a_person(browser, server, program, counts):
     choose_language(browser, counts)
     save_files(browser, program, counts)
     follow_link(browser, address, counts)
+    sort_numbers(browser, address, counts)
     use_keyboard(browser, address, counts)
     see_layout(browser, counts)
     see_other_module(browser, address, counts)

@@ -60,7 +60,7 @@ def real_cases(table, data):
     """Commands over Unicode's table and real lists."""
     files = {"table.txt": table, "data.txt": data}
     for weighting in ("shifted", "non-ignorable"):
-        for command in (["keys"], ["keys", "--identical"], ["keys", "--lines", "--header"], ["sort"], ["sort", "--identical"], ["fingerprint"]):
+        for command in (["keys"], ["keys", "--identical"], ["keys", "--numeric"], ["keys", "--lines", "--header"], ["sort"], ["sort", "--identical"], ["sort", "--numeric"], ["fingerprint"]):
             words = [*command, "--weighting", weighting, *files]
             yield Case(words, files, "" if command == ["fingerprint"] else "names")
     yield Case(["check", *files], files)
