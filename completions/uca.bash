@@ -23,19 +23,19 @@ _uca_options_of() {
     case $1 in
         '') echo "-h --help -V --version" ;;
         check) echo "-h --help" ;;
-        keys) echo "--weighting --identical --lines --header --compact -h --help" ;;
-        sort) echo "--weighting --identical -h --help" ;;
-        compare) echo "--weighting --identical -h --help" ;;
+        keys) echo "--weighting --identical --numeric --lines --header --compact -h --help" ;;
+        sort) echo "--weighting --identical --numeric -h --help" ;;
+        compare) echo "--weighting --identical --numeric -h --help" ;;
         tailor) echo "-h --help" ;;
         audit) echo "-h --help" ;;
-        affected) echo "--changes -h --help" ;;
+        affected) echo "--changes --numeric -h --help" ;;
         changes) echo "-h --help" ;;
         audit-changes) echo "-h --help" ;;
         rekey) echo "--weighting --identical --from --to -h --help" ;;
         compact) echo "--weighting --identical --from --to -h --help" ;;
         expand) echo "--weighting --identical --from --to -h --help" ;;
         book) echo "-h --help" ;;
-        fingerprint) echo "--weighting --identical --compact -h --help" ;;
+        fingerprint) echo "--weighting --identical --numeric --compact -h --help" ;;
     esac
 }
 

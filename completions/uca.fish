@@ -55,10 +55,12 @@ complete -c uca -n '__uca_wants_file 1 help' -a 'check keys sort compare tailor 
 
 complete -c uca -n '__uca_has_command keys sort compare fingerprint' -l weighting -x -a 'non-ignorable shifted' -d 'non-ignorable or shifted'
 complete -c uca -n '__uca_wants_option identical keys sort compare fingerprint' -l identical -d 'Compare texts that weigh the same by their code points too'
+complete -c uca -n '__uca_wants_option numeric keys sort compare fingerprint' -l numeric -d 'Compare numbers of the digits 0 to 9 by their values: `9` comes before `10`'
 complete -c uca -n '__uca_wants_option lines keys' -l lines -d 'Print the key without blanks, a tab and the line'
 complete -c uca -n '__uca_wants_option header keys' -l header -d 'Print a first line that says what made the keys'
 complete -c uca -n '__uca_has_command keys' -l compact -x -d 'Print compact keys, made by this book'
 complete -c uca -n '__uca_wants_option changes affected' -l changes -d 'RULES is a file of changes, and DATA the new data file'
+complete -c uca -n '__uca_wants_option numeric affected' -l numeric -d 'The lines are keyed or sorted with --numeric'
 complete -c uca -n '__uca_has_command rekey compact expand' -l weighting -x -a 'non-ignorable shifted' -d 'non-ignorable or shifted, as the keys were made'
 complete -c uca -n '__uca_wants_option identical rekey compact expand' -l identical -d 'The keys were made with --identical'
 complete -c uca -n '__uca_has_command rekey compact expand' -l from -x -d 'The input has a header with this fingerprint'

@@ -60,7 +60,7 @@ class Numbers(ProgramTest):
     def test_affected(self):
         """A target with digits occurs in what is read: `a9` is read as `a19`."""
         self.write(r="&a < 19", h="@changes 1\ntext 0031 0039\n")
-        lines, by_value = "a9\nb\na19\na2\n91\n", "a9\na19\n91\n"
+        lines, by_value = "a9\nb\na19\na2\n91\n", "a9\na19\n"
         for options in ["d", "r"], ["--changes", "d", "h"]:
             self.expect(["affected", *options], lines, out="a19\n")
             self.expect(["affected", "--numeric", *options], lines, out=by_value)

@@ -72,7 +72,7 @@ const AT_WEIGHTS: &str = r"keys | a7\na007\n | 1C47 1C3E 1C44 0000 0020 0020 002
 lines | 0\n | 1C3E1C3D000000200020000000020002\x090\n
 sort | ab\na10\na9\na2\n10a\n9b\n | 9b\n10a\na2\na9\na10\nab\n
 sort | a07\nb\na7\na007\n | a07\na7\na007\nb\n
-affected | a9\nb\na19\na2\n91\n | a9\na19\n91\n
+affected | a9\nb\na19\na2\n91\n | a9\na19\n
 affected as text | a9\nb\na19\na2\n91\n | a19\n";
 
 /// The same with an identical level: its code points are those of the line.

@@ -18,7 +18,7 @@ use Rattle.uca_changes.specs.Changes.{Change}
 use Rattle.uca_order.specs.Keyings.{weighting_by, Keying, keying, key_of_bytes, bytes_compared}
 use Rattle.uca_run_parts.specs.AffectedRun.{is_affected, line_if}
 use Rattle.uca_run_parts.specs.Files.{TableAndData, table_with}
-use Rattle.uca_run_parts.specs.Input.{cause_of}
+use Rattle.uca_run_parts.specs.Input.{cause_of, line_text}
 use Rattle.uca_run_parts.specs.Print.{keyed_line_of}
 use Rattle.uca_change_runs.specs.AffectedRun.{is_affected_by, listed_in}
 use Rattle.uca_rekey.specs.RekeyedLines.{rekeyed}
