@@ -265,8 +265,8 @@ run compare
 reads table data
 printed < 1\n
 end done
-asks 22
-memory table line @ 1 2 3; data line @ 1 2; memory
+asks 26
+memory table line @ 1 2 3; data line @ 1 2; memory; left: Memory
 
 run tailor
 reads table data rules
