@@ -35,18 +35,24 @@ fn run_named(
     let mut rules = Source::new(RULES.as_bytes());
     let mut input = Source::new(lines);
     match name {
-        "keys" => run_keys_in(
-            alloc, alloc, &mut table, &mut data, &mut input, out, asked,
-        ),
+        "keys" => run_keys_in(alloc, alloc, &mut table, &mut data, &mut input, out, asked),
         "lines" => run_keyed_lines(alloc, &mut table, &mut data, &mut input, out, asked),
-        "sort" => run_sort_in(
-            alloc, alloc, &mut table, &mut data, &mut input, out, asked,
-        ),
+        "sort" => run_sort_in(alloc, alloc, &mut table, &mut data, &mut input, out, asked),
         "affected as text" => run_affected(
-            alloc, &mut data, &mut rules, &mut input, out, Numbers::AsText,
+            alloc,
+            &mut data,
+            &mut rules,
+            &mut input,
+            out,
+            Numbers::AsText,
         ),
         _ => run_affected(
-            alloc, &mut data, &mut rules, &mut input, out, Numbers::ByValue,
+            alloc,
+            &mut data,
+            &mut rules,
+            &mut input,
+            out,
+            Numbers::ByValue,
         ),
     }
 }
@@ -60,23 +66,22 @@ fn check_run(
     printed: &[u8],
 ) -> Result<(), Fail> {
     let mut out = Sink::new(Vec::new(alloc));
-    holds(
-        run_named(alloc, name, depth, lines, &mut out).is_ok(),
-        name,
-    )?;
+    holds(run_named(alloc, name, depth, lines, &mut out).is_ok(), name)?;
     same_bytes(&out.into_inner(), printed, name)
 }
 
 /// A run, its lines, and what it prints. `a7` is `a17` by value, and so is `a007`; `a10` is `a210`.
-const AT_WEIGHTS: &str = r"keys | a7\na007\n | 1C47 1C3E 1C44 0000 0020 0020 0020 0000 0002 0002 0002\n1C47 1C3E 1C44 0000 0020 0020 0020 0000 0002 0002 0002\n
+const AT_WEIGHTS: &str =
+    r"keys | a7\na007\n | 1C47 1C3E 1C44 0000 0020 0020 0020 0000 0002 0002 0002\n1C47 1C3E 1C44 0000 0020 0020 0020 0000 0002 0002 0002\n
 lines | 0\n | 1C3E1C3D000000200020000000020002\x090\n
 sort | ab\na10\na9\na2\n10a\n9b\n | 9b\n10a\na2\na9\na10\nab\n
 sort | a07\nb\na7\na007\n | a07\na7\na007\nb\n
 affected | a9\nb\na19\na2\n91\n | a9\na19\n
 affected as text | a9\nb\na19\na2\n91\n | a19\n";
 
-/// The same with an identical level: its code points are those of the line.
-const AT_IDENTICAL: &str = r"keys | a07\n7\n | 1C47 1C3E 1C44 0000 0020 0020 0020 0000 0002 0002 0002 0000 000061 000030 000037\n1C3E 1C44 0000 0020 0020 0000 0002 0002 0000 000037\n
+/// With an identical level: its code points are those of the line.
+const AT_IDENTICAL: &str =
+    r"keys | a07\n7\n | 1C47 1C3E 1C44 0000 0020 0020 0020 0000 0002 0002 0002 0000 000061 000030 000037\n1C3E 1C44 0000 0020 0020 0000 0002 0002 0000 000037\n
 sort | a7\na007\na6\na07\n | a6\na007\na07\na7\n";
 
 fn check_cases(alloc: Global, depth: Depth, cases: &str) -> Result<(), Fail> {
@@ -161,7 +166,7 @@ fn fingerprints_with_numbers(rt: HostRuntime) -> Result<(), Fail> {
     let alloc = rt.alloc();
     let by_value = header_of(alloc, Numbers::ByValue)?;
     let as_text = header_of(alloc, Numbers::AsText)?;
-    let (front, _) = by_value.split_at(34);
+    let front = by_value.get(..34).ok_or("a short header")?;
     holds(as_text.starts_with(front), "the settings")?;
     holds(as_text != by_value, "the fingerprint")
 }

@@ -81,9 +81,7 @@ pub fn run_over<T: Read, D: Read, I: Read, W: Write>(
                 depth,
                 numbers: Numbers::AsText,
             };
-            done(run_keyed_lines(
-                alloc, table, properties, input, out, asked,
-            ))
+            done(run_keyed_lines(alloc, table, properties, input, out, asked))
         }
         Run::Sort(asked, depth) => done(run_sort(
             alloc, table, properties, input, out, asked, depth,

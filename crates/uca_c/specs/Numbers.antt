@@ -20,7 +20,7 @@ use Rattle.uca_values.specs.declared.faults.FaultKind.TheVariants as kinds
 abbrev pub weighting_of : ℕ → Option (Option Weighting)
 weighting_of n = if n == 0 then Some None else if n == 1 then Some (Some NonIgnorable) else if n == 2 then Some (Some Shifted) else None
 
--- How far texts are compared that a number asks for, and how their numbers are: it is the sum of 1 for an identical level
+-- How far texts are compared that a number asks for, and how their numbers are. It is a sum: 1 is for an identical level,
 -- and 2 for numbers by value. Other numbers have no meaning.
 abbrev pub depth_of : ℕ → Option (Depth × Numbers)
 depth_of n =

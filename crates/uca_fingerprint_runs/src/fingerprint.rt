@@ -76,10 +76,7 @@ pub fn run_compact_fingerprint<A: Allocator + Copy, T: Read, D: Read, B: Read, W
 }
 
 // The fingerprint of compact keys under files that were summed.
-fn compact_fingerprint_of_files<A: Allocator>(
-    read: &BookedFiles<A>,
-    asked: Asked,
-) -> [u8; 32]
+fn compact_fingerprint_of_files<A: Allocator>(read: &BookedFiles<A>, asked: Asked) -> [u8; 32]
     ensures { result ≡ compact_fingerprint_under asked
         (booked_with (summed_with read.now.files.table (properties_of read.now.files.properties.0, read.now.files.properties.1)) read.now.book) }
 {
@@ -88,10 +85,7 @@ fn compact_fingerprint_of_files<A: Allocator>(
 }
 
 // The fingerprint under files that were summed.
-fn fingerprint_of_files<A: Allocator>(
-    files: &SummedFiles<A>,
-    asked: Asked,
-) -> [u8; 32]
+fn fingerprint_of_files<A: Allocator>(files: &SummedFiles<A>, asked: Asked) -> [u8; 32]
     ensures { result ≡ fingerprint_under asked (summed_with files.now.table (properties_of files.now.properties.0, files.now.properties.1)) }
 {
     let (table, table_sum) = &files.table;

@@ -80,7 +80,14 @@ pub fn run_compare<T: Read, D: Read, W: Write>(
         (table.new ∷ properties.new ∷ []) out.old out.new result }
 {
     run_compare_in(
-        alloc, alloc, table, properties, left, right, out, asked_as_text(weighting, depth),
+        alloc,
+        alloc,
+        table,
+        properties,
+        left,
+        right,
+        out,
+        asked_as_text(weighting, depth),
     )
 }
 
@@ -106,15 +113,7 @@ pub fn run_compare_in<A: Allocator + Copy, T: Read, D: Read, W: Write>(
     match read_collation(alloc, table, properties, asked) {
         Ok(read) => {
             let collator = read.collation.collator();
-            let end = compare_words(
-                alloc,
-                global,
-                &collator,
-                read.settings,
-                left,
-                right,
-                out,
-            );
+            let end = compare_words(alloc, global, &collator, read.settings, left, right, out);
             drop(read);
             end
         }

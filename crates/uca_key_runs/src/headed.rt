@@ -146,15 +146,7 @@ fn run_headed_in<A: Allocator + Copy, T: Read, D: Read, I: Read, W: Write>(
             let settings = read.settings;
             let first = header.as_bytes();
             let end = print_headed(
-                alloc,
-                global,
-                &collator,
-                settings,
-                form,
-                None,
-                first,
-                input,
-                out,
+                alloc, global, &collator, settings, form, None, first, input, out,
             );
             drop(header);
             drop(read);
@@ -193,9 +185,7 @@ pub fn run_headed_keys<T: Read, D: Read, I: Read, W: Write>(
     ensures { PrintsHeadedKeys asked (table.old ∷ properties.old ∷ []) (table.new ∷ properties.new ∷ [])
         input.old input.new out.old out.new result }
 {
-    run_headed_keys_in(
-        alloc, alloc, table, properties, input, out, asked,
-    )
+    run_headed_keys_in(alloc, alloc, table, properties, input, out, asked)
 }
 
 /// As [`run_headed_keys`], with the two files, the trie, the lines and the keys in memory of any allocator. Texts in
@@ -217,9 +207,7 @@ pub fn run_headed_keys_in<A: Allocator + Copy, T: Read, D: Read, I: Read, W: Wri
         input.old input.new out.old out.new result }
 {
     let form = KeyForm::Alone;
-    run_headed_in(
-        alloc, global, form, table, properties, input, out, asked,
-    )
+    run_headed_in(alloc, global, form, table, properties, input, out, asked)
 }
 
 /// Prints a header, and then each line of `input` after its sort key as [`run_keyed_lines`](crate::run_keyed_lines) does. The
@@ -239,9 +227,7 @@ pub fn run_headed_lines<T: Read, D: Read, I: Read, W: Write>(
     ensures { PrintsHeadedLines asked (table.old ∷ properties.old ∷ []) (table.new ∷ properties.new ∷ [])
         input.old input.new out.old out.new result }
 {
-    run_headed_lines_in(
-        alloc, alloc, table, properties, input, out, asked,
-    )
+    run_headed_lines_in(alloc, alloc, table, properties, input, out, asked)
 }
 
 /// As [`run_headed_lines`], with the two files, the trie, the lines and the keys in memory of any allocator. Texts in
@@ -263,7 +249,5 @@ pub fn run_headed_lines_in<A: Allocator + Copy, T: Read, D: Read, I: Read, W: Wr
         input.old input.new out.old out.new result }
 {
     let form = KeyForm::BeforeLine;
-    run_headed_in(
-        alloc, global, form, table, properties, input, out, asked,
-    )
+    run_headed_in(alloc, global, form, table, properties, input, out, asked)
 }

@@ -97,15 +97,7 @@ fn run_headed_compact_in<A: Allocator + Copy, T: Read, D: Read, B: Read, I: Read
             let by = Some(book);
             let first = header.as_bytes();
             let end = print_headed(
-                alloc,
-                global,
-                &collator,
-                settings,
-                form,
-                by,
-                first,
-                input,
-                out,
+                alloc, global, &collator, settings, form, by, first, input, out,
             );
             drop(header);
             drop(read);

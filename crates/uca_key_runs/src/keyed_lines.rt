@@ -31,9 +31,7 @@ pub fn run_keyed_lines<T: Read, D: Read, I: Read, W: Write>(
     ensures { PrintsKeyedLines asked (table.old ∷ properties.old ∷ []) (table.new ∷ properties.new ∷ [])
         input.old input.new out.old out.new result }
 {
-    run_keyed_lines_in(
-        alloc, alloc, table, properties, input, out, asked,
-    )
+    run_keyed_lines_in(alloc, alloc, table, properties, input, out, asked)
 }
 
 /// As [`run_keyed_lines`], with the two files, the trie, the lines and the keys in memory of any allocator. Texts in
@@ -55,7 +53,5 @@ pub fn run_keyed_lines_in<A: Allocator + Copy, T: Read, D: Read, I: Read, W: Wri
         input.old input.new out.old out.new result }
 {
     let form = KeyForm::BeforeLine;
-    run_lines_in(
-        alloc, global, form, table, properties, input, out, asked,
-    )
+    run_lines_in(alloc, global, form, table, properties, input, out, asked)
 }

@@ -386,7 +386,13 @@ pub fn run_keys<T: Read, D: Read, I: Read, W: Write>(
         input.old input.new out.old out.new result }
 {
     run_keys_in(
-        alloc, alloc, table, properties, input, out, asked_as_text(weighting, depth),
+        alloc,
+        alloc,
+        table,
+        properties,
+        input,
+        out,
+        asked_as_text(weighting, depth),
     )
 }
 
@@ -409,9 +415,7 @@ pub fn run_keys_in<A: Allocator + Copy, T: Read, D: Read, I: Read, W: Write>(
         input.old input.new out.old out.new result }
 {
     let form = KeyForm::Alone;
-    run_lines_in(
-        alloc, global, form, table, properties, input, out, asked,
-    )
+    run_lines_in(alloc, global, form, table, properties, input, out, asked)
 }
 
 /// Writes what the output has of each line of `input`, under the table and the data file that are read first.

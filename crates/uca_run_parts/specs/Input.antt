@@ -25,8 +25,8 @@ first_long_run (class ∷ classes) = if begins_with_marks 65 (class ∷ classes)
 abbrev pub text_cause : NfdText → Option InputKind
 text_cause text = if nat_lt 1048576 (length text.points) then Some TooLong else option_map LongRun (first_long_run text.classes)
 
--- What is read of a line that is UTF-8, in Normalization Form D: the line itself, or with numbers by value the line with
--- the code of each number in place of it. The limits of texts are limits of what is read.
+-- What is read of a line that is UTF-8, in Normalization Form D. It is the line itself, or, with numbers by value, the line
+-- with the code of each number in place of it. The limits of texts are limits of this.
 abbrev pub line_text : Numbers → Properties → List ℕ → NfdText
 line_text numbers properties line = written_text numbers properties (chars line)
 

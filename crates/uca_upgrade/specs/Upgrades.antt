@@ -35,8 +35,8 @@ pub record KeepsChange (files : UpgradeFiles) (change : Change) (asked : Asked) 
   pub old_fingerprint : upgrade.old_fingerprint ≡ fingerprint (old_settings change asked) files.old_table.now files.old_data.now
   pub new_fingerprint : upgrade.new_fingerprint ≡ fingerprint (new_settings change asked) files.new_table.now files.new_data.now
 
--- Whether it affects a text of UTF-8: a changed text occurs in order in what is read of the text, or a changed range has one
--- of the code points of this.
+-- Whether it affects a text of UTF-8. A changed text occurs in order in what is read of it, or a changed range has a code
+-- point of that.
 abbrev pub is_affected_in : UpgradeState → List ℕ → Bool
 is_affected_in upgrade text = is_affected_by upgrade.list (line_text upgrade.settings.numbers (properties_of upgrade.data_file) text).points
 

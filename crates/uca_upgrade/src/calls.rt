@@ -12,9 +12,9 @@ use uca_run_parts::Affects;
 use uca_run_parts::input::renew_text;
 
 impl OwnedUpgrade {
-    /// Whether the key of a text has to be made anew: a changed text occurs in order in what is read of the text, or a
-    /// changed range has one of the code points of this. With numbers by value that is the text with the code of each
-    /// number in place of it. `uca affected --changes` prints exactly the lines of such texts, with `--numeric` there.
+    /// Whether the key of a text has to be made anew. A changed text occurs in order in what is read of it, or a changed
+    /// range has a code point of that. With numbers by value it is read with the code of each number in place of it.
+    /// `uca affected --changes` prints exactly the lines of such texts, and there it needs `--numeric`.
     ///
     /// # Errors
     ///

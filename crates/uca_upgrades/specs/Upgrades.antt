@@ -27,8 +27,8 @@ use Rattle.uca_key_runs.specs.Keys.{keyed_line, printed_key}
 
 -- ---- Upgrades
 
--- The files that keys were made by, and those that they are made by now. The maps that `uca rekey` puts keys through. And `uca
--- affected` prints the lines of which such code points are read, in Normalization Form D.
+-- The files that keys were made by, and those that they are made by now. The maps that `uca rekey` puts keys through. And
+-- which code points, as they are read of a line, make `uca affected` print it.
 pub record Upgrade : Type 0 where
   pub old : TableAndData
   pub new : TableAndData
