@@ -8,11 +8,18 @@
 
 #include "uca.h"
 
-/* A text with more bytes has more than 1,048,576 code points, since each has four at most. So it is too long. */
+/* A text with more bytes has more than 1,048,576 code points, since each has four at most. */
 #define MOST_TEXT (4 * 1048576)
 
 /* Not for other extensions of the same server. */
 #pragma GCC visibility push(hidden)
+
+/* Whether numbers are ordered by their values. */
+extern bool has_numbers_by_value(void);
+
+/* Whether a text of so many bytes is too long, whatever it has. Where numbers are ordered by their values, only the
+   library knows: zeros before a number are not read. */
+extern bool is_too_long(size_t length);
 
 /* What keys are made and texts are ordered by, for as long as the server runs. It is closed if the server has no files. */
 extern uca_collator *present_collator(void);

@@ -427,7 +427,7 @@ class Numbers(unittest.TestCase):
 
     def test_upgrades(self):
         for asked in itertools.product((None, "shifted", "non-ignorable"), (False, True)):
-            old, new = (uca.Collator(*files, *asked, numeric=True) for files in (NUMBER_EDITIONS[:2], NUMBER_EDITIONS[2:4]))
+            old, new = (uca.Collator(*NUMBER_EDITIONS[at : at + 2], *asked, numeric=True) for at in (0, 2))
             with old, new:
                 kept = old.fingerprint
                 with uca.Upgrade(*NUMBER_EDITIONS, *asked, numeric=True, fingerprint=kept) as upgrade:
