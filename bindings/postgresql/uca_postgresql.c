@@ -308,8 +308,8 @@ static void define_settings(void)
                              PGC_POSTMASTER, 0, NULL, NULL, NULL);
     DefineCustomBoolVariable("uca.identical", "Whether texts that are equal by all weights are ordered by their code points.", NULL,
                              &identical, false, PGC_POSTMASTER, 0, NULL, NULL, NULL);
-    DefineCustomBoolVariable("uca.numeric", "Whether numbers are ordered by their values: 9 before 10.", NULL, &by_value,
-                             false, PGC_POSTMASTER, 0, NULL, NULL, NULL);
+    DefineCustomBoolVariable("uca.numeric", "Whether numbers are ordered by their values: 9 before 10.", NULL,
+                             &by_value, false, PGC_POSTMASTER, 0, NULL, NULL, NULL);
 }
 
 void _PG_init(void)
