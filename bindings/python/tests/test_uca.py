@@ -11,6 +11,8 @@ import mmap
 import multiprocessing
 import os
 import pickle
+import random
+import re
 import subprocess
 import sys
 import tempfile
@@ -333,6 +335,17 @@ COMPACT_RANGES = [
 ]
 
 
+def read_by_value(text):
+    """What is read of a text with numeric=True, as uca.h says it."""
+
+    def written(found):
+        digits = found[0].lstrip("0") or "0"
+        nines, last = divmod(len(digits) - 1, 8)
+        return "9" * nines + str(last + 1) + digits
+
+    return re.sub("[0-9]+", written, text)
+
+
 class Numbers(unittest.TestCase):
     """Numbers by their values: "a10" is read as "a210", and "007" as "17"."""
 
@@ -352,6 +365,17 @@ class Numbers(unittest.TestCase):
                 self.assertEqual(self.collator.key(text), hexadecimal(key))
         with uca.Collator(NUMBERS, DATA, "non-ignorable") as as_text:
             self.assertEqual(as_text.key("007"), hexadecimal("1C3D 1C3D 1C44 0000 0020 0020 0020 0000 0002 0002 0002"))
+
+    def test_texts_that_are_read(self):
+        self.assertEqual([read_by_value(it) for it in ("a10", "007", "0a9b", "9" * 17)], ["a210", "17", "10a19b", "991" + "9" * 17])
+        chosen = random.Random(1)
+        texts = ["".join(chosen.choices("0000112789ab\u0301\u00e1 -", k=chosen.randint(0, 40))) for _ in range(2000)]
+        with uca.Collator(NUMBERS, DATA, "non-ignorable") as as_text:
+            for text in [*texts, *("7" * length for length in range(1, 200))]:
+                self.assertEqual(self.collator.key(text), as_text.key(read_by_value(text)), text)
+            for left, right in zip(texts, texts[1:]):
+                found = as_text.compare(read_by_value(left), read_by_value(right))
+                self.assertEqual(self.collator.compare(left, right), found)
 
     def test_sorted(self):
         volumes = ["Band 10", "Band 2", "Band 1", "Band 02", "Band 100", "Band"]
