@@ -476,9 +476,15 @@ bool has_numbers_by_value(void)
     return by_value;
 }
 
-bool is_too_long(size_t length)
+bool is_too_long(const struct varlena *given)
 {
-    return length > MOST_TEXT && !by_value;
+    const char *bytes = VARDATA_ANY(given);
+    size_t length = VARSIZE_ANY_EXHDR(given), counted = length;
+
+    if (by_value && length > MOST_TEXT)
+        for (size_t i = 0; i < length; i++)
+            counted -= bytes[i] == '0';
+    return counted > MOST_TEXT;
 }
 
 uca_collator *present_collator(void)
@@ -576,7 +582,7 @@ static uint32 write_value(const Request *asked, const struct varlena *given, siz
     uint32 status;
 
     if (asked->made == KEY || asked->made == RANGE) {
-        if (is_too_long(length))
+        if (is_too_long(given))
             return UCA_TOO_LONG;
         room = 6 * Min(length, MOST_TEXT) + SPARE;
     }
@@ -673,7 +679,7 @@ static Datum affected_of(FunctionCallInfo fcinfo)
     size_t length = VARSIZE_ANY_EXHDR(given);
     uint32 affected = 1, status = UCA_TOO_LONG;
 
-    if (!is_too_long(length))
+    if (!is_too_long(given))
         status = uca_affected(&upgrade, (const uint8 *) VARDATA_ANY(given), length, &affected);
     if (status == UCA_MEMORY)
         ereport(ERROR, (errcode(ERRCODE_OUT_OF_MEMORY), errmsg("uca: out of memory")));

@@ -17,9 +17,9 @@
 /* Whether numbers are ordered by their values. */
 extern bool has_numbers_by_value(void);
 
-/* Whether a text of so many bytes is too long, whatever it has. Where numbers are ordered by their values, only the
-   library knows: zeros before a number are not read. */
-extern bool is_too_long(size_t length);
+/* Whether a text is too long by its bytes alone. Where numbers are ordered by their values, zeros are not counted,
+   since those before a number are not read. So the library may find a text too long that is not so here. */
+extern bool is_too_long(const struct varlena *given);
 
 /* What keys are made and texts are ordered by, for as long as the server runs. It is closed if the server has no files. */
 extern uca_collator *present_collator(void);

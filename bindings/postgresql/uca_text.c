@@ -93,7 +93,7 @@ static uint32 make_key(const struct varlena *given, Room *key, size_t *length)
     size_t text_length = VARSIZE_ANY_EXHDR(given);
     uint32 status;
 
-    if (is_too_long(text_length))
+    if (is_too_long(given))
         return UCA_TOO_LONG;
     status = uca_key(present_collator(), bytes, text_length, key->bytes, key->room, length);
     if (status == UCA_SMALL) {

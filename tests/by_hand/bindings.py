@@ -1232,7 +1232,8 @@ def postgresql_long_numbers(says):
     found = says(f"SELECT length(name::text) FROM {rows} ORDER BY name;")
     same(found, "1\n5000000\n5000001\n1\n2\n", "a sort of zeros")
     same(says(f"SELECT {zeros}::uca_text < '1', uca_any_key({LONG}) > uca_any_key('z');"), "t|t\n", "long texts")
-    same(says(f"SELECT uca_key({LONG});", fails=True), "ERROR:  uca: the text is rejected: TooLong", "a text of 180 MB")
+    for it in (LONG, f"'7' || {LONG}", f"{zeros} || repeat('7', 1048576)"):
+        same(says(f"SELECT uca_key({it});", fails=True), "ERROR:  uca: the text is rejected: TooLong", f"a key of {it}")
 
 
 # The word bh is before bz by the one table, and after it by the other.
