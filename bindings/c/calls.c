@@ -85,7 +85,7 @@ static void check_open(void)
     CHECK(opened(&it, TABLE, "x\n", 0, 0, &error) == UCA_DATA && error.line == 1 && error.kind == UCA_KIND_ORDER);
     CHECK(opened(&it, TABLE, "@data 1\n\nccc 0300..0314 300\n", 0, 0, &error) == UCA_DATA && error.line == 3 && error.kind == UCA_KIND_WEIGHT);
     CHECK(opened(&it, TABLE, DATA, 3, 0, &error) == UCA_ARGUMENT && error.line == 0 && error.kind == UCA_NO_ERROR);
-    CHECK(opened(&it, TABLE, DATA, 0, 2, &error) == UCA_ARGUMENT && !it.is_open);
+    CHECK(opened(&it, TABLE, DATA, 0, 4, &error) == UCA_ARGUMENT && !it.is_open);
     CHECK(opened(&it, TABLE, DATA, UCA_NON_IGNORABLE, UCA_WEIGHTS, &error) == UCA_OK && it.is_open && error.line == 0);
     CHECK(opened(&it, "", "", 9, 9, &error) == UCA_ALREADY_OPEN && error.line == 0 && error.kind == UCA_NO_ERROR);
     CHECK(IS_KEY(&it, "a", "\x1C\x47\0\0\0\x20\0\0\0\x02"));
@@ -258,6 +258,81 @@ static void check_identical(void)
     uca_close(&it);
 }
 
+/* The ten digits, two letters and an accent. The digit 0 has the weight 1C3D, 1 has 1C3E, and so on. */
+static const char DIGITS[] = "@version 1\n"
+                             "0030 ; [.1C3D.0020.0002]\n"
+                             "0031 ; [.1C3E.0020.0002]\n"
+                             "0032 ; [.1C3F.0020.0002]\n"
+                             "0033 ; [.1C40.0020.0002]\n"
+                             "0034 ; [.1C41.0020.0002]\n"
+                             "0035 ; [.1C42.0020.0002]\n"
+                             "0036 ; [.1C43.0020.0002]\n"
+                             "0037 ; [.1C44.0020.0002]\n"
+                             "0038 ; [.1C45.0020.0002]\n"
+                             "0039 ; [.1C46.0020.0002]\n"
+                             "0061 ; [.1C47.0020.0002]\n"
+                             "0062 ; [.1C60.0020.0002]\n"
+                             "0301 ; [.0000.0024.0002]\n";
+
+static void check_digits_as_text(void)
+{
+    uca_collator it = UCA_CLOSED_COLLATOR;
+    uca_error error;
+    CHECK(opened(&it, DIGITS, DATA, UCA_NON_IGNORABLE, UCA_WEIGHTS, &error) == UCA_OK);
+    CHECK(IS_KEY(&it, "7", "\x1C\x44\0\0\0\x20\0\0\0\x02"));
+    CHECK(COMPARES(&it, "file 9", "file 10", 1, 1));
+    CHECK(COMPARES(&it, "007", "7", -1, 1));
+    uca_close(&it);
+}
+
+/* `a10` is read as `a210`, and `007` as `17`. */
+static void check_numbers(void)
+{
+    uca_collator it = UCA_CLOSED_COLLATOR;
+    uca_error error;
+    CHECK(opened(&it, DIGITS, DATA, UCA_NON_IGNORABLE, UCA_NUMERIC, &error) == UCA_OK);
+    CHECK(COMPARES(&it, "file 9", "file 10", -1, 1));
+    CHECK(COMPARES(&it, "007", "7", 0, 0));
+    CHECK(COMPARES(&it, "a99999999b", "a100000000", -1, 1));
+    CHECK(COMPARES(&it, "a\xCC\x81" "1", "\xC3\xA1" "01", 0, 0));
+    CHECK(COMPARES(&it, "a2\xCC\x81", "a2", 1, 2));
+    CHECK(IS_KEY(&it, "ab", "\x1C\x47\x1C\x60\0\0\0\x20\0\x20\0\0\0\x02\0\x02"));
+    CHECK(IS_KEY(&it, "007", "\x1C\x3E\x1C\x44\0\0\0\x20\0\x20\0\0\0\x02\0\x02"));
+    CHECK(IS_KEY(&it, "a10",
+                 "\x1C\x47\x1C\x3F\x1C\x3E\x1C\x3D\0\0\0\x20\0\x20\0\x20\0\x20\0\0\0\x02\0\x02\0\x02\0\x02"));
+    CHECK(is_order(&it, BYTES("a9"), BYTES("a10"), -1));
+    CHECK(is_order(&it, BYTES("a10"), BYTES("a9\xFF"), -1));
+    uca_close(&it);
+    CHECK(opened(&it, DIGITS, DATA, UCA_NON_IGNORABLE, UCA_IDENTICAL | UCA_NUMERIC, &error) == UCA_OK);
+    CHECK(COMPARES(&it, "file 9", "file 10", -1, 1));
+    CHECK(COMPARES(&it, "007", "7", -1, 4));
+    CHECK(IS_KEY(&it, "07", "\x1C\x3E\x1C\x44\0\0\0\x20\0\x20\0\0\0\x02\0\x02\0\0\0\0\x30\0\0\x37"));
+    uca_close(&it);
+    CHECK(opened(&it, DIGITS, DATA, UCA_NON_IGNORABLE, UINT32_MAX, &error) == UCA_ARGUMENT && !it.is_open);
+}
+
+/* So many zeros are one zero, which is read as `10`. A number of so many nines has 112,500 code points before it. */
+static void check_long_numbers(void)
+{
+    uca_collator it = UCA_CLOSED_COLLATOR;
+    uca_error error;
+    static const char key[] = "\x1C\x3E\x1C\x3D\0\0\0\x20\0\x20\0\0\0\x02\0\x02";
+    uint8_t out[ROOM];
+    size_t length = 1048577, needed;
+    uint8_t *text = malloc(length);
+    if (!text) {
+        abort();
+    }
+    CHECK(opened(&it, DIGITS, DATA, UCA_NON_IGNORABLE, UCA_NUMERIC, &error) == UCA_OK);
+    memset(text, '0', length);
+    CHECK(is_key(&it, text, length, key, sizeof key - 1));
+    memset(text, '9', length);
+    CHECK(uca_key(&it, text, length - 1, out, ROOM, &needed) == UCA_TOO_LONG && needed == 0);
+    CHECK(uca_key(&it, text, 900000, out, ROOM, &needed) == UCA_SMALL && needed == 6 * (900000 + 112500) + 4);
+    uca_close(&it);
+    free(text);
+}
+
 /* The table with a setting of its own. */
 static const char SET_TABLE[] = "@version 1\n"
                                 "@variable non-ignorable\n"
@@ -267,6 +342,8 @@ static const char SET_TABLE[] = "@version 1\n"
 static const char BY_TABLE_SUM[] = "70a26bf864ff91484c271425219ed5dc4794165dd5ff03264d35e02b77ae7e8a";
 static const char NON_IGNORABLE_SUM[] = "2e4823e9da09e3f35b2168ef00b2a4697aa2aed8cca5d3f538cc8a9afa18f4a9";
 static const char IDENTICAL_SUM[] = "0bbf7ed9876a0849d4721cb8049560ef1f27c62b00ac13a6c8c01b38798c2f0d";
+static const char NUMERIC_SUM[] = "a27641d91d17da3e0a4fb63e1ae3d39b8c4eb0f1e63abc2365604c5c66eddb5a";
+static const char BOTH_SUM[] = "5920898472d92732fe32d53d0a9984f3bc20c288a654d589811c24c2277715e7";
 static const char SET_SUM[] = "f5bb0c8e567d9026c977cff5d60e7ddd2929639b02ec965bc7d5c69d892044c8";
 static const char SET_SHIFTED_SUM[] = "5cb03c66727ec7b79973dfe3986a569ddb6bb070e7d9fd4c36f2428213bd4b00";
 
@@ -305,12 +382,14 @@ static void check_fingerprints(void)
     CHECK(is_fingerprint(TABLE, UCA_SHIFTED, UCA_WEIGHTS, BY_TABLE_SUM));
     CHECK(is_fingerprint(TABLE, UCA_NON_IGNORABLE, UCA_WEIGHTS, NON_IGNORABLE_SUM));
     CHECK(is_fingerprint(TABLE, UCA_SHIFTED, UCA_IDENTICAL, IDENTICAL_SUM));
+    CHECK(is_fingerprint(TABLE, UCA_SHIFTED, UCA_NUMERIC, NUMERIC_SUM));
+    CHECK(is_fingerprint(TABLE, UCA_NON_IGNORABLE, UCA_IDENTICAL | UCA_NUMERIC, BOTH_SUM));
     CHECK(is_fingerprint(SET_TABLE, UCA_BY_TABLE, UCA_WEIGHTS, SET_SUM));
     CHECK(is_fingerprint(SET_TABLE, UCA_SHIFTED, UCA_WEIGHTS, SET_SHIFTED_SUM));
     CHECK(has_no_fingerprint("@version 1\n0061 ; [.1C", "", 0, 0, UCA_TABLE, 2, UCA_KIND_WEIGHT));
     CHECK(has_no_fingerprint(TABLE, "x\n", 0, 0, UCA_DATA, 1, UCA_KIND_ORDER));
     CHECK(has_no_fingerprint(TABLE, DATA, 3, 0, UCA_ARGUMENT, 0, UCA_NO_ERROR));
-    CHECK(has_no_fingerprint("", DATA, 0, 2, UCA_ARGUMENT, 0, UCA_NO_ERROR));
+    CHECK(has_no_fingerprint("", DATA, 0, 4, UCA_ARGUMENT, 0, UCA_NO_ERROR));
 }
 
 /* 1C47 and 1C60 have cells of their own, and so has 0209 at level 4. */
@@ -334,7 +413,7 @@ static void check_open_compact(void)
     CHECK(opened_compact(&it, TABLE, "x\n", "", 0, 0, &error) == UCA_DATA && error.line == 1 && error.kind == UCA_KIND_ORDER);
     CHECK(opened_compact(&it, "", "x\n", "", 0, 0, &error) == UCA_TABLE && error.line == 1);
     CHECK(opened_compact(&it, TABLE, DATA, BOOK, 3, 0, &error) == UCA_ARGUMENT && error.line == 0 && error.kind == UCA_NO_ERROR);
-    CHECK(opened_compact(&it, TABLE, DATA, BOOK, 0, 2, &error) == UCA_ARGUMENT && !it.is_open);
+    CHECK(opened_compact(&it, TABLE, DATA, BOOK, 0, 4, &error) == UCA_ARGUMENT && !it.is_open);
     CHECK(opened_compact(&it, TABLE, DATA, BOOK, UCA_NON_IGNORABLE, UCA_WEIGHTS, &error) == UCA_OK && it.is_open && error.line == 0);
     CHECK(opened_compact(&it, "", "", "", 9, 9, &error) == UCA_ALREADY_OPEN && error.line == 0 && error.kind == UCA_NO_ERROR);
     CHECK(opened(&it, TABLE, DATA, 0, 0, &error) == UCA_ALREADY_OPEN);
@@ -475,6 +554,24 @@ static void check_ranges(void)
     CHECK(IS_RANGE(&it, "a", UCA_SAME_LETTERS, "\x0A\0", "\x0A\x07"));
     CHECK(IS_RANGE(&it, "a", UCA_SAME_ACCENTS, "\x0A\x01", "\x0A\x06"));
     CHECK(IS_RANGE(&it, "A\xCC\x81", UCA_SAME_ACCENTS, "\x0A\x06\x8B\x8F\0", "\x0A\x06\x8B\x8F\x05"));
+    uca_close(&it);
+}
+
+/* Ranges and compact keys are those of what is read, too: `a07` is read as `a17`. */
+static void check_number_ranges(void)
+{
+    static const char key[] = "\x1C\x47\x1C\x3E\x1C\x44\0\0\0\x20\0\x20\0\x20\0\0\0\x02\0\x02\0\x02";
+    uca_collator it = UCA_CLOSED_COLLATOR;
+    uca_error error;
+    uint8_t out[ROOM];
+    size_t needed;
+    CHECK(opened(&it, DIGITS, DATA, UCA_NON_IGNORABLE, UCA_NUMERIC, &error) == UCA_OK);
+    CHECK(IS_RANGE(&it, "a07", UCA_SAME_LETTERS, "\x1C\x47\x1C\x3E\x1C\x44", "\x1C\x47\x1C\x3E\x1C\x44\0\x01"));
+    CHECK(IS_RANGE(&it, "a07", UCA_BEGINS, "\x1C\x47\x1C\x3E\x1C\x44", "\x1C\x47\x1C\x3E\x1C\x44\xFF\xFF"));
+    uca_close(&it);
+    CHECK(opened_compact(&it, DIGITS, DATA, BOOK, UCA_NON_IGNORABLE, UCA_NUMERIC, &error) == UCA_OK);
+    CHECK(uca_key(&it, BYTES("a07"), out, ROOM, &needed) == UCA_OK && needed < sizeof key - 1);
+    CHECK(makes(uca_expand, &it, out, needed, key, sizeof key - 1));
     uca_close(&it);
 }
 
@@ -653,7 +750,7 @@ static void check_closed_upgrade(void)
     uca_close_upgrade(&closed);
     CHECK(!closed.is_open);
     CHECK(opened_upgrade(&closed, &SIX, 3, UCA_WEIGHTS, &error) == UCA_ARGUMENT && is_error(&error, 0, 0, 0, 0, 0, 0));
-    CHECK(opened_upgrade(&closed, &SIX, UCA_BY_TABLE, 2, &error) == UCA_ARGUMENT && is_error(&error, 0, 0, 0, 0, 0, 0) && !closed.is_open);
+    CHECK(opened_upgrade(&closed, &SIX, UCA_BY_TABLE, 4, &error) == UCA_ARGUMENT && is_error(&error, 0, 0, 0, 0, 0, 0) && !closed.is_open);
 }
 
 /* Whether the key of a text by the old files becomes its key by the new ones. */
@@ -714,6 +811,45 @@ static void check_upgrade(void)
     uca_close_upgrade(&moved);
 }
 
+/* The digit 2 has another weight in the new table, and so has 7, whose weight the certificate moves. */
+static const six NUMBERS = {{"@version 1\n0030 ; [.1C3D.0020.0002]\n0031 ; [.1C3E.0020.0002]\n"
+                             "0032 ; [.1C3F.0020.0002]\n0037 ; [.1C44.0020.0002]\n",
+                             ACCENT,
+                             "@version 2\n0030 ; [.1C3D.0020.0002]\n0031 ; [.1C3E.0020.0002]\n"
+                             "0032 ; [.1C40.0020.0002]\n0037 ; [.1C45.0020.0002]\n",
+                             ACCENT, "@changes 1\ntext 0032\n",
+                             "1 1C3D 1C3D 0002\n1 1C44 1C45 0001\n2 0020 0020 0001\n3 0002 0002 0001\n"}};
+
+/* What sha256sum prints of the text that uca.h states, with the line of numbers and those of the files. */
+static const char OLD_NUMBERS_SUM[] = "9406b6d01d7999c87c2ce6bdb00f377669bc11769f36eac06cb78fea09117ce4";
+static const char NEW_NUMBERS_SUM[] = "d45918e2b67ab7d758bcf25f0e4c025d13bc59b6fe50eb4d5291d64a74ce9985";
+
+/* `10` is read as `210`, and `7` as `17`. */
+static void check_number_upgrade(void)
+{
+    uca_upgrade it = UCA_CLOSED_UPGRADE;
+    uca_collator before = UCA_CLOSED_COLLATOR, after = UCA_CLOSED_COLLATOR;
+    uca_upgrade_error error;
+    uca_error its;
+    uint32_t numbers = UCA_IDENTICAL | UCA_NUMERIC;
+    CHECK(opened_upgrade(&it, &NUMBERS, UCA_NON_IGNORABLE, UCA_WEIGHTS, &error) == UCA_OK);
+    CHECK(is_affected(&it, BYTES("10"), 0) && is_affected(&it, BYTES("7"), 0) && is_affected(&it, BYTES("002"), 1));
+    uca_close_upgrade(&it);
+    CHECK(opened_upgrade(&it, &NUMBERS, UCA_NON_IGNORABLE, UCA_NUMERIC, &error) == UCA_OK);
+    CHECK(is_affected(&it, BYTES("10"), 1) && is_affected(&it, BYTES("7"), 0) && is_affected(&it, BYTES("002"), 1));
+    CHECK(BECOMES(&it, "\x1C\x3E\x1C\x44\0\0\0\x20\0\x20\0\0\0\x02\0\x02",
+                  "\x1C\x3E\x1C\x45\0\0\0\x20\0\x20\0\0\0\x02\0\x02"));
+    CHECK(has_sums(&it, UCA_OK, OLD_NUMBERS_SUM, NEW_NUMBERS_SUM));
+    uca_close_upgrade(&it);
+    CHECK(opened_upgrade(&it, &NUMBERS, UCA_SHIFTED, numbers, &error) == UCA_OK);
+    CHECK(opened(&before, NUMBERS.files[0], ACCENT, UCA_SHIFTED, numbers, &its) == UCA_OK);
+    CHECK(opened(&after, NUMBERS.files[2], ACCENT, UCA_SHIFTED, numbers, &its) == UCA_OK);
+    CHECK(is_renewed(&it, &before, &after, BYTES("007")) && is_renewed(&it, &before, &after, BYTES("0 7")));
+    uca_close_upgrade(&it);
+    uca_close(&before);
+    uca_close(&after);
+}
+
 static void check_too_long(void)
 {
     uca_upgrade it = UCA_CLOSED_UPGRADE;
@@ -760,6 +896,9 @@ static void check_upgrades(void)
     check_renewed(UCA_SHIFTED, UCA_WEIGHTS);
     check_renewed(UCA_BY_TABLE, UCA_IDENTICAL);
     check_renewed(UCA_NON_IGNORABLE, UCA_IDENTICAL);
+    check_renewed(UCA_SHIFTED, UCA_NUMERIC);
+    check_renewed(UCA_BY_TABLE, UCA_IDENTICAL | UCA_NUMERIC);
+    check_number_upgrade();
     check_too_long();
     check_upgrade_threads();
 }
@@ -799,9 +938,13 @@ int main(void)
     check_lock(&it);
     check_moved(&it);
     check_identical();
+    check_digits_as_text();
+    check_numbers();
+    check_long_numbers();
     check_open_compact();
     check_compact_keys();
     check_ranges();
+    check_number_ranges();
     check_compact_fingerprint();
     check_upgrades();
     check_texts();

@@ -1,4 +1,5 @@
-/* keys TABLE DATA [non-ignorable|shifted [identical]]: prints the sort key of each line of standard input, as `uca keys` does. */
+/* keys TABLE DATA [non-ignorable|shifted [identical] [numeric]]: prints the sort key of each line of standard input, as
+   `uca keys` does. */
 #include "uca.h"
 
 #include <stdio.h>
@@ -45,7 +46,7 @@ static void print_groups(const uint8_t *key, size_t from, size_t end)
 static size_t weights_end(const uint8_t *key, size_t length, uint32_t depth, int levels)
 {
     size_t i = 0;
-    for (int separators = 0; depth == UCA_IDENTICAL && i < length; i += 2) {
+    for (int separators = 0; (depth & UCA_IDENTICAL) && i < length; i += 2) {
         separators += key[i] == 0 && key[i + 1] == 0;
         if (separators == levels) {
             return i + 2;
@@ -88,13 +89,22 @@ static uint32_t print_keys(uca_collator *collator, uint32_t depth, int levels)
     return status;
 }
 
+static uint32_t depth_of(int count, char **words)
+{
+    uint32_t depth = UCA_WEIGHTS;
+    for (int i = 0; i < count; i++) {
+        depth |= !strcmp(words[i], "identical") ? UCA_IDENTICAL : !strcmp(words[i], "numeric") ? UCA_NUMERIC : 0;
+    }
+    return depth;
+}
+
 int main(int count, char **words)
 {
     const char *asked = count > 3 ? words[3] : "";
     uint32_t weighting = !strcmp(asked, "non-ignorable") ? UCA_NON_IGNORABLE : !strcmp(asked, "shifted") ? UCA_SHIFTED : UCA_BY_TABLE;
-    uint32_t depth = count > 4 && !strcmp(words[4], "identical") ? UCA_IDENTICAL : UCA_WEIGHTS;
+    uint32_t depth = count > 4 ? depth_of(count - 4, words + 4) : UCA_WEIGHTS;
     if (count < 3) {
-        fputs("usage: keys TABLE DATA [non-ignorable|shifted [identical]]\n", stderr);
+        fputs("usage: keys TABLE DATA [non-ignorable|shifted [identical] [numeric]]\n", stderr);
         return 2;
     }
     bytes table = read_file(words[1]), data = read_file(words[2]);

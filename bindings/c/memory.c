@@ -155,6 +155,39 @@ static bool use(opened *opened)
     return known && status == UCA_OK && other == UCA_OK && third == UCA_OK;
 }
 
+static const char DIGITS[] = "@version 1\n0030 ; [.1C3D.0020.0002]\n0031 ; [.1C3E.0020.0002]\n"
+                             "0037 ; [.1C44.0020.0002]\n";
+static const uint8_t NUMBER_KEY[] = {0x1C, 0x3E, 0x1C, 0x44, 0, 0, 0,    0x20, 0, 0x20, 0, 0,
+                                     0,    2,    0,    2,    0, 0, 0, 0, 0x30, 0, 0,    0x37};
+
+/* Opens with numbers by value, makes a key and compares. `07` is read as `17`. Returns whether nothing failed. */
+static bool use_numbers(opened *opened)
+{
+    uca_collator *it = &opened->collator;
+    uca_error error = {7, 7};
+    uca_comparison found = {7, 7};
+    uint8_t key[64] = {0xEE}, low[64] = {0xEE};
+    size_t needed = 7;
+    if (!it->is_open) {
+        uint32_t depth = UCA_IDENTICAL | UCA_NUMERIC;
+        uint32_t status = uca_open(it, BYTES(DIGITS), BYTES(DATA), UCA_NON_IGNORABLE, depth, &error);
+        CHECK(status == UCA_OK ? it->is_open : can_fail() && is_memory(status, &error) && !it->is_open);
+        if (status != UCA_OK) {
+            return false;
+        }
+    }
+    uint32_t status = uca_key(it, BYTES("07"), key, sizeof key, &needed);
+    bool is_key = is_made(status, key, needed, NUMBER_KEY, sizeof NUMBER_KEY);
+    status = uca_range(it, BYTES("07"), UCA_SAME_LETTERS, UCA_LOW, low, sizeof low, &needed);
+    bool is_low = is_made(status, low, needed, NUMBER_KEY, 4);
+    uint32_t other = uca_compare(it, BYTES("7"), BYTES("10"), &found);
+    CHECK(other == UCA_OK ? found.order == -1 : can_fail() && other == UCA_MEMORY && found.order == 0);
+    int32_t order = 7;
+    uint32_t third = uca_order(it, BYTES("07"), BYTES("7"), &order);
+    CHECK(third == UCA_OK ? order == -1 : can_fail() && third == UCA_MEMORY && order == 0);
+    return is_key && is_low && other == UCA_OK && third == UCA_OK;
+}
+
 /* In the new edition b has another weight, and c is there. */
 static const char NEW_TABLE[] = "@version 2\n0061 ; [.1C47.0020.0002]\n0062 ; [.1C70.0020.0002]\n0063 ; [.1C60.0020.0002]\n0301 ; [.0000.0024.0002]\n";
 static const char OLD_TABLE[] = "@version 1\n0061 ; [.1C47.0020.0002]\n0062 ; [.1C60.0020.0002]\n0301 ; [.0000.0024.0002]\n";
@@ -172,14 +205,14 @@ static bool is_upgrade_memory(uint32_t status, const uca_upgrade_error *error)
     return error->condition == 0 && error->place == 0 && error->number == 0 && ((status == UCA_FILE && in_file) || (status == UCA_MEMORY && in_none));
 }
 
-/* Opens an upgrade, judges a text and moves a key. Returns whether nothing failed. */
+/* Opens an upgrade with numbers by value, judges a text and moves a key. Returns whether nothing failed. */
 static bool use_upgrade(opened *opened)
 {
     uca_upgrade *it = &opened->upgrade;
     uca_upgrade_error error = {7, 7, 7, 7, 7, 7};
     if (!it->is_open) {
         uint32_t status = uca_open_upgrade(it, BYTES(OLD_TABLE), BYTES(ACCENT), BYTES(NEW_TABLE), BYTES(ACCENT), BYTES(CHANGES), BYTES(MAPS),
-                                           UCA_NON_IGNORABLE, UCA_WEIGHTS, &error);
+                                           UCA_NON_IGNORABLE, UCA_NUMERIC, &error);
         CHECK(status == UCA_OK ? it->is_open : can_fail() && is_upgrade_memory(status, &error) && !it->is_open);
         if (status != UCA_OK) {
             return false;
@@ -188,9 +221,9 @@ static bool use_upgrade(opened *opened)
     uint32_t affected = 7, others = 7;
     uint8_t key[64] = {0xEE};
     size_t needed = 7;
-    uint32_t status = uca_affected(it, BYTES("bc\xCC\x81"), &affected);
+    uint32_t status = uca_affected(it, BYTES("10c\xCC\x81"), &affected);
     CHECK(status == UCA_OK ? affected == 1 : can_fail() && status == UCA_MEMORY && affected == 0);
-    uint32_t other = uca_affected(it, BYTES("b\xCC\x81"), &others);
+    uint32_t other = uca_affected(it, BYTES("10\xCC\x81"), &others);
     CHECK(others == 0 && (other == UCA_OK || (can_fail() && other == UCA_MEMORY)));
     uint32_t third = uca_rekey(it, OLD_KEY, sizeof OLD_KEY, key, sizeof key, &needed);
     return is_made(third, key, needed, NEW_KEY, sizeof NEW_KEY) && status == UCA_OK && other == UCA_OK;
@@ -233,7 +266,13 @@ static long run_all(bool uses(opened *))
 
 int main(void)
 {
-    long count = run_all(use), compact_count = run_all(use_compact), upgrade_count = run_all(use_upgrade);
-    printf("%ld runs, %ld checks failed\n", 2 * (count + compact_count + upgrade_count), failed);
-    return failed != 0 || count == 0 || compact_count == 0 || upgrade_count == 0;
+    bool (*const uses[])(opened *) = {use, use_compact, use_numbers, use_upgrade};
+    long all = 0;
+    for (size_t i = 0; i < sizeof uses / sizeof *uses; i++) {
+        long count = run_all(uses[i]);
+        CHECK(count > 0);
+        all += count;
+    }
+    printf("%ld runs, %ld checks failed\n", 2 * all, failed);
+    return failed != 0;
 }

@@ -1,5 +1,5 @@
-/* Calls of uca.h over texts, tables and letters in many numbers: around powers of two, around round numbers, and random
-   ones. There is memory to spare, so no call may say UCA_MEMORY. Prints a line for each check that fails, and how many
+/* Calls of uca.h over texts, digits, tables and letters in many numbers: around powers of two, around round numbers, and
+   random ones. There is memory to spare, so no call may say UCA_MEMORY. Prints a line for each check that fails, and how many
    passed; its status is 1 if one failed. */
 #include "uca.h"
 
@@ -177,6 +177,42 @@ static void check_pages(void)
     uca_close(&it);
 }
 
+/* A number of so many digits 7 is read after its length: 1 to 8, 91 to 98, 991 to 998 and so on. */
+static void check_number(uca_collator *it, size_t digits)
+{
+    size_t nines = (digits - 1) / 8, points = nines + 1 + digits, length = 6 * points + 4, needed;
+    const char last[] = {0x20, (char)('1' + (digits - 1) % 8)};
+    uint8_t *text = memory(digits), *key = memory(length), *out = memory(length);
+    memset(text, '7', digits);
+    uint8_t *at = put(put(put(key, "\x20\x39", 2, nines), last, 2, 1), "\x20\x37", 2, digits);
+    at = put(put(at, "\0\0", 2, 1), "\0\x20", 2, points);
+    put(put(at, "\0\0", 2, 1), "\0\x02", 2, points);
+    uint32_t status = uca_key(it, text, digits, out, length, &needed);
+    check(status == UCA_OK && needed == length && !memcmp(out, key, length), "the key of a number", digits);
+    free(out);
+    free(key);
+    free(text);
+}
+
+/* Each digit has the weight 2000 and its code point. */
+static void check_numbers(void)
+{
+    char table[512];
+    size_t length = (size_t)sprintf(table, "%s", HEAD);
+    for (int digit = '0'; digit <= '9'; digit++) {
+        length += (size_t)sprintf(table + length, "%04X ; [.20%02X.0020.0002]\n", digit, digit);
+    }
+    uca_collator it = UCA_CLOSED_COLLATOR;
+    uca_error error;
+    uint32_t weighting = UCA_NON_IGNORABLE, status;
+    status = uca_open(&it, (const uint8_t *)table, length, BYTES(DATA), weighting, UCA_NUMERIC, &error);
+    check(status == UCA_OK, "uca_open with numbers by value", 0);
+    for (size_t i = 0; i < count; i++) {
+        check_number(&it, sizes[i] + 1);
+    }
+    uca_close(&it);
+}
+
 static uint32_t weight_of(size_t number)
 {
     return 0x1000 + number % 0x8000;
@@ -220,6 +256,7 @@ int main(void)
 {
     choose_sizes();
     check_texts();
+    check_numbers();
     check_pages();
     check_tables();
     printf("%d passed, %d failed\n", passed, failed);

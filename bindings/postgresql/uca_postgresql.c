@@ -1,5 +1,6 @@
 /* The extension of PostgreSQL: sort keys of texts, by the files that the settings uca.table_file and uca.data_file name. Where
-   uca.book_file names a book, keys are compact by it.
+   uca.book_file names a book, keys are compact by it. The settings uca.weighting, uca.identical and uca.numeric say how
+   texts are compared.
 
    The server reads these files once, when it starts, so no setting and no file changes an order while it runs. But keys that a
    database keeps may come from an earlier start or from another server. So uca_key(text) compares the fingerprints in the
@@ -68,7 +69,7 @@ typedef struct {
 static Names names, next_names;
 static char *changes_name, *certificate_name;
 static int weighting = UCA_BY_TABLE;
-static bool identical = false;
+static bool identical = false, by_value = false;
 
 static const struct config_enum_entry WEIGHTINGS[] = {
     {"table", UCA_BY_TABLE, false}, {"non-ignorable", UCA_NON_IGNORABLE, false}, {"shifted", UCA_SHIFTED, false}, {NULL, 0, false}};
@@ -156,6 +157,12 @@ static bool read_file(const char *setting, const char *name, StringInfo bytes, c
     return is_read;
 }
 
+/* A uca_depth: how far texts are compared, and how their numbers are. */
+static uint32 depth_asked(void)
+{
+    return (identical ? UCA_IDENTICAL : UCA_WEIGHTS) | (by_value ? UCA_NUMERIC : 0);
+}
+
 /* Makes the fingerprint of an edition's files and settings. */
 static uint32 make_fingerprint(Edition *edition, Files *files, uint32 depth, uca_error *error)
 {
@@ -173,7 +180,7 @@ static uint32 make_fingerprint(Edition *edition, Files *files, uint32 depth, uca
 /* Opens the collator of an edition by its files, or says why not. */
 static void open_files(Edition *edition, Files *files)
 {
-    uint32 depth = identical ? UCA_IDENTICAL : UCA_WEIGHTS, status;
+    uint32 depth = depth_asked(), status;
     uca_error error = {0, 0};
 
     status = make_fingerprint(edition, files, depth, &error);
@@ -230,7 +237,7 @@ static void read_upgrade(Files *old, Files *new)
         read_file("uca.certificate_file", certificate_name, &certificate, next.reason)) {
         status = uca_open_upgrade(&upgrade, (uint8 *) old->table.data, old->table.len, (uint8 *) old->data.data, old->data.len,
                                   (uint8 *) new->table.data, new->table.len, (uint8 *) new->data.data, new->data.len, (uint8 *) changes.data,
-                                  changes.len, (uint8 *) certificate.data, certificate.len, weighting, identical ? UCA_IDENTICAL : UCA_WEIGHTS,
+                                  changes.len, (uint8 *) certificate.data, certificate.len, weighting, depth_asked(),
                                   &error);
         if (status != UCA_OK)
             tell_upgrade_error(status, &error);
@@ -301,6 +308,8 @@ static void define_settings(void)
                              PGC_POSTMASTER, 0, NULL, NULL, NULL);
     DefineCustomBoolVariable("uca.identical", "Whether texts that are equal by all weights are ordered by their code points.", NULL,
                              &identical, false, PGC_POSTMASTER, 0, NULL, NULL, NULL);
+    DefineCustomBoolVariable("uca.numeric", "Whether numbers are ordered by their values: 9 before 10.", NULL,
+                             &by_value, false, PGC_POSTMASTER, 0, NULL, NULL, NULL);
 }
 
 void _PG_init(void)
@@ -462,6 +471,22 @@ bool has_its_files(Oid function)
     return present.collator.is_open && GetDatabaseEncoding() == PG_UTF8 && !found_other(function);
 }
 
+bool has_numbers_by_value(void)
+{
+    return by_value;
+}
+
+bool is_too_long(const struct varlena *given)
+{
+    const char *bytes = VARDATA_ANY(given);
+    size_t length = VARSIZE_ANY_EXHDR(given), counted = length;
+
+    if (by_value && length > MOST_TEXT)
+        for (size_t i = 0; i < length; i++)
+            counted -= bytes[i] == '0';
+    return counted > MOST_TEXT;
+}
+
 uca_collator *present_collator(void)
 {
     return &present.collator;
@@ -556,8 +581,11 @@ static uint32 write_value(const Request *asked, const struct varlena *given, siz
     size_t length = VARSIZE_ANY_EXHDR(given), room = Min(6 * length + SPARE, MOST_VALUE - before), needed = 0;
     uint32 status;
 
-    if (length > MOST_TEXT && (asked->made == KEY || asked->made == RANGE))
-        return UCA_TOO_LONG;
+    if (asked->made == KEY || asked->made == RANGE) {
+        if (is_too_long(given))
+            return UCA_TOO_LONG;
+        room = 6 * Min(length, MOST_TEXT) + SPARE;
+    }
     *value = new_value(before + room);
     status = try_make(asked, bytes, length, (uint8 *) VARDATA(*value) + before, room, &needed);
     if (status == UCA_SMALL) {
@@ -651,7 +679,7 @@ static Datum affected_of(FunctionCallInfo fcinfo)
     size_t length = VARSIZE_ANY_EXHDR(given);
     uint32 affected = 1, status = UCA_TOO_LONG;
 
-    if (length <= MOST_TEXT)
+    if (!is_too_long(given))
         status = uca_affected(&upgrade, (const uint8 *) VARDATA_ANY(given), length, &affected);
     if (status == UCA_MEMORY)
         ereport(ERROR, (errcode(ERRCODE_OUT_OF_MEMORY), errmsg("uca: out of memory")));

@@ -8,11 +8,18 @@
 
 #include "uca.h"
 
-/* A text with more bytes has more than 1,048,576 code points, since each has four at most. So it is too long. */
+/* A text with more bytes has more than 1,048,576 code points, since each has four at most. */
 #define MOST_TEXT (4 * 1048576)
 
 /* Not for other extensions of the same server. */
 #pragma GCC visibility push(hidden)
+
+/* Whether numbers are ordered by their values. */
+extern bool has_numbers_by_value(void);
+
+/* Whether a text is too long by its bytes alone. Where numbers are ordered by their values, zeros are not counted,
+   since those before a number are not read. So the library may find a text too long that is not so here. */
+extern bool is_too_long(const struct varlena *given);
 
 /* What keys are made and texts are ordered by, for as long as the server runs. It is closed if the server has no files. */
 extern uca_collator *present_collator(void);

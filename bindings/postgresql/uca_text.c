@@ -93,7 +93,7 @@ static uint32 make_key(const struct varlena *given, Room *key, size_t *length)
     size_t text_length = VARSIZE_ANY_EXHDR(given);
     uint32 status;
 
-    if (text_length > MOST_TEXT)
+    if (is_too_long(given))
         return UCA_TOO_LONG;
     status = uca_key(present_collator(), bytes, text_length, key->bytes, key->room, length);
     if (status == UCA_SMALL) {
@@ -173,16 +173,18 @@ static const char FREQUENT[] = " abcdefghijklmnopqrstuvwxyz0123456789-.,'абв�
 /* The byte of each weight. It is 0 for the end of level 1. */
 static uint8 byte_of[65536];
 
-/* Marks the first weight of this letter as frequent, unless it is already. Returns whether it did. */
+/* Marks the first weight of this letter as frequent, unless it is already. Returns whether it did. Where numbers are
+   ordered by their values, a digit is read after the number of digits. So its weight is the second one. */
 static bool mark_frequent(const char *letter, size_t length)
 {
     uint8 key[MOST_KEYS];
-    size_t key_length;
+    size_t at = has_numbers_by_value() && *letter >= '0' && *letter <= '9' ? 2 : 0, key_length;
+    uint32 status = uca_key(present_collator(), (const uint8 *) letter, length, key, sizeof key, &key_length);
     uint16 weight;
 
-    if (uca_key(present_collator(), (const uint8 *) letter, length, key, sizeof key, &key_length) != UCA_OK || key_length < 2)
+    if (status != UCA_OK || key_length < at + 2)
         return false;
-    weight = (uint16) (key[0] << 8 | key[1]);
+    weight = (uint16) (key[at] << 8 | key[at + 1]);
     if (weight == 0 || byte_of[weight] != 0)
         return false;
     byte_of[weight] = 1;

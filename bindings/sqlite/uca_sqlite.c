@@ -4,9 +4,10 @@
 
    reads the files for this connection, and returns their fingerprint: 64 hexadecimal digits of what uca_fingerprint in uca.h makes,
    or uca_compact_fingerprint where there is a book. The weighting is 'shifted' or 'non-ignorable', and else that of the table. The
-   depth is 'weights' or 'identical'. A book is a file too, and keys are compact by it. An empty text or NULL in place of one of these
-   is as if it were not there. Where a fingerprint is given, the files and settings have to have it. 'unchecked' is none. Say the
-   fingerprint is e7f5..:
+   depth is 'weights', 'identical', 'numeric' or 'identical numeric'. With 'numeric', numbers are ordered by their
+   values: 'file 9' comes before 'file 10'. A book is a file too, and keys are compact by it. An empty text or NULL in
+   place of one of these is as if it were not there. Where a fingerprint is given, the files and settings have to have
+   it. 'unchecked' is none. Say the fingerprint is e7f5..:
 
      uca_key(text, 'e7f5..')                  the sort key, a blob; NULL for NULL; an error for a blob, for a real number, and for a text
                                               that is rejected
@@ -706,13 +707,18 @@ static int read_arguments(sqlite3_context *context, const char *name, int count,
 /* The numbers of three texts: a weighting, a depth, and a fingerprint, which is argument `which`. It returns 0 after an error. */
 static int read_settings(sqlite3_context *context, const char *name, const char *which, const char *const *texts, uint32_t *weighting, uint32_t *depth)
 {
-    static const char *const WEIGHTINGS[] = {"", "non-ignorable", "shifted"}, *const DEPTHS[] = {"weights", "identical"};
+    static const char *const WEIGHTINGS[] = {"", "non-ignorable", "shifted"};
+    static const char *const DEPTHS[] = {[UCA_WEIGHTS] = "weights",
+                                         [UCA_IDENTICAL] = "identical",
+                                         [UCA_NUMERIC] = "numeric",
+                                         [UCA_IDENTICAL | UCA_NUMERIC] = "identical numeric"};
     *weighting = number_of(texts[0], WEIGHTINGS, 3);
-    *depth = number_of(texts[1], DEPTHS, 2);
+    *depth = number_of(texts[1], DEPTHS, 4);
     if (*weighting == 3) {
         give_error(context, sqlite3_mprintf("%s: the weighting is %!.60Q, not 'shifted' or 'non-ignorable'", name, texts[0]));
-    } else if (*depth == 2) {
-        give_error(context, sqlite3_mprintf("%s: the depth is %!.60Q, not 'weights' or 'identical'", name, texts[1]));
+    } else if (*depth == 4) {
+        const char *error = "%s: the depth is %!.60Q, not 'weights', 'identical', 'numeric' or 'identical numeric'";
+        give_error(context, sqlite3_mprintf(error, name, texts[1]));
     } else if (strcmp(texts[2], UNCHECKED) && !is_fingerprint(texts[2], strlen(texts[2]))) {
         give_error(context, sqlite3_mprintf("%s: the %s argument is no fingerprint of 64 lower-case hexadecimal digits, and not 'unchecked'", name, which));
     } else {

@@ -4,17 +4,23 @@
 #
 #     examples/databases/load_compact_postgresql.sh TABLE DATA BOOK LINES [OPTION OF uca keys..]
 #
-# The options are --weighting and --identical. It needs `uca` and `psql` on the path (Debian: postgresql-client); PGHOST, PGDATABASE and
-# so on name the database.
+# The options are --weighting, --identical and --numeric. It needs `uca` and `psql` on the path (Debian:
+# postgresql-client); PGHOST, PGDATABASE and so on name the database.
 set -euo pipefail
 table=$1 data=$2 book=$3 lines=$4
 shift 4
+
+# What is made of keys does not depend on --numeric, so `uca compact` does not take it.
+of_keys=()
+for option in "$@"; do
+    if [ "$option" != --numeric ]; then of_keys+=("$option"); fi
+done
 
 # KEY TAB LINE. These are files and no pipe, so that nothing is loaded where `uca` rejects a line.
 keyed=$(mktemp) compact=$(mktemp)
 trap 'rm -f "$keyed" "$compact"' EXIT
 uca keys --lines "$@" "$table" "$data" < "$lines" > "$keyed"
-uca compact "$@" "$book" < "$keyed" > "$compact"
+uca compact "${of_keys[@]}" "$book" < "$keyed" > "$compact"
 
 # The same signs as in load_postgresql.sh. -1 makes one transaction of it.
 sed -e 's/\\/\\\\/g' -e 's/\x00/\\000/g' -e 's/\t/\\t/2g' -e 's/\r/\\r/g' -e 's/^/\\\\x/' "$compact" |

@@ -4,16 +4,22 @@
 #
 #     examples/databases/load_compact_sqlite.sh TABLE DATA BOOK LINES DATABASE [OPTION OF uca keys..]
 #
-# The options are --weighting and --identical. It needs `uca` on the path, and the Debian package sqlite3.
+# The options are --weighting, --identical and --numeric. It needs `uca` on the path, and the Debian package sqlite3.
 set -euo pipefail
 table=$1 data=$2 book=$3 lines=$4 database=$5
 shift 5
+
+# What is made of keys does not depend on --numeric, so `uca compact` does not take it.
+of_keys=()
+for option in "$@"; do
+    if [ "$option" != --numeric ]; then of_keys+=("$option"); fi
+done
 
 # KEY TAB LINE. These are files and no pipe, so that nothing is loaded where `uca` rejects a line.
 keyed=$(mktemp) compact=$(mktemp)
 trap 'rm -f "$keyed" "$compact"' EXIT
 uca keys --lines "$@" "$table" "$data" < "$lines" > "$keyed"
-uca compact "$@" "$book" < "$keyed" > "$compact"
+uca compact "${of_keys[@]}" "$book" < "$keyed" > "$compact"
 
 {
     echo 'begin;'

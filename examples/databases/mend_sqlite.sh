@@ -10,6 +10,12 @@ set -euo pipefail
 table=$1 data=$2 rules=$3 tailored=$4 certificate=$5 database=$6
 shift 6
 
+# With --numeric, what is read of a text decides whether it is affected.
+numeric=()
+for option in "$@"; do
+    if [ "$option" = --numeric ]; then numeric=(--numeric); fi
+done
+
 made_by=$(uca keys --header "$@" "$table" "$data" < /dev/null)
 if [ "$(sqlite3 "$database" 'select header from made_by')" != "$made_by" ]; then
     echo 'the keys of the database were made by other files or settings' >&2
@@ -34,7 +40,7 @@ fi
 texts=$(mktemp) keyed=$(mktemp)
 trap 'rm -f "$texts" "$keyed"' EXIT
 sqlite3 "$database" 'select distinct word from words' > "$texts"
-uca affected "$data" "$rules" < "$texts" | uca keys --lines --header "$@" "$tailored" "$data" > "$keyed"
+uca affected "${numeric[@]}" "$data" "$rules" < "$texts" | uca keys --lines --header "$@" "$tailored" "$data" > "$keyed"
 
 {
     # Another program may have changed the keys since the test above: then the check fails, and all is taken back.

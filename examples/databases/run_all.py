@@ -130,7 +130,8 @@ def zero_bytes(bench, kind, *database):
 def try_sqlite(bench):
     """Order, ties and a lookup in SQLite."""
     zero_bytes(bench, "sqlite", bench.path("zero.db"))
-    for name, options in [("order", []), ("order with --identical", ["--identical"]), ("non-ignorable order", ["--weighting", "non-ignorable"])]:
+    orders = [("order", []), ("order with --identical", ["--identical"]), ("order with --numeric", ["--numeric"])]
+    for name, options in [*orders, ("non-ignorable order", ["--weighting", "non-ignorable"])]:
         database = bench.path("words.db")
         bench.example("load_sqlite.sh", bench.table, bench.data, bench.lines, database, *options)
         given = bench.run(["sqlite3", database, BY_KEY])
@@ -158,7 +159,7 @@ def try_postgresql(bench):
     with PostgreSQL(bench.room) as server:
         bench.environment.update(server.environment)
         zero_bytes(bench, "postgresql")
-        for name, options in [("order with --identical", ["--identical"]), ("order", [])]:
+        for name, *options in [("order with --identical", "--identical"), ("order with --numeric", "--numeric"), ("order",)]:
             bench.run(["psql", "-qc", "drop table if exists words"])
             bench.example("load_postgresql.sh", bench.table, bench.data, bench.lines, *options)
             given = bench.run(["psql", "-Atc", BY_KEY])
@@ -312,7 +313,7 @@ def try_workers(bench):
 
 # ---- After a tailoring
 
-STAYING, MOVING, OTHER = "&b < bh\n", "&b < bh <<< Bh\n", "&c < ch\n"
+STAYING, MOVING, OTHER, NUMBERS = "&b < bh\n", "&b < bh <<< Bh\n", "&c < ch\n", "&b < 21\n"
 
 
 def tailored(bench, name, rules):
@@ -333,6 +334,10 @@ def try_tailoring(bench):
         bench.example("load_postgresql.sh", bench.table, bench.data, bench.lines)
         mend(bench, "sqlite", ["sqlite3", database, BY_KEY], ["mend_sqlite.sh"], [database])
         mend(bench, "postgresql", ["psql", "-Atc", BY_KEY], ["mend_postgresql.sh"], [])
+        os.remove(database)
+        bench.run(["psql", "-qc", "drop table words"])
+        mend_numbers(bench, "sqlite", ["sqlite3", database, BY_KEY], [database])
+        mend_numbers(bench, "postgresql", ["psql", "-Atc", BY_KEY], [])
     others_keep_their_order(bench)
 
 
@@ -372,6 +377,25 @@ def mend(bench, kind, query, script, database):
     affected = bench.uca("affected", bench.data, rules, lines=lines)
     said = f"{affected.count(10):,} of {lines.count(10):,} lines are affected"
     bench.check(f"tailoring: {kind}: with these keys made again it is that of uca sort", bench.run(query) == wanted, said)
+
+
+def mend_numbers(bench, kind, query, database):
+    """With --numeric `b 10` is read as `b 210`, so a rule for `21` affects it."""
+    lines = bench.path("numbers.txt")
+    with open(lines, "w", encoding="utf-8") as file:
+        file.writelines(f"b {it}\n" for it in range(40))
+    rules, table, certificate = tailored(bench, "numbers", NUMBERS)
+    bench.example(f"load_{kind}.sh", bench.table, bench.data, lines, *database, "--numeric")
+    before, wanted = bench.run(query), bench.uca("sort", "--numeric", table, bench.data, lines=bench.content(lines))
+    given = [bench.table, bench.data, rules, table, certificate, *database]
+    try:
+        bench.example(f"mend_{kind}.sh", *given)
+        bench.check(f"tailoring: {kind}: keys with --numeric are seen", False)
+    except Failed as it:
+        said = "other files or settings" in str(it) and bench.run(query) == before
+        bench.check(f"tailoring: {kind}: keys with --numeric are seen", said)
+    bench.example(f"mend_{kind}.sh", *given, "--numeric")
+    bench.check(f"tailoring: {kind}: numbers by value", before != wanted and bench.run(query) == wanted)
 
 
 def others_keep_their_order(bench):
@@ -428,7 +452,8 @@ class Upgrade:
         """What a table of these lines holds under an edition: the header, the book, and each row with its key."""
         table, data, book = [self.bench.table, self.bench.data, self.new_book] if is_new else [self.old, self.old_data, self.book]
         keys = self.bench.uca("keys", *options, table, data, lines=self.bench.content(lines))
-        compact = self.bench.uca("compact", *options, book, lines=keys).split()
+        of_keys = [it for it in options if it != "--numeric"]
+        compact = self.bench.uca("compact", *of_keys, book, lines=keys).split()
         header = self.bench.uca("keys", "--header", *options, table, data, lines=b"")
         return header + self.bench.content(book) + b"".join(b"%d|%s\n" % row for row in enumerate(compact, 1))
 
@@ -499,6 +524,8 @@ def try_upgrade(bench):
             upgrade_is_killed(bench, upgrade, store)
             store.load(upgrade, upgrade.lines)
             upgrade_all(bench, upgrade, store, "texts", upgrade.lines)
+            store.load(upgrade, upgrade.lines, "--numeric")
+            upgrade_all(bench, upgrade, store, "texts", upgrade.lines, "--numeric")
             store.load(upgrade, upgrade.kept, "--weighting", "non-ignorable", "--identical")
             upgrade_all(bench, upgrade, store, "texts", upgrade.kept, "--weighting", "non-ignorable", "--identical")
             store.load(upgrade, upgrade.kept)

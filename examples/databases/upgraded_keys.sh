@@ -11,21 +11,26 @@
 set -euo pipefail
 export SHELL=/bin/bash LC_ALL=C
 
+# What is made of keys does not depend on --numeric, so `uca compact` and others do not take it.
+OF_KEYS=${OPTIONS//--numeric/}
+export NUMERIC=
+if [ "$OF_KEYS" != "$OPTIONS" ]; then NUMERIC=--numeric; fi
+
 cat > rows
 uca book "$CERTIFICATE" old.book > new.book
 
 # The affected rows: NUMBER TAB TEXT. The digits before a text may make it affected, and then its key is made again without need.
 : > affected
 if [ "$TEXTS" = texts ]; then
-    cut -f 2- rows | split -l 1000000 --filter='uca affected --changes "$NEW_DATA" "$CHANGES"' > affected
+    cut -f 2- rows | split -l 1000000 --filter='uca affected --changes $NUMERIC "$NEW_DATA" "$CHANGES"' > affected
 fi
 cut -f 1 affected > numbers
 
 # Their keys are made again from the texts. All other keys are mended.
 cut -f 2- affected | split -l 1000000 --filter='uca keys $OPTIONS "$NEW" "$NEW_DATA"' > whole
-uca compact $OPTIONS new.book < whole | paste - numbers > keys
+uca compact $OF_KEYS new.book < whole | paste - numbers > keys
 awk -F '\t' -v OFS='\t' 'FILENAME == "numbers" { is_affected[$1]; next } !($2 in is_affected) { print $1, $2 }' numbers rows > others
-uca expand $OPTIONS old.book < others | uca rekey $OPTIONS "$CERTIFICATE" | uca compact $OPTIONS new.book >> keys
+uca expand $OF_KEYS old.book < others | uca rekey $OF_KEYS "$CERTIFICATE" | uca compact $OF_KEYS new.book >> keys
 
 # The lines of `keys` that are no lines of the old ones.
 cut -f 1,2 rows | sort > before

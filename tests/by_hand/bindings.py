@@ -47,12 +47,17 @@ WANTS = ["g++", "pkgconf", "valgrind", "sqlite3", "libsqlite3-dev", "postgresql"
 
 FLAGS = ["-std=c11", "-Wall", "-Wextra", "-Wpedantic", "-Werror", "-D_POSIX_C_SOURCE=200809L", f"-I{C}/include"]
 LINES = ["lines.txt", "words_danish.txt", "words_spanish.txt", "words_swedish.txt"]
+# A weighting, and a depth as the extension of SQLite takes it.
 SETTINGS = [[], ["non-ignorable"], ["shifted"], ["non-ignorable", "identical"], ["shifted", "identical"]]
+SETTINGS += [["shifted", "numeric"], ["non-ignorable", "identical numeric"]]
+# Lines with numbers, which the files of examples/ do not have.
+NUMBERED = "a10\na9\na09\n\u00e12b10\n7\n007\n0\na99999999\na100000000\na 1\n12345678901234567890\n".encode()
 # Programs over the lines of standard input. The arguments are a table, a data file, a weighting, a depth, a fingerprint and a book; empty ones are none.
 COLLATOR = """
 import sys, uca
 table, data, weighting, depth, fingerprint, book, *texts = sys.argv[1:]
-collator = uca.Collator(table, data, weighting or None, depth == "identical", book=book or None, fingerprint=fingerprint)
+settings = {"weighting": weighting or None, "identical": "identical" in depth, "numeric": "numeric" in depth}
+collator = uca.Collator(table, data, **settings, book=book or None, fingerprint=fingerprint)
 lines = sys.stdin.buffer.read().removesuffix(b"\\n").split(b"\\n")
 """
 SORTER = COLLATOR + """
@@ -188,7 +193,12 @@ def page(work):
 
 
 def options(setting):
-    return [*(["--identical"] if "identical" in setting else []), *(word for it in setting if it != "identical" for word in ("--weighting", it))]
+    return [*(["--weighting", setting[0]] if setting else []), *(f"--{it}" for it in " ".join(setting[1:]).split())]
+
+
+def numbered(lines):
+    """The lines of a file of examples/, and lines with numbers."""
+    return content(f"{EXAMPLES}/{lines}") + NUMBERED
 
 
 def keys_like(program):
@@ -200,8 +210,9 @@ def keys_like(program):
         for lines in LINES:
             for setting in SETTINGS:
                 files = [f"{EXAMPLES}/table.txt", f"{EXAMPLES}/data.txt"]
-                wanted = run([program, "keys", *options(setting), *files], input=content(f"{EXAMPLES}/{lines}"))
-                same(run([f"{C}/out/keys", *files, *setting], input=content(f"{EXAMPLES}/{lines}")), wanted, f"keys of {lines}, {setting}")
+                wanted = run([program, "keys", *options(setting), *files], input=numbered(lines))
+                found = run([f"{C}/out/keys", *files, *" ".join(setting).split()], input=numbered(lines))
+                same(found, wanted, f"keys of {lines}, {setting}")
 
     return check
 
@@ -215,12 +226,12 @@ def sorted_like(program):
         for lines in LINES:
             for setting in SETTINGS:
                 files = [f"{EXAMPLES}/table.txt", f"{EXAMPLES}/data.txt"]
-                wanted = run([program, "sort", *options(setting), *files], input=content(f"{EXAMPLES}/{lines}"))
-                weighting = next((it for it in setting if it != "identical"), "")
-                depth = "identical" if "identical" in setting else "weights"
+                wanted = run([program, "sort", *options(setting), *files], input=numbered(lines))
+                weighting, depth = (*setting, "weights")[:2] if setting else ("", "weights")
                 for book in (None, BOOK):
                     words = [sys.executable, "-c", SORTER, *files, weighting, depth, fingerprint_of(*files, weighting or "shifted", depth, book), book or ""]
-                    same(run(words, input=content(f"{EXAMPLES}/{lines}"), env=python_environment()), wanted, f"order of {lines}, {setting}, {book}")
+                    found = run(words, input=numbered(lines), env=python_environment())
+                    same(found, wanted, f"order of {lines}, {setting}, {book}")
 
     return check
 
@@ -267,9 +278,11 @@ def wheel(work):
 
 
 def fingerprint_of(table, data, weighting="shifted", depth="weights", book=None):
-    """The fingerprint of files and their settings, as uca.h says: of compact keys if there is a book."""
+    """The fingerprint of files and settings, as uca.h says: of compact keys if there is a book."""
     sums = [hashlib.sha256(content(it)).hexdigest() for it in (table, data)]
-    text = f"uca keys 1\nunicode 18.0.0\nweighting {weighting}\ndepth {depth}\ntable {sums[0]}\ndata {sums[1]}\n"
+    its_depth = "depth identical\n" if "identical" in depth else "depth weights\n"
+    its_depth += "numbers by value\n" if "numeric" in depth else ""
+    text = f"uca keys 1\nunicode 18.0.0\nweighting {weighting}\n{its_depth}table {sums[0]}\ndata {sums[1]}\n"
     keys = hashlib.sha256(text.encode()).hexdigest()
     if book is None:
         return keys
@@ -299,11 +312,12 @@ def small_book(folder):
 MADE_BY_OTHERS = f"uca_key: the files of fingerprint {USED} are not loaded; loaded: {OTHER}"
 NO_COLLATION = f"no such collation sequence: uca_{USED}"
 NO_FINGERPRINT = "is no fingerprint of 64 lower-case hexadecimal digits"
+NO_DEPTH = "not 'weights', 'identical', 'numeric' or 'identical numeric'"
 
 
-def sqlite_load(table=TABLE, data=DATA, weighting="shifted", book=None):
+def sqlite_load(table=TABLE, data=DATA, weighting="shifted", book=None, depth=""):
     """A statement that loads files, and prints nothing."""
-    more = f", '', 'unchecked', '{book}'" if book else ""
+    more = f", '{depth}', 'unchecked', '{book or ''}'" if book or depth else ""
     return f"SELECT 0 WHERE uca_load('{table}', '{data}', '{weighting}'{more}) IS NULL;"
 
 
@@ -394,7 +408,8 @@ def sqlite_loads(work):
         (f"'{DATA}'", "uca_load: the table: line 1: Line"),
         (f"'{TABLE}', '{TABLE}'", "uca_load: the data file: line 1: Order"),
         (f"'{TABLE}', '{DATA}', 'SHIFTED'", "uca_load: the weighting is 'SHIFTED', not 'shifted' or 'non-ignorable'"),
-        (f"'{TABLE}', '{DATA}', '', 'deep'", "uca_load: the depth is 'deep', not 'weights' or 'identical'"),
+        (f"'{TABLE}', '{DATA}', '', 'deep'", f"uca_load: the depth is 'deep', {NO_DEPTH}"),
+        (f"'{TABLE}', '{DATA}', '', 'numeric identical'", f"uca_load: the depth is 'numeric identical', {NO_DEPTH}"),
         (f"'{TABLE}', '{DATA}', 'shifted', '', ''", f"uca_load: the fifth argument {NO_FINGERPRINT}"),
         (f"'{TABLE}', '{DATA}', 'shifted', '', NULL", f"uca_load: the fifth argument {NO_FINGERPRINT}"),
         (f"'{TABLE}', '{DATA}', 'shifted', '', '{USED[:32]}'", f"uca_load: the fifth argument {NO_FINGERPRINT}"),
@@ -636,6 +651,52 @@ def sqlite_memory(work):
     run([f"{work}/memory", f"{TOP}/bindings/sqlite/out/uca", TABLE, DATA, USED, BOOK, COMPACT, f"{EXAMPLES}/editions", NEXT])
 
 
+# Rows of the ten digits, whose weights rise from 1C3D on. In the next edition the digit 2 has another weight.
+DIGITS = "".join(f"003{it} ; [.1C{0x3D + it:02X}.0020.0002]\n" for it in range(10))
+VOLUMES = "('Band 10'), ('Band 2'), ('Band 1'), ('Band 02'), ('Band 1a'), ('Band 100')"
+IN_VALUES = "Band 1,Band 1a,Band 02,Band 2,Band 10,Band 100"
+DIGIT_MAPS = ["1 0209 0209 0001", "1 020D 020D 0001", "1 1AA0 1AA0 0001", "1 1C3D 1C3D 0002", "1 1C40 1C40 0008"]
+DIGIT_MAPS += [f"1 {it} {it} 0001" for it in ("1C60", "1C7A", "1C7B", "1C8F", "1D18")]
+DIGIT_MAPS += ["2 0020 0020 0001", "2 0024 0024 0002", "2 002C 002C 0001", "3 0002 0002 0001", "3 0008 0008 0001"]
+
+
+def digit_files(folder):
+    """The six files of an upgrade of the digits, in this folder."""
+    old = content(TABLE).decode() + DIGITS
+    new = old.replace("@version 1", "@version 2").replace("0032 ; [.1C3F", "0032 ; [.1C50")
+    maps = "".join(it + "\n" for it in DIGIT_MAPS)
+    for name, text in (("old", old), ("new", new), ("changes", "@changes 1\ntext 0032\n"), ("maps", maps)):
+        with open(f"{folder}/{name}.txt", "w", encoding="utf-8") as it:
+            it.write(text)
+    return [f"{folder}/old.txt", DATA, f"{folder}/new.txt", DATA, f"{folder}/changes.txt", f"{folder}/maps.txt"]
+
+
+def sqlite_numbers(work):
+    """Numbers by their values: `7` is read as `17`, and `10` as `210`."""
+    files = digit_files(work)
+    used, as_text = (fingerprint_of(*files[:2], depth=it) for it in ("numeric", "weights"))
+    load, key = sqlite_load(files[0], depth="numeric"), f"uca_key(name, '{used}')"
+    keys = f"SELECT hex(uca_key('7', '{used}')), uca_key('007', '{used}') = uca_key(7, '{used}');"
+    same(sqlite_says(work, keys, load=load), "1C3E1C440000002000200000000200020000FFFFFFFF|1\n", keys)
+    made = f"CREATE TABLE volumes(name TEXT); INSERT INTO volumes VALUES {VOLUMES}; CREATE INDEX i ON volumes({key});"
+    for it in (key, f"name COLLATE uca_{used}"):
+        ordered = f"SELECT group_concat(name) FROM (SELECT name FROM volumes ORDER BY {it}, name);"
+        same(sqlite_says(work, made, ordered, load=load), f"{IN_VALUES}\n", ordered)
+    low, high = (f"uca_prefix_{it}('Band 1', '{used}')" for it in ("low", "high"))
+    begins = f"SELECT count(*), min(name), max(name) FROM volumes WHERE {key} >= {low} AND {key} < {high};"
+    same(sqlite_says(work, made, begins, load=load), "2|Band 1|Band 1a\n", "what begins with a number")
+    not_loaded = f"uca_key: the files of fingerprint {used} are not loaded; loaded: {as_text}"
+    sqlite_fails(work, not_loaded, f"SELECT uca_key('7', '{used}');", load=sqlite_load(files[0]))
+    for depth, affected in (("numeric", "1|0|1"), ("weights", "0|0|1"), ("identical numeric", "1|0|1")):
+        old, new = (fingerprint_of(*files[at : at + 2], depth=depth) for at in (0, 2))
+        arguments = quoted_list(files, [quoted("shifted"), quoted(depth), quoted(old)])
+        loads = sqlite_load(files[0], depth=depth) + sqlite_load(files[2], depth=depth)
+        loads += f"SELECT 0 WHERE uca_load_upgrade({arguments}) IS NULL;"
+        asked = ", ".join(f"uca_affected('{it}', '{old}', '{new}')" for it in ("10", "7", "2"))
+        renewed = f"uca_rekey(uca_key('a7', '{old}'), '{old}', '{new}') = uca_key('a7', '{new}')"
+        same(sqlite_says(work, f"SELECT {asked}, {renewed};", load=loads), f"{affected}|1\n", f"an upgrade by {depth}")
+
+
 # Texts that the next edition does not affect, and their whole keys by both editions, under shifted: hexadecimal digits.
 MENDED = [
     ("", "000000000000", "000000000000"),
@@ -666,7 +727,7 @@ def sqlite_upgrade_loads(work):
     for more in of_settings:
         same(sqlite_says(work, f"SELECT uca_load_upgrade({quoted_list(EDITIONS, more)});", load=""), f"{NEXT}\n", f"an upgrade by {more}")
     for setting in SETTINGS[1:]:
-        weighting, depth = setting[0], "identical" if "identical" in setting else "weights"
+        weighting, depth = (*setting, "weights")[:2]
         old, new = (fingerprint_of(*it, weighting, depth) for it in ((TABLE, DATA), (NEW_TABLE, NEW_DATA)))
         more = [quoted(it) for it in (weighting, depth, old)]
         same(sqlite_says(work, f"SELECT uca_load_upgrade({quoted_list(EDITIONS, more)});", load=""), f"{new}\n", f"an upgrade by {setting}")
@@ -696,7 +757,7 @@ def sqlite_upgrade_loads(work):
             sqlite_fails(work, f"uca_load_upgrade: the {role} '{path}': {why}", f"SELECT uca_load_upgrade({quoted_list(files)});", load="")
     for more, error in (
         (["'SHIFTED'"], "the weighting is 'SHIFTED', not 'shifted' or 'non-ignorable'"),
-        (["''", "'deep'"], "the depth is 'deep', not 'weights' or 'identical'"),
+        (["''", "'deep'"], f"the depth is 'deep', {NO_DEPTH}"),
         (["''", "''", "''"], f"the ninth argument {NO_FINGERPRINT}, and not 'unchecked'"),
         (["''", "''", "NULL"], f"the ninth argument {NO_FINGERPRINT}, and not 'unchecked'"),
         (["''", "''", f"'{NEXT}'"], f"the old files and settings have the fingerprint {USED}, and {NEXT} is wanted"),
@@ -1104,10 +1165,13 @@ def postgresql_settings(work):
     """The settings and their files, and the fingerprint of each."""
     table, data = f"{EXAMPLES}/table.txt", f"{EXAMPLES}/data.txt"
     with postgresql_server(work) as (server, says, settings):
-        for weighting, depth in (("shifted", "identical"), ("non-ignorable", "weights"), ("table", "weights")):
-            server.restart(settings.replace("weighting = shifted", f"weighting = '{weighting}'") + f"uca.identical = {depth == 'identical'}\n")
+        depths = (("shifted", "identical"), ("shifted", "numeric"), ("table", "identical numeric"))
+        for weighting, depth in (*depths, ("non-ignorable", "weights"), ("table", "weights")):
+            its = "".join(f"uca.{it} = on\n" for it in depth.split() if it != "weights")
+            server.restart(settings.replace("weighting = shifted", f"weighting = '{weighting}'") + its)
             wanted = fingerprint_of(table, data, weighting.replace("table", "shifted"), depth)
-            key = "1c470000002000000002" + ("0000ffff" if weighting != "non-ignorable" else "") + ("0000000061" if depth == "identical" else "")
+            key = "1c470000002000000002" + ("0000ffff" if weighting != "non-ignorable" else "")
+            key += "0000000061" if "identical" in depth else ""
             same(says(f"SELECT uca_fingerprint(), encode(uca_key('a', '{wanted}'), 'hex');"), f"{wanted}|{key}\n", f"{weighting}, {depth}")
             is_same = wanted == fingerprint_of(table, data, "shifted", "weights")
             same(says("SELECT uca_key('a');", fails=not is_same).strip(), f"\\x{key}" if is_same else OTHER_FILES, f"{weighting}, {depth}, in this database")
@@ -1126,6 +1190,50 @@ def postgresql_settings(work):
             same(says("SELECT uca_key('a');", fails=True), f"ERROR:  uca: {error}", f"the file {file}")
         server.restart(settings.replace("_file", ""))
         same(says("SELECT uca_key('a');", fails=True), "ERROR:  uca: the settings uca.table and uca.data are now uca.table_file and uca.data_file", "the old names")
+
+
+def postgresql_numbers(work):
+    """Numbers by their values, as a setting of the server: `7` is read as `17`, and `10` as `210`."""
+    files = digit_files(work)
+    old, new = (fingerprint_of(*files[at : at + 2], depth="numeric") for at in (0, 2))
+    with postgresql_server(work, files[0], more="uca.numeric = on\n", editions=files[2:]) as (server, says, settings):
+        found = says("SELECT uca_fingerprint(), uca_next_fingerprint(); SHOW uca.numeric;")
+        same(found, f"{old}|{new}\non\n", "fingerprints")
+        key = "1c3e1c440000002000200000000200020000ffffffff"
+        same(says("SELECT encode(uca_key('7'), 'hex'), uca_key('007') = uca_key('7');"), f"{key}|t\n", "a key by value")
+        says(f"CREATE TABLE volumes(name uca_text); INSERT INTO volumes VALUES {VOLUMES};"
+             "CREATE INDEX by_name ON volumes(name); CREATE INDEX by_key ON volumes(uca_key(name));")
+        listed = "SELECT string_agg(name::text, ',') FROM (SELECT name FROM volumes ORDER BY {}) it;"
+        by_index = "SET enable_seqscan = off; SET enable_sort = off;"
+        for it in ("name", 'uca_key(name), name::text COLLATE "C"'):
+            for way in ("", by_index):
+                same(says(way + listed.format(it)), f"{IN_VALUES}\n", f"order by {it}")
+        begins = "SELECT string_agg(name::text, ',' ORDER BY name) FROM volumes WHERE name ^@ 'Band 1';"
+        same(says(begins), "Band 1,Band 1a\n", "what begins with a number")
+        postgresql_long_numbers(says)
+        affected = ", ".join(f"uca_affected('{it}', '{old}', '{new}')" for it in ("10", "7", "2"))
+        renewed = f"uca_rekey(uca_key('a7'), '{old}', '{new}') = uca_key('a7', '{new}')"
+        same(says(f"SELECT {affected}, {renewed};"), "t|f|t|t\n", "an upgrade by value")
+        says("SET uca.numeric = off;", fails=True)
+        server.restart(settings.replace("uca.numeric = on", "uca.numeric = off"))
+        for it in ("SELECT uca_key('a');", "INSERT INTO volumes VALUES ('a');", "SELECT max(name) FROM volumes;"):
+            same(says(it, fails=True), OTHER_FILES, f"{it} with numbers as text")
+        same(says(f"SELECT uca_key('a', '{old}');", fails=True), OTHERS_NAMED, "a key by value that is named")
+        again = f"SELECT uca_use_files(again => true); {by_index} {listed.format('name')}"
+        same(says(again), "2\nBand 02,Band 1,Band 10,Band 100,Band 1a,Band 2\n", "numbers as text from now on")
+
+
+def postgresql_long_numbers(says):
+    """More zeros than a text may have code points are one zero. They have its key and its place."""
+    zeros = "repeat('0', 5000000)"
+    for it in ("uca_key({})", "uca_any_key({})", "uca_prefix_low({})", "uca_key({}, 1)"):
+        same(says(f"SELECT {it.format(zeros)} = {it.format(quoted('0'))};"), "t\n", f"{it} of zeros")
+    rows = f"(VALUES ({zeros}::uca_text), ('10'), ('0'), ('1'), ({zeros} || 'a')) it(name)"
+    found = says(f"SELECT length(name::text) FROM {rows} ORDER BY name;")
+    same(found, "1\n5000000\n5000001\n1\n2\n", "a sort of zeros")
+    same(says(f"SELECT {zeros}::uca_text < '1', uca_any_key({LONG}) > uca_any_key('z');"), "t|t\n", "long texts")
+    for it in (LONG, f"'7' || {LONG}", f"{zeros} || repeat('7', 1048576)"):
+        same(says(f"SELECT uca_key({it});", fails=True), "ERROR:  uca: the text is rejected: TooLong", f"a key of {it}")
 
 
 # The word bh is before bz by the one table, and after it by the other.
@@ -1859,12 +1967,12 @@ def main():
         sys.exit(f"there is no {ARCHIVE}: run `tools/build.py uca_c` first")
     checks = [("make", make), ("valgrind", valgrind), ("sanitizers", sanitizers), ("header in C++", header), ("exported names", exports),
               ("installation", installed), ("stored run", stored_run), ("docs/BINDINGS.md", page), ("keys", keys_like(program)), ("Python", python), ("Python under valgrind", python_valgrind), ("wheel", wheel), ("sort", sorted_like(program)), ("SQLite", sqlite),
-              ("SQLite's loads", sqlite_loads), ("SQLite's files", sqlite_files), ("SQLite's compact keys", sqlite_compact), ("SQLite's arguments", sqlite_arguments),
+              ("SQLite's loads", sqlite_loads), ("SQLite's files", sqlite_files), ("SQLite's compact keys", sqlite_compact), ("SQLite's numbers", sqlite_numbers), ("SQLite's arguments", sqlite_arguments),
               ("SQLite's books", sqlite_books), ("SQLite's lookups", sqlite_lookups), ("SQLite's schemas", sqlite_schemas), ("SQLite's restores", sqlite_restore),
               ("SQLite's attached databases", sqlite_attached), ("SQLite's threads", sqlite_threads), ("SQLite's upgrades", sqlite_upgrades),
               ("SQLite's loads of upgrades", sqlite_upgrade_loads), ("SQLite's compact keys in upgrades", sqlite_compact_upgrades), ("SQLite's moves", sqlite_moves),
               ("SQLite's indexes of texts", sqlite_texts), ("SQLite's memory", sqlite_memory), ("SQLite on the page", sqlite_page), ("SQLite's orders", sqlite_like(program)),
-              ("PostgreSQL", postgresql), ("PostgreSQL's settings", postgresql_settings), ("PostgreSQL's dumps", postgresql_dumps),
+              ("PostgreSQL", postgresql), ("PostgreSQL's settings", postgresql_settings), ("PostgreSQL's numbers", postgresql_numbers), ("PostgreSQL's dumps", postgresql_dumps),
               ("PostgreSQL's replication", postgresql_replication), ("PostgreSQL's changes", postgresql_changes), ("PostgreSQL's roles", postgresql_roles),
               ("PostgreSQL's owners", postgresql_owners), ("PostgreSQL's dependents", postgresql_dependents), ("PostgreSQL's columns", postgresql_columns), ("PostgreSQL's compact keys", postgresql_compact),
               ("PostgreSQL's books", postgresql_books), ("PostgreSQL's upgrades", postgresql_upgrades), ("PostgreSQL's files of upgrades", postgresql_upgrade_files),

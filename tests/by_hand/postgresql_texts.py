@@ -331,7 +331,7 @@ def other_settings(work):
         others_fail(says, wanted, "after ALTER SYSTEM")
         dumped = run([f"{server.programs}/pg_dump", "-h", server.folder, "-U", "postgres", "postgres"]).decode()
         same(dumped.count("\nCOPY public."), int(says("SELECT count(*) FROM pg_class WHERE relkind = 'r' AND relnamespace = 'public'::regnamespace;")), "tables of a dump")
-        for other in (settings.replace("weighting = shifted", "weighting = 'non-ignorable'"), settings + "uca.identical = on\n", settings + f"uca.book_file = '{room}/book.txt'\n"):
+        for other in (settings.replace("weighting = shifted", "weighting = 'non-ignorable'"), settings + "uca.identical = on\n", settings + "uca.numeric = on\n", settings + f"uca.book_file = '{room}/book.txt'\n"):
             server.restart(other)
             others_fail(says, wanted, other, ordered=ORDERED[:8])
         server.restart(settings.replace("/table.txt", "/none.txt"))
@@ -474,20 +474,22 @@ def by_bytes(text):
 
 
 def orders_like(program):
-    """Lines of examples/ in the order of `uca sort`, for each weighting and depth."""
+    """Lines of examples/, and lines with numbers, in the order of `uca sort`, for each weighting and depth."""
 
     def check(work):
         if not os.path.exists(program):
             raise NotHere(f"there is no {program}")
         with bindings.postgresql_server(work) as (server, says, settings):
-            for weighting, depth in (("shifted", "weights"), ("non-ignorable", "weights"), ("shifted", "identical")):
-                server.restart(settings.replace("weighting = shifted", f"weighting = '{weighting}'") + f"uca.identical = {depth == 'identical'}\n")
+            depths = (("shifted", "identical"), ("shifted", "numeric"), ("non-ignorable", "identical", "numeric"))
+            for weighting, *depth in (("shifted",), ("non-ignorable",), *depths):
+                its = "".join(f"uca.{it} = on\n" for it in depth)
+                server.restart(settings.replace("weighting = shifted", f"weighting = '{weighting}'") + its)
                 says("SELECT uca_use_files();")
                 for lines in LINES:
-                    text = content(f"{EXAMPLES}/{lines}")
+                    text = bindings.numbered(lines)
                     values = ", ".join(f"({quoted(it)})" for it in text.decode().removesuffix("\n").split("\n"))
                     says(f"CREATE TABLE lines(line uca_text); INSERT INTO lines VALUES {values}; CREATE INDEX by_line ON lines(line);")
-                    wanted = run([program, "sort", *(["--identical"] if depth == "identical" else []), "--weighting", weighting, TABLE, DATA], input=by_bytes(text)).decode()
+                    wanted = run([program, "sort", *(f"--{it}" for it in depth), "--weighting", weighting, TABLE, DATA], input=by_bytes(text)).decode()
                     for before in ("", BY_INDEX):
                         same(says(f"{before} SELECT line FROM lines ORDER BY line;"), wanted, f"order of {lines}, {weighting}, {depth}")
                     says("DROP TABLE lines;")

@@ -69,10 +69,20 @@ typedef enum uca_weighting {
     UCA_SHIFTED = 2        /* at a fourth level alone: keys have 4 levels */
 } uca_weighting;
 
-/* How far texts are compared. */
+/* How far texts are compared, and how their numbers are: one of these three, or UCA_IDENTICAL | UCA_NUMERIC.
+
+   A number is a run of the digits 0 to 9 (U+0030 to U+0039), however long. Signs, points and other digits are no part
+   of it. At UCA_NUMERIC a text is read with each number in another form. Its leading zeros are left out, and before it
+   comes how many digits are left. So `file 9` is read as `file 19`, `file 10` as `file 210`, and `007` as `17`, as `7`
+   is. These counts are written as 1 to 8, then as 91 to 98, 991 to 998 and so on.
+
+   Keys, ranges, comparisons and limits are those of what is read. At UCA_IDENTICAL the last level has the code points
+   of the text itself, so `7` and `007` differ there alone. Numbers come in the order of their values where the weights
+   of the ten digits rise at level 1 in the table, as in Unicode's. No call tests this. */
 typedef enum uca_depth {
-    UCA_WEIGHTS = 0,  /* by the levels of weights */
-    UCA_IDENTICAL = 1 /* by one more level, that of the code points: only canonically equivalent texts are equal */
+    UCA_WEIGHTS = 0,   /* by the levels of weights */
+    UCA_IDENTICAL = 1, /* by one more level, that of the code points: only canonically equivalent texts are equal */
+    UCA_NUMERIC = 2    /* a flag: numbers are compared by their values, so `file 9` comes before `file 10` */
 } uca_depth;
 
 /* Which keys a range has. "The same letters" means that level 1 is the same, as for `cafe`, `Cafe` and `café`. */
@@ -191,8 +201,9 @@ uint32_t uca_version(void);
 /* sizeof(uca_collator), as the library was built. */
 size_t uca_collator_size(void);
 
-/* Opens a closed collator by the bytes of a table (allkeys.txt) and of a data file. `weighting` is a uca_weighting, `depth` a
-   uca_depth. The error is 0 and 0 unless the status is UCA_TABLE or UCA_DATA.
+/* Opens a closed collator by the bytes of a table (allkeys.txt) and of a data file. `weighting` is a uca_weighting.
+   `depth` is a uca_depth, or UCA_IDENTICAL | UCA_NUMERIC. The error is 0 and 0 unless the status is UCA_TABLE or
+   UCA_DATA.
 
    UCA_OK: the bytes mean a table and a data file, and texts are keyed by these until uca_close.
    UCA_ALREADY_OPEN, UCA_ARGUMENT, UCA_TABLE, UCA_DATA, UCA_MEMORY: the collator is as before. */
@@ -242,8 +253,11 @@ uint32_t uca_expand(uca_collator *collator, const uint8_t *compact, size_t lengt
    has a book, else whole ones.
 
    For example, the range UCA_SAME_LETTERS of `cafe` has the keys of `cafe`, `Cafe` and `café`, and no key of `cafes`. The range
-   UCA_SAME_ACCENTS of `cafe` has those of `cafe` and `Cafe`. The range UCA_BEGINS of `caf` has all these, and that of `cafes`. Among whole keys, UCA_BEGINS has no key in which the weight FFFF comes
-   after the letters of the text.
+   UCA_SAME_ACCENTS of `cafe` has those of `cafe` and `Cafe`. The range UCA_BEGINS of `caf` has all these, and that of
+   `cafes`. Among whole keys, UCA_BEGINS has no key in which the weight FFFF comes after the letters of the text.
+
+   At UCA_NUMERIC a number is found as a whole. The range UCA_BEGINS of `file 1` has the keys of `file 1` and `file 1a`,
+   and not that of `file 10`.
 
    The low end of UCA_SAME_LETTERS or UCA_SAME_ACCENTS can be kept as a key of its own: two texts have the same low end exactly if
    they have the same letters, or the same letters and accents. So a unique index on it lets no second such text in.
@@ -286,8 +300,8 @@ void uca_compare_keys(const uint8_t *left, size_t left_length, const uint8_t *ri
      data 64 lower-case hexadecimal digits
 
    `unicode` is the edition of the normalization. The weighting is `shifted` or `non-ignorable`; for UCA_BY_TABLE it is that of the
-   table. The depth is `weights` or `identical`. The digits are the SHA-256 of each file. The arguments and the error are those of
-   uca_open.
+   table. The depth is `weights` or `identical`. The digits are the SHA-256 of each file. At UCA_NUMERIC one more line
+   comes after that of the depth: `numbers by value`. The arguments and the error are those of uca_open.
 
    UCA_OK: uca_open could open these files, and the 32 bytes at `out` are the fingerprint.
    UCA_ARGUMENT, UCA_TABLE, UCA_DATA, UCA_MEMORY: `out` is as before. */
@@ -315,7 +329,7 @@ size_t uca_upgrade_size(void);
 /* Opens a closed upgrade by the bytes of six files: the table and the data file that the stored keys were made by, the new
    table and data file, and the file of changes and the certificate that `uca changes` made of these four. The files are judged
    in this order. Then the change that they mean is audited, as `uca audit-changes` does. `weighting` and `depth` are those that
-   the stored keys were made with, also where that is UCA_BY_TABLE.
+   the stored keys were made with, also where that is UCA_BY_TABLE. So UCA_NUMERIC is given if they were made with it.
 
    UCA_OK: the audit accepts the change. Take any text of UTF-8 that the change does not affect, by uca_affected. uca_rekey makes
    of its key by the old files its key by the new files. Two such texts compare by the new files as by the old ones.
@@ -326,7 +340,8 @@ uint32_t uca_open_upgrade(uca_upgrade *upgrade, const uint8_t *old_table, size_t
                           size_t certificate_length, uint32_t weighting, uint32_t depth, uca_upgrade_error *error);
 
 /* Whether the key of a text has to be made anew, by a collator of the new files. `uca affected --changes` prints exactly the
-   lines of such texts.
+   lines of such texts; at UCA_NUMERIC, `uca affected --changes --numeric` does. What is read of the text is judged. So
+   there a change of the digit 2 affects `10`, which is read as `210`.
 
    UCA_OK: `*affected` is 1 if the change affects the text, else 0.
    UCA_CLOSED, UCA_UTF8, UCA_TOO_LONG, UCA_LONG_RUN, UCA_MEMORY: `*affected` is 0. */

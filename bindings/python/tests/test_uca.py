@@ -11,6 +11,8 @@ import mmap
 import multiprocessing
 import os
 import pickle
+import random
+import re
 import subprocess
 import sys
 import tempfile
@@ -66,6 +68,21 @@ CERTIFICATE = b"""1 0209 0209 0001
 """
 EDITIONS = (TABLE, DATA, NEW_TABLE, NEW_DATA, CHANGES, CERTIFICATE)
 
+#: The ten digits, whose weights rise from 1C3D on. In the next edition the digit 2 has another weight.
+NUMBERS = TABLE + b"".join(b"003%d ; [.1C%02X.0020.0002]\n" % (it, 0x3D + it) for it in range(10))
+NEW_NUMBERS = NUMBERS.replace(b"@version 1", b"@version 2").replace(b"0032 ; [.1C3F", b"0032 ; [.1C50")
+NUMBERS_CERTIFICATE = b"""1 0209 0209 0001
+1 1C3D 1C3D 0002
+1 1C40 1C40 0008
+1 1C60 1C60 0001
+2 0020 0020 0001
+2 0024 0024 0002
+2 002C 002C 0001
+3 0002 0002 0001
+3 0008 0008 0001
+"""
+NUMBER_EDITIONS = (NUMBERS, DATA, NEW_NUMBERS, DATA, b"@changes 1\ntext 0032\n", NUMBERS_CERTIFICATE)
+
 #: The beginning of a program that stands for a Python without the interpreter's lock: the module is told so, and its calls of the library let
 #: other threads run meanwhile.
 WITHOUT_LOCK = """
@@ -82,10 +99,12 @@ def hexadecimal(words):
     return bytes.fromhex(words)
 
 
-def fingerprint_of(table, data, weighting, depth):
+def fingerprint_of(table, data, weighting, depth, numeric=False):
     """The fingerprint as uca.h says it."""
     sums = [hashlib.sha256(it).hexdigest() for it in (table, data)]
-    lines = ["uca keys 1", "unicode 18.0.0", f"weighting {weighting}", f"depth {depth}", f"table {sums[0]}", f"data {sums[1]}"]
+    numbers = ["numbers by value"] if numeric else []
+    lines = ["uca keys 1", "unicode 18.0.0", f"weighting {weighting}", f"depth {depth}", *numbers]
+    lines += [f"table {sums[0]}", f"data {sums[1]}"]
     return hashlib.sha256("".join(it + "\n" for it in lines).encode()).hexdigest()
 
 
@@ -314,6 +333,143 @@ COMPACT_RANGES = [
     ("ab", None, "0A 0C", "0A 0C FF"),
     ("", None, "", "FF"),
 ]
+
+
+def read_by_value(text):
+    """What is read of a text with numeric=True, as uca.h says it."""
+
+    def written(found):
+        digits = found[0].lstrip("0") or "0"
+        nines, last = divmod(len(digits) - 1, 8)
+        return "9" * nines + str(last + 1) + digits
+
+    return re.sub("[0-9]+", written, text)
+
+
+class Numbers(unittest.TestCase):
+    """Numbers by their values: "a10" is read as "a210", and "007" as "17"."""
+
+    def setUp(self):
+        self.collator = uca.Collator(NUMBERS, DATA, "non-ignorable", numeric=True)
+        self.addCleanup(self.collator.close)
+
+    def test_values(self):
+        for text, key in [
+            ("ab", "1C47 1C60 0000 0020 0020 0000 0002 0002"),
+            ("7", "1C3E 1C44 0000 0020 0020 0000 0002 0002"),
+            ("007", "1C3E 1C44 0000 0020 0020 0000 0002 0002"),
+            ("a10", "1C47 1C3F 1C3E 1C3D 0000 0020 0020 0020 0020 0000 0002 0002 0002 0002"),
+            (b"\xc3\xa17", "1C47 1C3E 1C44 0000 0020 0024 0020 0020 0000 0002 0002 0002 0002"),
+        ]:
+            with self.subTest(text=text):
+                self.assertEqual(self.collator.key(text), hexadecimal(key))
+        with uca.Collator(NUMBERS, DATA, "non-ignorable") as as_text:
+            self.assertEqual(as_text.key("007"), hexadecimal("1C3D 1C3D 1C44 0000 0020 0020 0020 0000 0002 0002 0002"))
+
+    def test_texts_that_are_read(self):
+        self.assertEqual([read_by_value(it) for it in ("a10", "007", "0a9b", "9" * 17)], ["a210", "17", "10a19b", "991" + "9" * 17])
+        chosen = random.Random(1)
+        texts = ["".join(chosen.choices("0000112789ab\u0301\u00e1 -", k=chosen.randint(0, 40))) for _ in range(2000)]
+        with uca.Collator(NUMBERS, DATA, "non-ignorable") as as_text:
+            for text in [*texts, *("7" * length for length in range(1, 200))]:
+                self.assertEqual(self.collator.key(text), as_text.key(read_by_value(text)), text)
+            for left, right in zip(texts, texts[1:]):
+                found = as_text.compare(read_by_value(left), read_by_value(right))
+                self.assertEqual(self.collator.compare(left, right), found)
+
+    def test_sorted(self):
+        volumes = ["Band 10", "Band 2", "Band 1", "Band 02", "Band 100", "Band"]
+        in_order = ["Band", "Band 1", "Band 2", "Band 02", "Band 10", "Band 100"]
+        self.assertEqual(sorted(volumes, key=self.collator.key), in_order)
+        with uca.Collator(NUMBERS, DATA, "non-ignorable", True, numeric=True) as identical:
+            in_order[2:4] = ["Band 02", "Band 2"]
+            self.assertEqual(sorted(volumes, key=identical.key), in_order)
+        with uca.Collator(NUMBERS, DATA, "non-ignorable", numeric=False) as as_text:
+            in_order = ["Band", "Band 02", "Band 1", "Band 10", "Band 100", "Band 2"]
+            self.assertEqual(sorted(volumes, key=as_text.key), in_order)
+
+    def test_compare(self):
+        for left, right, found, identical in [
+            ("Band 9", "Band 10", (-1, 1), (-1, 1)),
+            ("a7", "a007", (0, 0), (1, 4)),
+            ("a2\u0301", "a2", (1, 2), (1, 2)),
+            ("\u00e112", "a\u030112", (0, 0), (0, 0)),
+        ]:
+            with self.subTest(left=left), uca.Collator(NUMBERS, DATA, "non-ignorable", True, numeric=True) as deep:
+                self.assertEqual(self.collator.compare(left, right), found)
+                self.assertEqual(deep.compare(left, right), identical)
+
+    def test_limits(self):
+        self.assertEqual(self.collator.key("0" * 5_000_000), hexadecimal("1C3E 1C3D 0000 0020 0020 0000 0002 0002"))
+        for text, kind in [("9" * 1_048_576, "TooLong"), ("1" + "\u0301" * 65, "LongRun"), (b"1\xff", "Utf8")]:
+            with self.assertRaises(uca.TextError) as caught:
+                self.collator.key(text)
+            self.assertEqual(caught.exception.kind, kind)
+        with uca.Collator(NUMBERS, DATA, "non-ignorable", True, numeric=True) as identical:
+            self.assertEqual(len(identical.key("0" * 2_000_000)), 4 + 2 + 4 + 2 + 4 + 2 + 3 * 2_000_000)
+
+    def test_ranges(self):
+        texts = ["a1", "a01", "a1b", "a10", "a100", "a2", "a"]
+        for book in (None, BOOK):
+            with uca.Collator(NUMBERS, DATA, numeric=True, book=book) as collator:
+                for (low, high), found in [
+                    (collator.prefix_range("a1"), ["a1", "a01", "a1b"]),
+                    (collator.range("a1"), ["a1", "a01"]),
+                    (collator.range("a010", levels=2), ["a10"]),
+                ]:
+                    self.assertEqual([it for it in texts if low <= collator.key(it) < high], found)
+
+    def test_compact_keys(self):
+        with uca.Collator(NUMBERS, DATA, "non-ignorable", numeric=True, book=BOOK) as compact:
+            for text in ("7", "a10", "ab", "\u00e1007"):
+                self.assertEqual(compact.expand(compact.key(text)), self.collator.key(text))
+                self.assertEqual(compact.compact(self.collator.key(text)), compact.key(text))
+
+    def test_fingerprints(self):
+        for weighting, identical in itertools.product(("non-ignorable", "shifted"), (False, True)):
+            depth = "identical" if identical else "weights"
+            kept = fingerprint_of(NUMBERS, DATA, weighting, depth, numeric=True)
+            with uca.Collator(NUMBERS, DATA, weighting, identical, numeric=True, fingerprint=kept) as collator:
+                self.assertEqual(collator.fingerprint, kept)
+            as_text = fingerprint_of(NUMBERS, DATA, weighting, depth)
+            for numeric, wanted, found in [(False, kept, as_text), (True, as_text, kept)]:
+                with self.assertRaises(uca.FingerprintError) as caught:
+                    uca.Collator(NUMBERS, DATA, weighting, identical, numeric=numeric, fingerprint=wanted)
+                self.assertEqual((caught.exception.wanted, caught.exception.found), (wanted, found))
+        with uca.Collator(NUMBERS, DATA, book=BOOK, numeric=True) as compact:
+            whole = fingerprint_of(NUMBERS, DATA, "shifted", "weights", numeric=True)
+            self.assertEqual(compact.fingerprint, compact_fingerprint_of(whole, BOOK))
+
+    def test_copies(self):
+        with files(table=NUMBERS) as paths:
+            for book in (None, book_beside(paths[0])):
+                with uca.Collator(*paths, "non-ignorable", numeric=True, book=book) as collator:
+                    for it in copies(collator):
+                        self.assertEqual((it.key("a10"), it.fingerprint), (collator.key("a10"), collator.fingerprint))
+                        self.assertEqual(it.compare("a9", "a10"), (-1, 1))
+                        it.close()
+
+    def test_upgrades(self):
+        for asked in itertools.product((None, "shifted", "non-ignorable"), (False, True)):
+            old, new = (uca.Collator(*NUMBER_EDITIONS[at : at + 2], *asked, numeric=True) for at in (0, 2))
+            with old, new:
+                kept = old.fingerprint
+                with uca.Upgrade(*NUMBER_EDITIONS, *asked, numeric=True, fingerprint=kept) as upgrade:
+                    self.assertEqual((upgrade.old_fingerprint, upgrade.new_fingerprint), (kept, new.fingerprint))
+                    for text in ("", "a", "7", "007", "A 7b0", "\u00e11"):
+                        self.assertIs(upgrade.affected(text), False)
+                        self.assertEqual(upgrade.rekey(old.key(text)), new.key(text))
+                    for text in ("2", "10", "a 34"):
+                        self.assertIs(upgrade.affected(text), True)
+                self.assertRaises(uca.FingerprintError, uca.Upgrade, *NUMBER_EDITIONS, *asked, fingerprint=kept)
+        with uca.Upgrade(*NUMBER_EDITIONS) as as_text:
+            self.assertEqual([as_text.affected(it) for it in ("2", "10", "a 34")], [True, False, False])
+
+    def test_values_of_the_setting(self):
+        for numeric in ("no", 1, None):
+            self.assertRaises(TypeError, uca.Collator, NUMBERS, DATA, numeric=numeric)
+            self.assertRaises(TypeError, uca.Upgrade, *EDITIONS, numeric=numeric)
+        self.assertRaises(TypeError, uca.Collator, NUMBERS, DATA, None, False, True)
 
 
 class Ranges(unittest.TestCase):
@@ -1019,6 +1175,13 @@ class Copies(unittest.TestCase):
             self.assertEqual((copied.key("a"), copied.fingerprint), (collator.key("a"), collator.fingerprint))
             copied.close()
 
+    def test_copies_that_were_made_before_there_were_numbers(self):
+        with files() as paths, uca.Collator(*paths, book=book_beside(paths[0])) as collator:
+            copied = uca.Collator.__new__(uca.Collator)
+            copied.__setstate__({"_collator": (*paths, None, False, collator.fingerprint, book_beside(paths[0]))})
+            self.assertEqual((copied.key("a"), copied.fingerprint), (collator.key("a"), collator.fingerprint))
+            copied.close()
+
     def test_a_copy_that_is_collected(self):
         with files() as paths, uca.Collator(*paths) as collator:
             for it in copies(collator):
@@ -1225,6 +1388,15 @@ class Library(unittest.TestCase):
                 uca._declare(types.SimpleNamespace(**{it: lambda: None for it in calls}), "/old/libuca.so.1")
             for it in ("/old/libuca.so.1", missing, "older", "install"):
                 self.assertIn(it, str(caught.exception))
+
+
+    def test_without_numbers(self):
+        older = types.SimpleNamespace(uca_fingerprint=lambda *given: 3)
+        with self.assertRaises(ImportError) as caught:
+            uca._need_numbers(older, "/old/libuca.so.1")
+        for it in ("/old/libuca.so.1", "numbers by value", "older", "install"):
+            self.assertIn(it, str(caught.exception))
+        uca._need_numbers(uca._library, "")
 
 
 class Module(unittest.TestCase):

@@ -3,8 +3,9 @@
     with uca.Collator("allkeys.txt", "data.txt") as collator:
         words.sort(key=collator.key)
 
-With a book, keys are compact: Collator("allkeys.txt", "data.txt", book="general.book"). After a new edition of the table, an Upgrade
-says which stored keys have to be made again, and mends the others.
+With a book, keys are compact: Collator("allkeys.txt", "data.txt", book="general.book"). With numeric=True, numbers are
+ordered by their values: "Band 2" comes before "Band 10". After a new edition of the table, an Upgrade says which stored
+keys have to be made again, and mends the others.
 
 The work is done by libuca.so.1, whose contracts are proved. Nothing is proved of this module. The library is the file that
 the environment's UCA_LIBRARY names, or else the one beside this module, or else the one that the system finds.
@@ -44,7 +45,7 @@ __version__ = "0.1.0"
 
 _ABI = 1
 
-_OK, _CLOSED, _TABLE, _DATA, _MEMORY, _SMALL, _BOOK, _NO_BOOK, _NO_KEY = 0, 1, 4, 5, 6, 10, 11, 12, 13
+_OK, _CLOSED, _ARGUMENT, _TABLE, _DATA, _MEMORY, _SMALL, _BOOK, _NO_BOOK, _NO_KEY = 0, 1, 3, 4, 5, 6, 10, 11, 12, 13
 _FILE, _NO_IMAGE = 14, 16
 _ROLES = {_TABLE: "table", _DATA: "data", _BOOK: "book"}
 _TEXT_ERRORS = {7: "Utf8", 8: "TooLong", 9: "LongRun"}
@@ -56,6 +57,8 @@ _UPGRADE_ROLES = ["", "old table", "old data", "new table", "new data", "changes
 _CONDITIONS = ["", "OldIllFormed", "NewIllFormed", "RangeChanged", "Uncovered", "RowChanged", "RowMissing", "RowExtra", "PointChanged", "SettingChanged"]
 _PLACES = ["", "old row", "new row", "code point"]
 _WEIGHTINGS = {None: 0, "non-ignorable": 1, "shifted": 2}
+#: the parts of a depth
+_IDENTICAL, _NUMERIC = 1, 2
 _MEMORY_KIND = 9
 #: the range of keys whose level 1 begins with some letters; that of as many first levels has their number
 _BEGINS = 3
@@ -192,8 +195,8 @@ class _Collator(ctypes.Structure):
 
     #: the paths of the table and the data file, and of the book if there is one; None for bytes
     paths: Tuple[Optional[str], ...] = (None, None)
-    #: the weighting, and whether it is identical
-    settings: Tuple[Optional[str], bool] = (None, False)
+    #: the weighting, whether it is identical, and whether it is numeric
+    settings: Tuple[Optional[str], bool, bool] = (None, False, False)
     #: the fingerprint, or "" if it was never open
     fingerprint = ""
     #: the error of a use while it is not open: that it is closed, or why a copy could not be opened
@@ -315,6 +318,16 @@ def _take_turns(library: ctypes.PyDLL) -> None:
         setattr(library, name, _in_turn(getattr(library, name), lock))
 
 
+def _need_numbers(library: ctypes.PyDLL, path: str) -> None:
+    """An earlier library has all calls, and says that there is no such depth."""
+    status = library.uca_fingerprint(b"", 0, b"", 0, 0, _NUMERIC, (ctypes.c_char * 32)(), _Error())
+    if status == _ARGUMENT:
+        raise ImportError(
+            f"{path} has no numbers by value, so it is older than this module: "
+            "install one of this version, or name it in UCA_LIBRARY"
+        )
+
+
 def _load() -> ctypes.PyDLL:
     """The library, with the types of its calls."""
     beside = os.path.join(os.path.dirname(os.path.abspath(__file__)), "libuca.so.1")
@@ -324,6 +337,7 @@ def _load() -> ctypes.PyDLL:
     sizes = [library.uca_collator_size(), library.uca_upgrade_size()]
     if library.uca_abi() != _ABI or sizes != [ctypes.sizeof(_Collator), ctypes.sizeof(_Upgrade)]:
         raise ImportError(f"{path} has another interface than this module")
+    _need_numbers(library, path)
     _Collator.close_unused = library.uca_close
     _Upgrade.close_unused = library.uca_close_upgrade
     if not _HAS_INTERPRETER_LOCK:
@@ -381,15 +395,19 @@ def _check_files(status: int, error: _Error) -> None:
         raise FileError(_ROLES[status], error.line, _KINDS[error.kind])
 
 
-def _check_settings(weighting: Optional[str], identical: bool, fingerprint: str) -> None:
+def _checked_settings(weighting: Optional[str], identical: bool, numeric: bool, fingerprint: str) -> Tuple[int, int]:
+    """The numbers of the weighting and of the depth."""
     if weighting not in _WEIGHTINGS:
         raise ValueError('weighting is None, "non-ignorable" or "shifted"')
     if not isinstance(identical, bool):
         raise TypeError("identical is True or False")
+    if not isinstance(numeric, bool):
+        raise TypeError("numeric is True or False")
     if not isinstance(fingerprint, str):
         raise TypeError("fingerprint is a str")
     if fingerprint != _UNCHECKED and not re.fullmatch("[0-9a-f]{64}", fingerprint):
         raise ValueError("fingerprint has 64 lower-case hexadecimal digits")
+    return _WEIGHTINGS[weighting], _IDENTICAL * identical + _NUMERIC * numeric
 
 
 def _opened(files: List[bytes], settings: Tuple[int, int]) -> _Collator:
@@ -493,35 +511,45 @@ class Collator:
         weighting: Optional[str] = None,
         identical: bool = False,
         *,
+        numeric: bool = False,
         book: Optional[File] = None,
         fingerprint: str = _UNCHECKED,
     ) -> None:
         """Reads a table (allkeys.txt), a data file and perhaps a book, which are bytes, or paths of files.
 
         ``weighting`` is "non-ignorable" or "shifted", or None for that of the table. With ``identical``, texts that are not
-        canonically equivalent differ, by one more level. By a ``book``, keys are compact; None is no book. ``fingerprint`` is that
-        of stored keys, or "unchecked" if there are none.
+        canonically equivalent differ, by one more level. With ``numeric``, numbers are ordered by their values, so "9"
+        comes before "10". A number is a run of the digits U+0030 to U+0039. "7" and "007" differ with ``identical``
+        alone. By a ``book``, keys are compact; None is no book. ``fingerprint`` is that of stored keys, or "unchecked" if
+        there are none.
 
         Raises :class:`FileError` if the table, or else the data file, or else the book, is rejected; :class:`FingerprintError` if
         the fingerprint is another one; MemoryError.
         """
-        self._open(table, data, weighting, identical, fingerprint, book)
+        self._open(table, data, weighting, identical, fingerprint, book, numeric)
 
     def _open(
-        self, table: File, data: File, weighting: Optional[str], identical: bool, fingerprint: str, book: Optional[File] = None
+        self,
+        table: File,
+        data: File,
+        weighting: Optional[str],
+        identical: bool,
+        fingerprint: str,
+        book: Optional[File] = None,
+        numeric: bool = False,
     ) -> None:
-        _check_settings(weighting, identical, fingerprint)
+        settings = _checked_settings(weighting, identical, numeric, fingerprint)
         files = [_read(it) for it in ((table, data) if book is None else (table, data, book))]
-        collator = _opened([content for content, _ in files], (_WEIGHTINGS[weighting], int(identical)))
+        collator = _opened([content for content, _ in files], settings)
         if fingerprint not in (collator.fingerprint, _UNCHECKED):
             raise FingerprintError(fingerprint, collator.fingerprint)
-        collator.paths, collator.settings = tuple(path for _, path in files), (weighting, identical)
+        collator.paths, collator.settings = tuple(path for _, path in files), (weighting, identical, numeric)
         if vars(self).setdefault("_collator", collator) is not collator:
             raise RuntimeError("a Collator is opened once")
 
     @property
     def fingerprint(self) -> str:
-        """What keys are made by, as 64 hexadecimal digits: all files, the weighting and the depth. Keep it beside stored keys."""
+        """What keys are made by, as 64 hexadecimal digits: all files and settings. Keep it beside stored keys."""
         if not self._collator.fingerprint:
             raise self._collator.new_error()
         return self._collator.fingerprint
@@ -530,11 +558,14 @@ class Collator:
         """What a copy is opened by, and the attributes of a subclass."""
         if not self.is_open:
             raise self._collator.new_error()
-        table, data, *book = self._collator.paths
-        if None in (table, data, *book):
+        table, data, *books = self._collator.paths
+        if None in (table, data, *books):
             raise TypeError("a Collator of bytes cannot be pickled or copied: open it by paths")
+        weighting, identical, numeric = self._collator.settings
+        book = books[0] if books else None
         in_slots = {name: getattr(self, name) for name in _slots(type(self)) if hasattr(self, name)}
-        return {**in_slots, **vars(self), "_collator": (table, data, *self._collator.settings, self.fingerprint, *book)}
+        opened_by = (table, data, weighting, identical, self.fingerprint, book, numeric)
+        return {**in_slots, **vars(self), "_collator": opened_by}
 
     def __setstate__(self, state: Dict[str, Any]) -> None:
         try:
@@ -574,7 +605,8 @@ class Collator:
     def prefix_range(self, text: Text) -> KeyRange:
         """The range of the keys whose level 1 begins with the letters of this text.
 
-        Of whole keys, it has none in which the weight FFFF comes after these letters. No table has such a letter as a rule.
+        With ``numeric``, a number is found as a whole: the range of "Band 1" has "Band 1a", and not "Band 10". Of whole
+        keys, it has none in which the weight FFFF comes after these letters. No table has such a letter as a rule.
 
         Raises :class:`TextError`, :class:`ClosedError` and MemoryError.
         """
@@ -645,19 +677,20 @@ class Upgrade:
         weighting: Optional[str] = None,
         identical: bool = False,
         *,
+        numeric: bool = False,
         fingerprint: str = _UNCHECKED,
     ) -> None:
         """Reads the six files, which are bytes, or paths of files. ``uca changes`` makes the last two of the others.
 
-        The weighting and ``identical`` are those that the stored keys were made with. ``fingerprint`` is that of these keys, or
-        "unchecked". It has to be :attr:`old_fingerprint`.
+        The weighting, ``identical`` and ``numeric`` are those that the stored keys were made with. ``fingerprint`` is that
+        of these keys, or "unchecked". It has to be :attr:`old_fingerprint`.
 
         Raises :class:`FileError` for the first file that is rejected; :class:`AuditError` if the audit rejects the step;
         :class:`FingerprintError` if the stored keys were made by other files or settings; MemoryError.
         """
-        _check_settings(weighting, identical, fingerprint)
+        settings = _checked_settings(weighting, identical, numeric, fingerprint)
         files = [_read(it)[0] for it in (old_table, old_data, new_table, new_data, changes, certificate)]
-        upgrade = _opened_upgrade(files, (_WEIGHTINGS[weighting], int(identical)))
+        upgrade = _opened_upgrade(files, settings)
         if fingerprint not in (upgrade.fingerprints[0], _UNCHECKED):
             raise FingerprintError(fingerprint, upgrade.fingerprints[0])
         if vars(self).setdefault("_upgrade", upgrade) is not upgrade:
@@ -683,6 +716,8 @@ class Upgrade:
 
     def affected(self, text: Text) -> bool:
         """Whether the key of a text has to be made again, by a collator of the new files.
+
+        With ``numeric``, what is read of the text is judged. "10" is read as "210", so a change of the digit 2 affects it.
 
         Raises :class:`TextError`, :class:`ClosedError` and MemoryError.
         """

@@ -7,6 +7,7 @@ use std::ptr::null_mut;
 pub const ABI: u32 = 1;
 
 pub const OK: u32 = 0;
+pub const ARGUMENT: u32 = 3;
 pub const TABLE: u32 = 4;
 pub const DATA: u32 = 5;
 pub const MEMORY: u32 = 6;

@@ -97,6 +97,9 @@ impl Collator {
     /// The range of the keys of this collator that a lookup by a text scans. A key is in it if it is not less than
     /// `start`, and less than `end`. So `map.range(range)` of a `BTreeMap` finds what belongs to these keys.
     ///
+    /// With [`crate::Numbers::ByValue`] a number is found as a whole: what begins with `Band 1` has `Band 1a`, and not
+    /// `Band 10`.
+    ///
     /// # Errors
     ///
     /// Those of [`Collator::key`].

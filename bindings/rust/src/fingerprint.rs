@@ -4,8 +4,8 @@ use std::error::Error;
 use std::fmt;
 use std::str::FromStr;
 
-/// What keys are made by, in one number: the files, the weighting, the depth, and the book if there is one. `uca.h`
-/// says what text it is the SHA-256 of.
+/// What keys are made by, in one number: the files, the weighting, the depth, how numbers are compared, and the book if
+/// there is one. `uca.h` says what text it is the SHA-256 of.
 ///
 /// It is written as 64 lower-case hexadecimal digits, and read from these. It is what `uca fingerprint` prints.
 ///

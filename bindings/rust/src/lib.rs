@@ -43,7 +43,7 @@ mod upgrade_errors;
 pub use collator::{compare_keys, Collator, Comparison, RangeOf};
 pub use errors::{File, FileErrorKind, OpenError, StoredKeyError, TextError};
 pub use fingerprint::{Fingerprint, NoFingerprint};
-pub use opening::{Depth, Options, Weighting};
+pub use opening::{Depth, Numbers, Options, Weighting};
 pub use upgrade::{Upgrade, UpgradeFiles, UpgradeOptions};
 pub use upgrade_errors::{Condition, Place, UpgradeError, UpgradeFile};
 

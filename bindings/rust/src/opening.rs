@@ -24,6 +24,21 @@ pub enum Depth {
     Identical = 1,
 }
 
+/// How numbers are compared. A number is a run of the digits U+0030 to U+0039, however long. Signs, points and other
+/// digits are no part of it.
+#[derive(Clone, Copy, Debug, Default, PartialEq, Eq, Hash)]
+pub enum Numbers {
+    /// As any other text, digit by digit: `file 10` comes before `file 9`.
+    #[default]
+    AsText = 0,
+    /// By their values: `file 9` comes before `file 10`. `7` and `007` differ at [`Depth::Identical`] alone.
+    ///
+    /// Before a number is read how many digits it has, without its leading zeros: `file 9` is read as `file 19`, and
+    /// `file 10` as `file 210`. The limits of texts are those of what is read. The digits of the table have to rise,
+    /// as those of Unicode's table do. No call tests this.
+    ByValue = 2,
+}
+
 /// The settings that a collator is opened by. [`Collator::options`] makes one.
 ///
 /// Without a call of [`Options::fingerprint`] the files may be any. So name it wherever keys are stored.
@@ -32,6 +47,7 @@ pub enum Depth {
 pub struct Options<'a> {
     weighting: Weighting,
     depth: Depth,
+    numbers: Numbers,
     book: Option<&'a [u8]>,
     fingerprint: Option<Fingerprint>,
 }
@@ -45,6 +61,22 @@ impl<'a> Options<'a> {
     /// Compares texts so far. It is [`Depth::Weights`] otherwise.
     pub fn depth(self, depth: Depth) -> Self {
         Self { depth, ..self }
+    }
+
+    /// Compares numbers so. It is [`Numbers::AsText`] otherwise.
+    ///
+    /// ```
+    /// use uca::{Collator, Numbers};
+    /// # let (table, data) = (b"@version 1\n0061 ; [.1C47.0020.0002]\n", b"@data 1\n");
+    ///
+    /// let mut collator = Collator::options().numbers(Numbers::ByValue).open(table, data)?;
+    /// let mut volumes = ["Band 10", "Band 2", "Band 1"];
+    /// collator.sort(&mut volumes)?;
+    /// assert_eq!(volumes, ["Band 1", "Band 2", "Band 10"]);
+    /// # Ok::<(), Box<dyn std::error::Error>>(())
+    /// ```
+    pub fn numbers(self, numbers: Numbers) -> Self {
+        Self { numbers, ..self }
     }
 
     /// Makes compact keys, by the bytes of a book. Keys are whole otherwise.
@@ -78,7 +110,8 @@ impl<'a> Options<'a> {
 
     /// Opens a closed collator, and returns the status.
     fn open_closed(self, collator: &mut calls::Collator, table: &[u8], data: &[u8], error: &mut calls::Error) -> u32 {
-        let (t, d, weighting, depth) = (table.as_ptr(), data.as_ptr(), self.weighting as u32, self.depth as u32);
+        let (t, d, weighting) = (table.as_ptr(), data.as_ptr(), self.weighting as u32);
+        let depth = depth_of(self.depth, self.numbers);
         match self.book {
             // SAFETY: the pointers and lengths are those of slices and values that are borrowed for the call.
             None => unsafe { calls::uca_open(collator, t, table.len(), d, data.len(), weighting, depth, error) },
@@ -114,7 +147,8 @@ impl<'a> Options<'a> {
             return Err(OpenError::Interface);
         }
         let (mut bytes, mut error) = ([0; 32], calls::Error::default());
-        let (t, d, weighting, depth) = (table.as_ptr(), data.as_ptr(), self.weighting as u32, self.depth as u32);
+        let (t, d, weighting) = (table.as_ptr(), data.as_ptr(), self.weighting as u32);
+        let depth = depth_of(self.depth, self.numbers);
         // SAFETY: the pointers and lengths are those of slices and values that are borrowed for the call, and 32
         // bytes are written.
         let status = unsafe {
@@ -126,6 +160,11 @@ impl<'a> Options<'a> {
     }
 }
 
+/// The depth of a call: both settings are parts of one number.
+pub(crate) fn depth_of(depth: Depth, numbers: Numbers) -> u32 {
+    depth as u32 | numbers as u32
+}
+
 /// The error of a call with files.
 fn check(status: u32, error: calls::Error) -> Result<(), OpenError> {
     let file = match status {
@@ -134,6 +173,8 @@ fn check(status: u32, error: calls::Error) -> Result<(), OpenError> {
         calls::DATA => File::Data,
         calls::BOOK => File::Book,
         calls::MEMORY => return Err(OpenError::Memory),
+        // an earlier library, which has no numbers by value
+        calls::ARGUMENT => return Err(OpenError::Interface),
         other => unreachable!("uca.h has no status {other} for files of these settings"),
     };
     if error.kind == calls::KIND_MEMORY {

@@ -1,8 +1,9 @@
 //! From one edition of a table and its data file to the next: which stored keys stay, and what they become.
 use crate::calls;
+use crate::opening::depth_of;
 use crate::room::{append, with, Room};
 use crate::{
-    Condition, Depth, FileErrorKind, Fingerprint, Place, StoredKeyError, TextError, UpgradeError, UpgradeFile,
+    Condition, Depth, FileErrorKind, Fingerprint, Numbers, Place, StoredKeyError, TextError, UpgradeError, UpgradeFile,
     Weighting,
 };
 use std::fmt;
@@ -34,6 +35,7 @@ pub struct UpgradeFiles<'a> {
 pub struct UpgradeOptions {
     weighting: Weighting,
     depth: Depth,
+    numbers: Numbers,
     fingerprint: Option<Fingerprint>,
 }
 
@@ -46,6 +48,11 @@ impl UpgradeOptions {
     /// The depth that the stored keys were made with. It is [`Depth::Weights`] otherwise.
     pub fn depth(self, depth: Depth) -> Self {
         Self { depth, ..self }
+    }
+
+    /// How numbers were compared when the stored keys were made. It is [`Numbers::AsText`] otherwise.
+    pub fn numbers(self, numbers: Numbers) -> Self {
+        Self { numbers, ..self }
     }
 
     /// Opens no upgrade but one for whole keys of this fingerprint, which is kept beside them.
@@ -101,7 +108,7 @@ impl UpgradeOptions {
                 files.certificate.as_ptr(),
                 files.certificate.len(),
                 self.weighting as u32,
-                self.depth as u32,
+                depth_of(self.depth, self.numbers),
                 error,
             )
         }
@@ -113,6 +120,8 @@ fn check(status: u32, error: &calls::UpgradeError) -> Result<(), UpgradeError> {
     match status {
         calls::OK => Ok(()),
         calls::MEMORY => Err(UpgradeError::Memory),
+        // an earlier library, which has no numbers by value
+        calls::ARGUMENT => Err(UpgradeError::Interface),
         calls::FILE if error.kind == calls::KIND_MEMORY => Err(UpgradeError::Memory),
         calls::FILE => Err(UpgradeError::Rejected {
             file: UpgradeFile::of(error.file),
@@ -206,6 +215,9 @@ impl Upgrade {
     }
 
     /// Whether the key of a text has to be made anew, by a collator of the new files.
+    ///
+    /// With [`Numbers::ByValue`] what is read of the text is judged: a change of the digit 2 affects `10`, which is
+    /// read as `210`.
     ///
     /// # Errors
     ///

@@ -104,18 +104,19 @@ fn numbers() {
         assert_eq!(value.parse::<u32>().expect("a number"), number(&format!("UCA_{name}")), "{name}");
         count += 1;
     }
-    assert_eq!(count, 18);
+    assert_eq!(count, 19);
 }
 
 #[test]
 fn settings() {
-    use uca::{Depth, RangeOf, Weighting};
+    use uca::{Depth, Numbers, RangeOf, Weighting};
     let rows = [
         ("UCA_BY_TABLE", Weighting::ByTable as u32),
         ("UCA_NON_IGNORABLE", Weighting::NonIgnorable as u32),
         ("UCA_SHIFTED", Weighting::Shifted as u32),
         ("UCA_WEIGHTS", Depth::Weights as u32),
         ("UCA_IDENTICAL", Depth::Identical as u32),
+        ("UCA_NUMERIC", Numbers::ByValue as u32),
         ("UCA_SAME_LETTERS", RangeOf::SameLetters as u32),
         ("UCA_SAME_ACCENTS", RangeOf::SameAccents as u32),
         ("UCA_BEGINS", RangeOf::Begins as u32),

@@ -4,8 +4,8 @@ use std::cmp::Ordering::{Equal, Greater, Less};
 use std::collections::BTreeMap;
 use std::thread;
 use uca::{
-    compare_keys, Collator, Comparison, Depth, File, FileErrorKind, OpenError, RangeOf, StoredKeyError, TextError,
-    Weighting,
+    compare_keys, Collator, Comparison, Depth, File, FileErrorKind, Numbers, OpenError, RangeOf, StoredKeyError,
+    TextError, Weighting,
 };
 
 const TABLE: &[u8] = b"@version 1
@@ -20,6 +20,23 @@ const TABLE: &[u8] = b"@version 1
 ";
 const DATA: &[u8] = b"@data 1\nccc 0300..0314 230\nccc 0323..0323 220\n";
 const BOOK: &[u8] = b"@book 1\n1 1C47\n1 1C48\n1 1C60\n1 1C61\n";
+
+/// The ten digits, whose weights rise from 1C3D on, two letters and an accent.
+const DIGITS: &[u8] = b"@version 1
+0030 ; [.1C3D.0020.0002]
+0031 ; [.1C3E.0020.0002]
+0032 ; [.1C3F.0020.0002]
+0033 ; [.1C40.0020.0002]
+0034 ; [.1C41.0020.0002]
+0035 ; [.1C42.0020.0002]
+0036 ; [.1C43.0020.0002]
+0037 ; [.1C44.0020.0002]
+0038 ; [.1C45.0020.0002]
+0039 ; [.1C46.0020.0002]
+0061 ; [.1C47.0020.0002]
+0062 ; [.1C60.0020.0002]
+0301 ; [.0000.0024.0002]
+";
 
 fn opened(weighting: Weighting, depth: Depth) -> Collator {
     Collator::options().weighting(weighting).depth(depth).open(TABLE, DATA).unwrap()
@@ -56,6 +73,64 @@ fn keys() {
         let last: Vec<_> = code_points.chars().flat_map(|it| u32::from(it).to_be_bytes()[1..].to_vec()).collect();
         let identical = opened(weighting, Depth::Identical).key(text).unwrap();
         assert_eq!(identical, [key, vec![0, 0], last].concat(), "{text:?} {weighting:?}");
+    }
+}
+
+fn by_value(depth: Depth) -> Collator {
+    let options = Collator::options().weighting(Weighting::NonIgnorable).depth(depth);
+    options.numbers(Numbers::ByValue).open(DIGITS, DATA).unwrap()
+}
+
+#[test]
+fn keys_of_numbers() {
+    // a10 is read as a210, and 007 as 17
+    let rows: [(&str, &[u16]); 4] = [
+        ("ab", &[0x1C47, 0x1C60, 0, 0x20, 0x20, 0, 2, 2]),
+        ("7", &[0x1C3E, 0x1C44, 0, 0x20, 0x20, 0, 2, 2]),
+        ("007", &[0x1C3E, 0x1C44, 0, 0x20, 0x20, 0, 2, 2]),
+        ("a10", &[0x1C47, 0x1C3F, 0x1C3E, 0x1C3D, 0, 0x20, 0x20, 0x20, 0x20, 0, 2, 2, 2, 2]),
+    ];
+    for (text, weights) in rows {
+        assert_eq!(by_value(Depth::Weights).key(text).unwrap(), bytes_of(weights), "{text}");
+        let points: Vec<_> = text.chars().flat_map(|it| u32::from(it).to_be_bytes()[1..].to_vec()).collect();
+        let identical = by_value(Depth::Identical).key(text).unwrap();
+        assert_eq!(identical, [bytes_of(weights), vec![0, 0], points].concat(), "{text}");
+    }
+    // more zeros than a text may have code points are one zero, which is read as 10
+    let zero = bytes_of(&[0x1C3E, 0x1C3D, 0, 0x20, 0x20, 0, 2, 2]);
+    assert_eq!(by_value(Depth::Weights).key("0".repeat(1_048_577)), Ok(zero));
+    assert_eq!(by_value(Depth::Weights).key("9".repeat(1_048_576)), Err(TextError::TooLong));
+}
+
+#[test]
+fn comparisons_of_numbers() {
+    let rows = [
+        ("file 9", "file 10", (Less, 1), (Less, 1)),
+        ("a99999999b", "a100000000", (Less, 1), (Less, 1)),
+        ("007", "7", (Equal, 0), (Less, 4)),
+        ("a2\u{301}", "a2", (Greater, 2), (Greater, 2)),
+    ];
+    for (left, right, by_weights, identical) in rows {
+        for (depth, (order, level)) in [(Depth::Weights, by_weights), (Depth::Identical, identical)] {
+            assert_eq!(by_value(depth).compare(left, right), Ok(Comparison { order, level }), "{left} {depth:?}");
+            assert_eq!(by_value(depth).order(left, right), Ok(order), "{left} {depth:?}");
+        }
+    }
+    let as_text = Collator::options().numbers(Numbers::AsText).open(DIGITS, DATA).unwrap().compare("file 9", "file 10");
+    assert_eq!(as_text, Ok(Comparison { order: Greater, level: 1 }));
+}
+
+#[test]
+fn ranges_of_numbers() {
+    let options = Collator::options().numbers(Numbers::ByValue);
+    let rows = [("a1", true, true), ("a01", true, true), ("a1b", true, false), ("a10", false, false)];
+    for mut collator in [options.open(DIGITS, DATA).unwrap(), options.book(BOOK).open(DIGITS, DATA).unwrap()] {
+        let begins = collator.range("a1", RangeOf::Begins).unwrap();
+        let same = collator.range("a1", RangeOf::SameLetters).unwrap();
+        for (text, is_begun, is_same) in rows {
+            let key = collator.key(text).unwrap();
+            assert_eq!((begins.contains(&key), same.contains(&key)), (is_begun, is_same), "{text}");
+        }
     }
 }
 
@@ -236,6 +311,7 @@ fn other_files_and_settings_are_an_error() {
     let others = [
         options.weighting(Weighting::NonIgnorable).open(TABLE, DATA),
         options.depth(Depth::Identical).open(TABLE, DATA),
+        options.numbers(Numbers::ByValue).open(TABLE, DATA),
         options.book(BOOK).open(TABLE, DATA),
         options.open(&comment, DATA),
         options.open(TABLE, b"@data 1\n"),
@@ -253,7 +329,8 @@ fn fingerprints_without_a_collator() {
     for weighting in [Weighting::ByTable, Weighting::NonIgnorable, Weighting::Shifted] {
         for depth in [Depth::Weights, Depth::Identical] {
             let options = Collator::options().weighting(weighting).depth(depth);
-            for options in [options, options.book(BOOK)] {
+            let numbers = options.numbers(Numbers::ByValue);
+            for options in [options, options.book(BOOK), numbers, numbers.book(BOOK)] {
                 let found = options.fingerprint_of(TABLE, DATA).unwrap();
                 assert_eq!(options.open(TABLE, DATA).unwrap().fingerprint(), found);
             }

@@ -2,8 +2,8 @@
 //! UTS #10 and the certificate, and the fingerprints by `sha256sum` from the text that `uca.h` states.
 use std::thread;
 use uca::{
-    Collator, Condition, Depth, FileErrorKind, Place, StoredKeyError, TextError, Upgrade, UpgradeError, UpgradeFile,
-    UpgradeFiles, Weighting,
+    Collator, Condition, Depth, FileErrorKind, Numbers, Place, StoredKeyError, TextError, Upgrade, UpgradeError,
+    UpgradeFile, UpgradeFiles, Weighting,
 };
 
 const OLD_TABLE: &str = "@version 1
@@ -155,6 +155,47 @@ fn affected_texts() {
     }
     for text in ["", "a", "C", "d", "a\u{323}"] {
         assert_eq!(upgrade.affected(text), Ok(false), "{text:?}");
+    }
+}
+
+/// The digit 2 has another weight in the new table, and so has 7, whose weight the certificate moves.
+const NUMBERS: UpgradeFiles = UpgradeFiles {
+    old_table: b"@version 1
+0030 ; [.1C3D.0020.0002]
+0031 ; [.1C3E.0020.0002]
+0032 ; [.1C3F.0020.0002]
+0037 ; [.1C44.0020.0002]
+",
+    old_data: b"@data 1\n",
+    new_table: b"@version 2
+0030 ; [.1C3D.0020.0002]
+0031 ; [.1C3E.0020.0002]
+0032 ; [.1C40.0020.0002]
+0037 ; [.1C45.0020.0002]
+",
+    new_data: b"@data 1\n",
+    changes: b"@changes 1\ntext 0032\n",
+    certificate: b"1 1C3D 1C3D 0002\n1 1C44 1C45 0001\n2 0020 0020 0001\n3 0002 0002 0001\n",
+};
+
+#[test]
+fn numbers() {
+    // 10 is read as 210, and 7 as 17
+    for (numbers, affected) in [(Numbers::AsText, false), (Numbers::ByValue, true)] {
+        for (weighting, depth) in SETTINGS {
+            let options = Collator::options().weighting(weighting).depth(depth).numbers(numbers);
+            let mut old = options.open(NUMBERS.old_table, NUMBERS.old_data).unwrap();
+            let mut new = options.open(NUMBERS.new_table, NUMBERS.new_data).unwrap();
+            let options = Upgrade::options().weighting(weighting).depth(depth).fingerprint(old.fingerprint());
+            let mut upgrade = options.numbers(numbers).open(NUMBERS).unwrap();
+            assert_eq!(upgrade.new_fingerprint(), new.fingerprint());
+            assert_eq!(upgrade.affected("10"), Ok(affected));
+            assert_eq!(upgrade.affected("002"), Ok(true));
+            for text in ["7", "007", "a7"] {
+                assert_eq!(upgrade.affected(text), Ok(false));
+                assert_eq!(upgrade.rekey(&old.key(text).unwrap()), Ok(Some(new.key(text).unwrap())));
+            }
+        }
     }
 }
 
@@ -310,7 +351,12 @@ fn keys_of_other_files_and_settings_are_an_error() {
     assert_eq!(error, UpgradeError::OtherFiles { wanted: other, found: kept });
     let said = format!("the old files and settings have the fingerprint {OLD_FINGERPRINT}, and not {NEW_FINGERPRINT}");
     assert_eq!(error.to_string(), said);
-    for options in [options.weighting(Weighting::NonIgnorable), options.depth(Depth::Identical)] {
+    let others = [
+        options.weighting(Weighting::NonIgnorable),
+        options.depth(Depth::Identical),
+        options.numbers(Numbers::ByValue),
+    ];
+    for options in others {
         let error = options.open(FILES).unwrap_err();
         assert!(matches!(error, UpgradeError::OtherFiles { wanted, found } if wanted == kept && found != kept));
     }
