@@ -8,7 +8,7 @@
 //! ```
 //!
 //! `read_rules` goes from left to right and stops at the first error. Each step has a definition over the whole list of
-//! characters. `specs/Reading.antt` and `proofs/Progress.antt` say how far the reader has come.
+//! characters. `specs/inside/Reading.antt` and `proofs/Progress.antt` say how far the reader has come.
 #![tactic(auto)]
 
 mod characters;
