@@ -10,6 +10,7 @@
 - CLDR's own test of the root is in order under the table of `und`.
 - The rules of Korean and Japanese in two parts are accepted. The changes that keep Cyrillic letters in a Russian table list no Cyrillic line.
 - For each collation `tools/languages.py table` makes a table. All relations of CLDR hold under it (relations.py): this needs no ICU.
+- With `--numeric`, numbers come in the order of their values under each of these tables and under Unicode's.
 - Beside ICU: the row of docs/LANGUAGES.md is the same in this run. The page says what the columns are. Without `gcc` and `libicu-dev` this part is not run.
 
 It needs Debian's unicode-data and unicode-cldr-core. The last line is `N passed, M failed`, and how many were not run.
@@ -47,6 +48,8 @@ QUICK = ["da", "de-u-co-phonebk", "el", "ja", "ko", "my", "sv", "und-u-co-eor", 
 # Tags with settings.
 SETTINGS = ["da-u-kf-false", "el-u-kf-upper", "en-u-ka-shifted", "en-u-kf-lower", "en-u-kr-grek-digit", "ja-u-kr-latn-kana", "ru-u-kf-upper"]
 SETTINGS += ["sv-u-kf-upper", "und-u-kr-zzzz-latn-symbol", "vi-u-kf-lower", "zh-u-kr-latn-hani"]
+# Numbers by their values.
+DIGITS, NUMBERS = "0123456789", [f"{it}a" for it in (0, 1, 2, 9, 10, 19, 99, 100, 12_345_678, 123_456_789, 10**20, 10**20 + 1)]
 LOCALES, TOOL = languages.CLDR, f"{TOP}/tools/languages.py"
 # CLDR 41 is of Unicode 14. These have other weights since Unicode 15, and the last two have weights in CLDR alone.
 OTHERS = {0x0F82, 0x0F83, 0x101FD, 0x1D89, 0x2B739, 0xFFFE, 0xFFFF}
@@ -177,6 +180,29 @@ def whole_rules(name):
     return re.sub(r"\[(import [^]]+)\]", lambda it: whole_rules(imported_name(it[1])), rules_text(LOCALES, name, True))
 
 
+# ---- Numbers
+
+
+def orders_numbers(rows):
+    """Whether each digit has one element that is not variable, their primaries rise, and no other key has a digit."""
+    own = [rows.get(it, []) for it in DIGITS]
+    if any(len(it) != 1 or it[0].variable for it in own):
+        return False
+    weights = [0, *(it[0].primary for it in own)]
+    is_alone = all(len(key) == 1 or not set(key) & set(DIGITS) for key in rows)
+    return is_alone and all(below < above for below, above in zip(weights, weights[1:]))
+
+
+def numbers_by_value(setup, table):
+    """What is wrong with numbers under a table; nothing if they come in the order of their values."""
+    if not orders_numbers(Table(table).rows):
+        return "the table does not order numbers"
+    text = "".join(f"{it}\n" for it in NUMBERS)
+    turned = "".join(f"{it}\n" for it in reversed(NUMBERS))
+    out, said = languages.run([setup.uca, "sort", "--numeric", table, setup.data], turned)
+    return said or ("" if out == text else "uca sort --numeric has another order")
+
+
 # ---- A collation
 
 
@@ -210,6 +236,10 @@ class Tries:
         keys = lambda lines: keys_of(self.setup, self.table, lines)
         counts = Relations(self.items, keys, others, self.made.rules.first_case).count()
         self.see(not counts.failed, f"{counts.hold} relations hold, {len(counts.failed)} do not, {counts.not_tried} were not tried {'; '.join(counts.failed[:3])}")
+
+    def numbers(self):
+        wrong = numbers_by_value(self.setup, self.table)
+        self.see(not wrong, wrong or "numbers come in the order of their values")
 
     def same_rules(self, left_out):
         """The name of a file with the text of the rules for ICU, without the settings that are left out."""
@@ -256,6 +286,7 @@ def tried(setup, name):
             tries = Tries(setup, name, folder)
             if tries.make():
                 tries.relations_hold()
+                tries.numbers()
                 row = tries.beside_icu() if setup.icu else None
         except CldrError as error:
             return Tried(name, [*(tries.checks if tries else []), (False, f"{name}: {error}")], None)
@@ -417,6 +448,8 @@ def main():
         if not options.names:
             language_errors.test(setup, see)
             root_test(setup, folder, see)
+            wrong = numbers_by_value(setup, setup.table)
+            see(not wrong, f"Unicode's table: {wrong or 'numbers come in the order of their values'}")
             in_parts(setup, folder, "ko", see)
             in_parts(setup, folder, "ja", see)
             letters_stay(setup, folder, see)
