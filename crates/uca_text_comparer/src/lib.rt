@@ -1,7 +1,5 @@
 //! `TextComparer`: comparison of many texts. Texts of plain code points are not normalized first.
 //!
-//! The program `uca` has no such comparer, so it does not wait for this crate.
-//!
 //! Each plain code point with which both texts begin is looked up once (`shared`). Say that at most 32 bytes of each
 //! text are left: so few bytes have no run of marks that is too long. If the first elements there differ at level 1,
 //! no more is read (`primaries`). Otherwise code points with the same weight at level 1 in both texts are passed, and
@@ -18,7 +16,8 @@
 //! value first (`uca_numbers`), and compared so by their weights. At an identical level the code points of the texts
 //! themselves come after that (`points`), so `7` and `007` differ there alone.
 //!
-//! A `TextComparer` keeps its collator. A `TextComparison` does without, for whatever lends one (`comparison`).
+//! A `TextComparer` keeps its collator. A `TextComparison` does without, for whatever lends one (`comparison`): an owned
+//! collator, or the command `uca compare`.
 #![tactic(auto)]
 
 mod comparison;
