@@ -1,6 +1,6 @@
-/* Calls of uca.h over texts, digits, tables and letters in many numbers: around powers of two, around round numbers, and
-   random ones. There is memory to spare, so no call may say UCA_MEMORY. Prints a line for each check that fails, and how many
-   passed; its status is 1 if one failed. */
+/* Calls of uca.h over texts, digits, tables and letters in many numbers: around powers of two, around round numbers,
+   and random ones. There is memory to spare, so no call may say UCA_MEMORY. Prints a line for each check that fails,
+   and how many passed; its status is 1 if one failed. */
 #include "uca.h"
 
 #include <stdio.h>

@@ -159,7 +159,8 @@ def try_postgresql(bench):
     with PostgreSQL(bench.room) as server:
         bench.environment.update(server.environment)
         zero_bytes(bench, "postgresql")
-        for name, *options in [("order with --identical", "--identical"), ("order with --numeric", "--numeric"), ("order",)]:
+        orders = [("order with --identical", "--identical"), ("order with --numeric", "--numeric"), ("order",)]
+        for name, *options in orders:
             bench.run(["psql", "-qc", "drop table if exists words"])
             bench.example("load_postgresql.sh", bench.table, bench.data, bench.lines, *options)
             given = bench.run(["psql", "-Atc", BY_KEY])

@@ -534,7 +534,7 @@ def words_like(program):
 
 
 # Ranges of code points of many kinds, whose ends are in them.
-KINDS = [(0x20, 0x7E), (0x61, 0x7A), (0x61, 0x66), (1, 0x1F), (0xA0, 0x24F), (0x300, 0x36F), (0x370, 0x5FF), (0x600, 0x6FF), (0x900, 0xDFF), (0x1100, 0x11FF), (0x2000, 0x2BFF), (0x3040, 0x30FF),
+KINDS = [(0x20, 0x7E), (0x30, 0x39), (0x30, 0x31), (0x61, 0x7A), (0x61, 0x66), (1, 0x1F), (0xA0, 0x24F), (0x300, 0x36F), (0x370, 0x5FF), (0x600, 0x6FF), (0x900, 0xDFF), (0x1100, 0x11FF), (0x2000, 0x2BFF), (0x3040, 0x30FF),
          (0x4E00, 0x9FFF), (0xAC00, 0xD7A3), (0xE000, 0xE010), (0xF900, 0xFFFF), (0x10000, 0x1FFFF), (0x20000, 0x323AF), (0xE0100, 0xE01EF), (0x10FFF0, 0x10FFFF)]
 
 
@@ -560,14 +560,18 @@ def random_like(program):
         by_key = 'row_number() OVER (ORDER BY uca_any_key(name::text), name::text COLLATE "C") AS place FROM words'
         # texts of the same bytes may change places
         differ = f"SELECT count(*) FROM (SELECT name, row_number() OVER (ORDER BY name) AS place FROM words) a JOIN (SELECT name, {by_key}) b USING (place) WHERE a.name <> b.name;"
-        for weighting, book in (("shifted", None), ("non-ignorable", BOOK)):
+        numeric = (("shifted", None, "numeric"), ("shifted", BOOK, "numeric"))
+        both = ("non-ignorable", None, "identical", "numeric")
+        for weighting, book, *depth in (("shifted", None), ("non-ignorable", BOOK), *numeric, both):
             with bindings.postgresql_server(work, tables[0], data, book) as (server, says, settings):
-                server.restart(settings.replace("weighting = shifted", f"weighting = '{weighting}'"))
+                its = "".join(f"uca.{it} = on\n" for it in depth)
+                server.restart(settings.replace("weighting = shifted", f"weighting = '{weighting}'") + its)
                 says("SELECT uca_use_files();")
                 says(f"CREATE EXTENSION amcheck; CREATE TABLE words(name uca_text); COPY words FROM STDIN;\n{copied}\\.\nCREATE INDEX by_name ON words(name); VACUUM ANALYZE words;")
                 same(says(counted), "20000|t\n", "random texts, some of which are rejected")
                 for before in ("SET work_mem = '1GB';", "SET work_mem = '64kB';", BY_INDEX):
-                    same(says(f"SET jit = off; {before} {differ}"), "0\n", f"random texts in another place, {weighting}, {before}")
+                    what = f"random texts in another place, {weighting}, {depth}, {before}"
+                    same(says(f"SET jit = off; {before} {differ}"), "0\n", what)
                 same(says(CHECKED), "by_name\n", "amcheck")
 
     return check

@@ -367,7 +367,8 @@ class Numbers(unittest.TestCase):
             self.assertEqual(as_text.key("007"), hexadecimal("1C3D 1C3D 1C44 0000 0020 0020 0020 0000 0002 0002 0002"))
 
     def test_texts_that_are_read(self):
-        self.assertEqual([read_by_value(it) for it in ("a10", "007", "0a9b", "9" * 17)], ["a210", "17", "10a19b", "991" + "9" * 17])
+        read = [read_by_value(it) for it in ("a10", "007", "0a9b", "9" * 17)]
+        self.assertEqual(read, ["a210", "17", "10a19b", "991" + "9" * 17])
         chosen = random.Random(1)
         texts = ["".join(chosen.choices("0000112789ab\u0301\u00e1 -", k=chosen.randint(0, 40))) for _ in range(2000)]
         with uca.Collator(NUMBERS, DATA, "non-ignorable") as as_text:

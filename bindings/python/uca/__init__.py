@@ -520,8 +520,8 @@ class Collator:
         ``weighting`` is "non-ignorable" or "shifted", or None for that of the table. With ``identical``, texts that are not
         canonically equivalent differ, by one more level. With ``numeric``, numbers are ordered by their values, so "9"
         comes before "10". A number is a run of the digits U+0030 to U+0039. "7" and "007" differ with ``identical``
-        alone. By a ``book``, keys are compact; None is no book. ``fingerprint`` is that of stored keys, or "unchecked" if
-        there are none.
+        alone. By a ``book``, keys are compact; None is no book. ``fingerprint`` is that of stored keys, or "unchecked"
+        if there are none.
 
         Raises :class:`FileError` if the table, or else the data file, or else the book, is rejected; :class:`FingerprintError` if
         the fingerprint is another one; MemoryError.
@@ -682,8 +682,8 @@ class Upgrade:
     ) -> None:
         """Reads the six files, which are bytes, or paths of files. ``uca changes`` makes the last two of the others.
 
-        The weighting, ``identical`` and ``numeric`` are those that the stored keys were made with. ``fingerprint`` is that
-        of these keys, or "unchecked". It has to be :attr:`old_fingerprint`.
+        The weighting, ``identical`` and ``numeric`` are those that the stored keys were made with. ``fingerprint`` is
+        that of these keys, or "unchecked". It has to be :attr:`old_fingerprint`.
 
         Raises :class:`FileError` for the first file that is rejected; :class:`AuditError` if the audit rejects the step;
         :class:`FingerprintError` if the stored keys were made by other files or settings; MemoryError.
@@ -717,7 +717,8 @@ class Upgrade:
     def affected(self, text: Text) -> bool:
         """Whether the key of a text has to be made again, by a collator of the new files.
 
-        With ``numeric``, what is read of the text is judged. "10" is read as "210", so a change of the digit 2 affects it.
+        With ``numeric``, what is read of the text is judged. "10" is read as "210", so a change of the digit 2 affects
+        it.
 
         Raises :class:`TextError`, :class:`ClosedError` and MemoryError.
         """
