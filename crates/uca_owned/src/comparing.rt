@@ -120,6 +120,9 @@ fn compare_texts(
         (written_text settings.numbers properties (chars left.now))
         (written_text settings.numbers properties (chars right.now))) }
 {
+    if let Some(order) = comparison.order_beginnings(settings, left, right) {
+        return Ok((order, 1));
+    }
     let collator = collation.collator();
     let compared = comparison.compare(&collator, settings, left, right)?;
     Ok((compared.order, compared.level))

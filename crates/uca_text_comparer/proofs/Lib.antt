@@ -3,4 +3,5 @@ pub mod PlainComparisons
 pub mod PairSteps
 pub mod ComparerSteps
 pub mod PrimarySteps
+pub mod BeginningSteps
 pub mod ReadLengths

@@ -1,3 +1,4 @@
+pub mod Beginnings
 pub mod Pairs
 pub mod Primaries
 pub mod Shared

@@ -1,6 +1,7 @@
 //! `TextComparison`: compares texts by any collator and under any settings, with memory that is used again.
 
-ghost use Rattle.std.specs.Prelude.{◌≡◌, ◌-◌, ◌^◌, chars, min, IfOk, OnOk, IfErr};
+ghost use Rattle.std.specs.Prelude.{◌≡◌, ◌-◌, ◌^◌, chars, min, IfOk, OnOk, IfErr, IfSome};
+ghost use Rattle.uca_values.specs.Content.{Properties};
 ghost use Rattle.uca_weights.specs.declared.Depth.TheVariants.{Weights};
 ghost use Rattle.uca_weights.specs.declared.Numbers.TheVariants.{AsText, ByValue};
 ghost use Rattle.uca_text.specs.Limits.{IsAccepted};
@@ -11,16 +12,21 @@ ghost use Rattle.uca_plain.specs.PointCache.{AreTrueEntries};
 ghost use Rattle.uca_text_comparer.specs.Causes.{IsPairCause};
 ghost use Rattle.uca_text_comparer.specs.inside.Pairs.{ComparesPair, IsPairStop};
 
+use crate::beginnings::order_beginnings;
 use crate::decided::is_decided;
 use crate::faults::PairFault;
 use crate::normals::Normals;
 use crate::plain_comparison::PlainComparison;
 use crate::points::PointLists;
 use std::alloc::{Allocator, Global};
+use std::cmp::Ordering;
 use uca_comparison::Compared;
 use uca_elements::{Collator, Lookup};
 use uca_numbers::{WrittenText, has_no_digit};
 use uca_weights::{Depth, Numbers, Settings, Weighting};
+
+/// A text of so many bytes is accepted: what is read of it has at most 64 code points in Normalization Form D.
+const SHORT_TEXT: usize = 32;
 
 /// Memory for comparing texts. All texts have to be read by one collation: what is known of code points is true of that
 /// one alone.
@@ -97,6 +103,28 @@ impl<A: Allocator> TextComparison<A> {
                 right,
             ),
             Numbers::ByValue => self.compare_by_value(collator, weighting, depth, left, right),
+        }
+    }
+
+    /// The order of two texts of at most 32 bytes that differ at level 1 right after the code points with which both
+    /// begin. Only those that come next are looked up. There is no result for other texts, for numbers by value, and
+    /// if nothing is known of a code point yet.
+    pub fn order_beginnings(&self, settings: Settings, left: &str, right: &str) -> Option<Ordering>
+        ensures compared { (c : Collation) → AreTrueEntries c self.now.plain.points.entries.items → IfSome result (λ order.
+            let answer = texts_compared c settings (chars left.now) (chars right.now) in
+            (answer.order ≡ order) × (answer.level ≡ 1)) }
+        ensures accepted { (properties : Properties) → IfSome result (λ _.
+            IsAccepted (written_text settings.numbers properties (chars left.now))
+            × IsAccepted (written_text settings.numbers properties (chars right.now))) }
+    {
+        if left.len() > SHORT_TEXT || right.len() > SHORT_TEXT {
+            return None;
+        }
+        match settings.numbers {
+            Numbers::AsText => {
+                order_beginnings(&self.plain.points, settings.weighting, left, right)
+            }
+            Numbers::ByValue => None,
         }
     }
 

@@ -18,8 +18,12 @@
 //!
 //! A `TextComparer` keeps its collator. A `TextComparison` does without, for whatever lends one (`comparison`): an owned
 //! collator, or the command `uca compare`.
+//!
+//! Whoever needs no numbers of elements asks `order_beginnings` first. It looks up only the code points that come after
+//! what two short texts have in common (`beginnings`).
 #![tactic(auto)]
 
+mod beginnings;
 mod comparison;
 mod decided;
 mod faults;

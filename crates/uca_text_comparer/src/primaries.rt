@@ -169,10 +169,13 @@ fn compare_first<A: Allocator>(
     compare_two(weighting, pair.passed_left, pair.passed_right, left, right)
 }
 
-// The first element of a text, or none if it has no code point. There is no result if the text has more than 32 bytes,
-// if one of its first two code points is not in the cache or not plain, or if the first has no element.
+/// The first element of a text, or none if it has no code point. There is no result if the text has more than 32 bytes,
+/// or if its first code point has no element. The same is so if one of its first two is not in the cache or not plain.
 #[inline(always)]
-fn first_element<A: Allocator>(points: &PointCache<A>, text: &str) -> Option<Option<Element>>
+pub(crate) fn first_element<A: Allocator>(
+    points: &PointCache<A>,
+    text: &str,
+) -> Option<Option<Element>>
     ensures { (c : Collation) → AreTrueEntries c points.now.entries.items → IfSome result (HasFirst c (chars text.now)) }
 {
     if text.len() > SHORT_REST {
@@ -233,8 +236,8 @@ fn compare_two(
     })
 }
 
-// The weight at level 1 of the first element, or 0 if there is none.
-fn first_weight(weighting: Weighting, first: Option<Element>) -> u16
+/// The weight at level 1 of the first element, or 0 if there is none.
+pub(crate) fn first_weight(weighting: Weighting, first: Option<Element>) -> u16
     ensures { (elements : List Element) (flag : Bool) (passed : ℕ) → IsFirst first elements →
         result ≡ weight_here weighting 1 (record { elements = elements; after_variable = flag; passed = passed }) }
 {
