@@ -285,6 +285,48 @@ static void check_digits_as_text(void)
     uca_close(&it);
 }
 
+/* Two texts, and how they compare. */
+typedef struct {
+    const char *left, *right;
+    int32_t order;
+    uint32_t level;
+} row;
+
+/* What comes right after the code points with which both begin decides, unless an accent follows it. The longest texts
+   for which that is so have 32 bytes. */
+static const row BEGINNINGS[] = {
+    {"a9", "a10", 1, 1},
+    {"aa", "ab", -1, 1},
+    {"a", "ab", -1, 1},
+    {"", "a", -1, 1},
+    {"b", "b", 0, 0},
+    {"a\xCC\x81" "b", "a\xCC\x81" "a", 1, 1},
+    {"ab\xCC\x81", "aa", 1, 1},
+    {"a\xCC\x81", "ab", -1, 1},
+    {"a\xCC\x81", "a", 1, 2},
+    {"\xC3\xA1", "a", 1, 2},
+    {"\xC3\xA1", "b", -1, 1},
+    {"aaaaaaaaaaaaaaaaaaaaaaaaaaaaaaab", "aaaaaaaaaaaaaaaaaaaaaaaaaaaaaaaa", 1, 1},
+    {"aaaaaaaaaaaaaaaaaaaaaaaaaaaaaaaab", "aaaaaaaaaaaaaaaaaaaaaaaaaaaaaaaaa", 1, 1},
+};
+
+/* Of no code point anything is known the first time. */
+static void check_beginnings(uint32_t weighting, uint32_t depth)
+{
+    uca_collator it = UCA_CLOSED_COLLATOR;
+    uca_error error;
+    CHECK(opened(&it, DIGITS, DATA, weighting, depth, &error) == UCA_OK);
+    for (size_t i = 0; i < 3 * (sizeof BEGINNINGS / sizeof *BEGINNINGS); i++) {
+        const row *at = &BEGINNINGS[i % (sizeof BEGINNINGS / sizeof *BEGINNINGS)];
+        const uint8_t *left = (const uint8_t *)at->left, *right = (const uint8_t *)at->right;
+        size_t left_length = strlen(at->left), right_length = strlen(at->right);
+        CHECK(is_comparison(&it, left, left_length, right, right_length, at->order, at->level));
+        CHECK(is_comparison(&it, right, right_length, left, left_length, -at->order, at->level));
+        CHECK(is_order(&it, left, left_length, right, right_length, at->order));
+    }
+    uca_close(&it);
+}
+
 /* `a10` is read as `a210`, and `007` as `17`. */
 static void check_numbers(void)
 {
@@ -939,6 +981,8 @@ int main(void)
     check_moved(&it);
     check_identical();
     check_digits_as_text();
+    check_beginnings(UCA_NON_IGNORABLE, UCA_WEIGHTS);
+    check_beginnings(UCA_SHIFTED, UCA_IDENTICAL);
     check_numbers();
     check_long_numbers();
     check_open_compact();
