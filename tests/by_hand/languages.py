@@ -10,7 +10,8 @@
 - CLDR's own test of the root is in order under the table of `und`.
 - The rules of Korean and Japanese in two parts are accepted. The changes that keep Cyrillic letters in a Russian table list no Cyrillic line.
 - For each collation `tools/languages.py table` makes a table. All relations of CLDR hold under it (relations.py): this needs no ICU.
-- With `--numeric`, numbers come in the order of their values under each of these tables and under Unicode's.
+- With `--numeric`, numbers come in the order of their values under each of these tables and under Unicode's. That of
+  emoji alone has keys that begin with a digit: keycaps.
 - Beside ICU: the row of docs/LANGUAGES.md is the same in this run. The page says what the columns are. Without `gcc` and `libicu-dev` this part is not run.
 
 It needs Debian's unicode-data and unicode-cldr-core. The last line is `N passed, M failed`, and how many were not run.
@@ -50,6 +51,8 @@ SETTINGS = ["da-u-kf-false", "el-u-kf-upper", "en-u-ka-shifted", "en-u-kf-lower"
 SETTINGS += ["sv-u-kf-upper", "und-u-kr-zzzz-latn-symbol", "vi-u-kf-lower", "zh-u-kr-latn-hani"]
 # Numbers by their values.
 DIGITS, NUMBERS = "0123456789", [f"{it}a" for it in (0, 1, 2, 9, 10, 19, 99, 100, 12_345_678, 123_456_789, 10**20, 10**20 + 1)]
+# An order with keys that begin with a digit.
+KEYCAPS, NO_ORDER = ["und-u-co-emoji"], "the table does not order numbers"
 LOCALES, TOOL = languages.CLDR, f"{TOP}/tools/languages.py"
 # CLDR 41 is of Unicode 14. These have other weights since Unicode 15, and the last two have weights in CLDR alone.
 OTHERS = {0x0F82, 0x0F83, 0x101FD, 0x1D89, 0x2B739, 0xFFFE, 0xFFFF}
@@ -196,7 +199,7 @@ def orders_numbers(rows):
 def numbers_by_value(setup, table):
     """What is wrong with numbers under a table; nothing if they come in the order of their values."""
     if not orders_numbers(Table(table).rows):
-        return "the table does not order numbers"
+        return NO_ORDER
     text = "".join(f"{it}\n" for it in NUMBERS)
     turned = "".join(f"{it}\n" for it in reversed(NUMBERS))
     out, said = languages.run([setup.uca, "sort", "--numeric", table, setup.data], turned)
@@ -239,7 +242,10 @@ class Tries:
 
     def numbers(self):
         wrong = numbers_by_value(self.setup, self.table)
-        self.see(not wrong, wrong or "numbers come in the order of their values")
+        if self.tag.text in KEYCAPS:
+            self.see(wrong == NO_ORDER, "keycaps begin with a digit, so the table does not order numbers")
+        else:
+            self.see(not wrong, wrong or "numbers come in the order of their values")
 
     def same_rules(self, left_out):
         """The name of a file with the text of the rules for ICU, without the settings that are left out."""
