@@ -247,6 +247,68 @@ static void check_lock(uca_collator *it)
     }
 }
 
+#define SHARED 8
+
+/* What a thread does with a collator of its own, with no lock: keys and comparisons. Returns how many are right. */
+typedef struct shared {
+    pthread_t thread;
+    uca_collator collator;
+    int right;
+} shared;
+
+static void *work_alone(void *given)
+{
+    shared *it = given;
+    for (int turn = 0; turn < TURNS; turn++) {
+        it->right += IS_KEY(&it->collator, "b", "\x1C\x60\0\0\0\x20\0\0\0\x02") && COMPARES(&it->collator, "ab", "Ab", -1, 3);
+    }
+    uca_close(&it->collator);
+    return NULL;
+}
+
+/* Threads whose collators share a table. Each is closed while others are in calls, and the first is closed before them all. */
+static void check_shared_threads(void)
+{
+    uca_collator first = UCA_CLOSED_COLLATOR;
+    uca_error error;
+    shared all[SHARED];
+    CHECK(opened(&first, TABLE, DATA, UCA_NON_IGNORABLE, UCA_WEIGHTS, &error) == UCA_OK);
+    for (int i = 0; i < SHARED; i++) {
+        all[i] = (shared){.collator = UCA_CLOSED_COLLATOR, .right = 0};
+        CHECK(uca_share(&first, &all[i].collator) == UCA_OK && all[i].collator.is_open);
+    }
+    uca_close(&first);
+    for (int i = 0; i < SHARED; i++) {
+        if (pthread_create(&all[i].thread, NULL, work_alone, &all[i])) {
+            abort();
+        }
+    }
+    for (int i = 0; i < SHARED; i++) {
+        CHECK(pthread_join(all[i].thread, NULL) == 0 && all[i].right == TURNS);
+    }
+}
+
+static void check_share(void)
+{
+    uca_collator first = UCA_CLOSED_COLLATOR, other = UCA_CLOSED_COLLATOR, third = UCA_CLOSED_COLLATOR;
+    uca_error error;
+    CHECK(uca_share(&first, &other) == UCA_CLOSED && !first.is_open && !other.is_open);
+    CHECK(opened(&other, TABLE, DATA, UCA_NON_IGNORABLE, UCA_IDENTICAL, &error) == UCA_OK);
+    CHECK(uca_share(&first, &other) == UCA_CLOSED && !first.is_open && other.is_open);
+    CHECK(opened(&first, TABLE, DATA, UCA_NON_IGNORABLE, UCA_WEIGHTS, &error) == UCA_OK);
+    CHECK(uca_share(&first, &other) == UCA_ALREADY_OPEN && first.is_open);
+    CHECK(IS_KEY(&other, "a", "\x1C\x47\0\0\0\x20\0\0\0\x02\0\0\0\0\x61"));
+    CHECK(uca_share(&first, &third) == UCA_OK && first.is_open && third.is_open);
+    CHECK(IS_KEY(&first, "a", "\x1C\x47\0\0\0\x20\0\0\0\x02") && IS_KEY(&third, "a", "\x1C\x47\0\0\0\x20\0\0\0\x02"));
+    uca_close(&first);
+    CHECK(IS_KEY(&third, "b", "\x1C\x60\0\0\0\x20\0\0\0\x02") && COMPARES(&third, "ab", "Ab", -1, 3));
+    CHECK(uca_share(&third, &first) == UCA_OK);
+    uca_close(&third);
+    CHECK(IS_KEY(&first, "b", "\x1C\x60\0\0\0\x20\0\0\0\x02"));
+    uca_close(&first);
+    uca_close(&other);
+}
+
 static void check_identical(void)
 {
     uca_collator it = UCA_CLOSED_COLLATOR;
@@ -491,6 +553,19 @@ static bool makes_none(call *made, uca_collator *collator, const uint8_t *bytes,
 }
 
 #define MAKES_NONE(made, collator, bytes, status) makes_none(made, collator, BYTES(bytes), status)
+
+/* The book goes along, and each has memory of its own for what it makes. */
+static void check_compact_share(void)
+{
+    uca_collator first = UCA_CLOSED_COLLATOR, other = UCA_CLOSED_COLLATOR;
+    uca_error error;
+    CHECK(opened_compact(&first, TABLE, DATA, BOOK, UCA_NON_IGNORABLE, UCA_WEIGHTS, &error) == UCA_OK);
+    CHECK(uca_share(&first, &other) == UCA_OK);
+    CHECK(MAKES(uca_key, &first, "a", "\x08\x02") && MAKES(uca_key, &other, "ab", "\x08\x0A\x02"));
+    uca_close(&first);
+    CHECK(MAKES(uca_expand, &other, "\x08\x02", "\x1C\x47\0\0\0\x20\0\0\0\x02"));
+    uca_close(&other);
+}
 
 static void check_compact_keys(void)
 {
@@ -979,6 +1054,8 @@ int main(void)
     check_threads(&it);
     check_lock(&it);
     check_moved(&it);
+    check_share();
+    check_shared_threads();
     check_identical();
     check_digits_as_text();
     check_beginnings(UCA_NON_IGNORABLE, UCA_WEIGHTS);
@@ -986,6 +1063,7 @@ int main(void)
     check_numbers();
     check_long_numbers();
     check_open_compact();
+    check_compact_share();
     check_compact_keys();
     check_ranges();
     check_number_ranges();

@@ -155,6 +155,32 @@ static bool use(opened *opened)
     return known && status == UCA_OK && other == UCA_OK && third == UCA_OK;
 }
 
+/* Opens with a book, and one more that shares the table, makes a key by each, and closes the second. Returns whether nothing failed. */
+static bool use_shared(opened *opened)
+{
+    uca_collator *it = &opened->collator;
+    uca_collator other = UCA_CLOSED_COLLATOR;
+    uca_error error = {7, 7};
+    if (!it->is_open) {
+        uint32_t status = uca_open_compact(it, BYTES(TABLE), BYTES(DATA), BYTES(BOOK), UCA_NON_IGNORABLE, UCA_WEIGHTS, &error);
+        if (status != UCA_OK) {
+            return false;
+        }
+    }
+    uint32_t shared = uca_share(it, &other);
+    CHECK(it->is_open && (shared == UCA_OK ? other.is_open : can_fail() && shared == UCA_MEMORY && !other.is_open));
+    if (shared != UCA_OK) {
+        return false;
+    }
+    uint8_t key[64] = {0xEE}, same[64] = {0xEE};
+    size_t needed = 7;
+    uint32_t status = uca_key(&other, BYTES("a\xCC\x81"), key, sizeof key, &needed);
+    bool is_key = is_made(status, key, needed, COMPACT_KEY, sizeof COMPACT_KEY);
+    uca_close(&other);
+    status = uca_key(it, BYTES("a\xCC\x81"), same, sizeof same, &needed);
+    return is_made(status, same, needed, COMPACT_KEY, sizeof COMPACT_KEY) && is_key;
+}
+
 static const char DIGITS[] = "@version 1\n0030 ; [.1C3D.0020.0002]\n0031 ; [.1C3E.0020.0002]\n"
                              "0037 ; [.1C44.0020.0002]\n";
 static const uint8_t NUMBER_KEY[] = {0x1C, 0x3E, 0x1C, 0x44, 0, 0, 0,    0x20, 0, 0x20, 0, 0,
@@ -266,7 +292,7 @@ static long run_all(bool uses(opened *))
 
 int main(void)
 {
-    bool (*const uses[])(opened *) = {use, use_compact, use_numbers, use_upgrade};
+    bool (*const uses[])(opened *) = {use, use_compact, use_shared, use_numbers, use_upgrade};
     long all = 0;
     for (size_t i = 0; i < sizeof uses / sizeof *uses; i++) {
         long count = run_all(uses[i]);

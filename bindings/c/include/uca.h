@@ -10,14 +10,15 @@
      moved in memory, between calls, if the old bytes are forgotten. A copy of an open one is none. So it is with a uca_upgrade
      (UCA_CLOSED_UPGRADE).
    - A uca_collator or a uca_upgrade is in one call at a time. It may change threads between two calls, if a lock or a thread's
-     start or join orders these. uca_abi, uca_version, uca_collator_size, uca_upgrade_size, uca_compare_keys, uca_fingerprint and
+     start or join orders these. For work side by side, each thread has a collator of its own: uca_share opens one of another,
+     in little time and memory. uca_abi, uca_version, uca_collator_size, uca_upgrade_size, uca_compare_keys, uca_fingerprint and
      uca_compact_fingerprint may be called from any thread at any time.
    - malloc, realloc and free are one allocator, whose blocks are aligned to 16 bytes. No call is made in a signal handler, or in
      the forked child of a process with threads.
 
    Who owns what: memory that a pointer names stays the caller's. An open collator has memory of its own, which uca_close
-   gives back, and so has an open upgrade, for uca_close_upgrade. uca_open, uca_open_compact and uca_open_upgrade keep none of
-   the bytes that they read.
+   gives back, and so has an open upgrade, for uca_close_upgrade. Memory that several collators share (uca_share) is given back
+   with the last of them. uca_open, uca_open_compact and uca_open_upgrade keep none of the bytes that they read.
 
    Keys are whole or compact. uca_key makes whole keys (UTS #10, section 7.3) where the collator was opened by uca_open, and
    compact keys where it was opened by uca_open_compact. A compact key is the same key in fewer bytes, by a book: a small file that
@@ -217,6 +218,16 @@ uint32_t uca_open(uca_collator *collator, const uint8_t *table, size_t table_len
    UCA_ALREADY_OPEN, UCA_ARGUMENT, UCA_TABLE, UCA_DATA, UCA_BOOK, UCA_MEMORY: the collator is as before. */
 uint32_t uca_open_compact(uca_collator *collator, const uint8_t *table, size_t table_length, const uint8_t *data, size_t data_length,
                           const uint8_t *book, size_t book_length, uint32_t weighting, uint32_t depth, uca_error *error);
+
+/* Opens `other`, which is closed, as one more collator with all that `collator` keys texts by, and with its book. Both share the
+   table and the data file. From then on each may be in a call of another thread at the same time, and may be closed before the
+   other. The two are not the same uca_collator.
+
+   UCA_OK: the keys, ranges and comparisons of `other` are those of `collator`, until uca_close of `other`.
+   UCA_CLOSED: `collator` is closed.
+   UCA_ALREADY_OPEN: both are open.
+   UCA_CLOSED, UCA_ALREADY_OPEN, UCA_MEMORY: `other` is as before. */
+uint32_t uca_share(uca_collator *collator, uca_collator *other);
 
 /* The sort key of a text (UTS #10, section 7.3), which is UTF-8 and may have any bytes, also 0. It is the compact key where the
    collator has a book, else the whole key.

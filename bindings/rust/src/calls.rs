@@ -116,6 +116,7 @@ extern "C" {
         depth: u32,
         error: *mut Error,
     ) -> u32;
+    pub fn uca_share(collator: *mut Collator, other: *mut Collator) -> u32;
     pub fn uca_key(
         collator: *mut Collator,
         text: *const u8,

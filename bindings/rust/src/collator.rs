@@ -1,7 +1,7 @@
 //! An open collator: keys, ranges of keys, and comparisons.
 use crate::calls;
 use crate::room::{self, append, with, Room};
-use crate::{Fingerprint, Options, StoredKeyError, TextError};
+use crate::{Fingerprint, OpenError, Options, StoredKeyError, TextError};
 use std::cmp::Ordering;
 use std::fmt;
 use std::ops::Range;
@@ -35,7 +35,7 @@ impl From<calls::Comparison> for Comparison {
 /// A table and a data file, by which texts get their sort keys and are compared. With a book, keys are compact.
 ///
 /// It may change threads, but two threads do not use it at once: each call takes `&mut self`. For work side by side,
-/// open one for each thread.
+/// [`Collator::share`] gives each thread one of its own.
 pub struct Collator {
     // It may be moved: uca.h allows that between two calls, if the old bytes are forgotten, as they are in Rust.
     inner: calls::Collator,
@@ -65,6 +65,31 @@ impl Collator {
     /// What keys are made by. Keep it beside stored keys.
     pub fn fingerprint(&self) -> Fingerprint {
         self.fingerprint
+    }
+
+    /// One more collator with all that this one keys texts by, for another thread. Both share the table and the data
+    /// file, so it takes little time and memory.
+    ///
+    /// ```no_run
+    /// # fn main() -> Result<(), Box<dyn std::error::Error>> {
+    /// let mut first = uca::Collator::options().open(&std::fs::read("allkeys.txt")?, &std::fs::read("data.txt")?)?;
+    /// let mut other = first.share()?;
+    /// let key = std::thread::spawn(move || other.key("Łódź"));
+    /// # drop(key);
+    /// # Ok(())
+    /// # }
+    /// ```
+    ///
+    /// # Errors
+    ///
+    /// [`OpenError::Memory`] alone.
+    pub fn share(&mut self) -> Result<Self, OpenError> {
+        let mut inner = calls::Collator::CLOSED;
+        // SAFETY: this collator is open, and the other one is closed and another value.
+        match unsafe { calls::uca_share(&mut self.inner, &mut inner) } {
+            calls::OK => Ok(Self::of_open(inner, self.fingerprint)),
+            _ => Err(OpenError::Memory),
+        }
     }
 
     /// The sort key of a text, which is compact if there is a book. Keys of one collator compare as bytes as their

@@ -356,3 +356,22 @@ fn a_collator_moves_to_another_thread() {
     .unwrap();
     assert_eq!(collator.key("a").unwrap(), key);
 }
+
+#[test]
+fn collators_that_share_a_table_work_in_threads_at_once() {
+    let mut first = Collator::options().weighting(Weighting::NonIgnorable).book(BOOK).open(TABLE, DATA).unwrap();
+    let wanted = (first.key("ab").unwrap(), first.compare("ab", "Ab").unwrap());
+    let workers: Vec<_> = (0..4)
+        .map(|_| {
+            let mut other = first.share().unwrap();
+            assert_eq!(other.fingerprint(), first.fingerprint());
+            thread::spawn(move || {
+                (0..2000).map(|_| (other.key("ab").unwrap(), other.compare("ab", "Ab").unwrap())).collect::<Vec<_>>()
+            })
+        })
+        .collect();
+    drop(first);
+    for worker in workers {
+        assert!(worker.join().unwrap().iter().all(|found| *found == wanted));
+    }
+}

@@ -1,7 +1,9 @@
 //! Tests of numbers by value: what is written of texts, which texts have digits, and keys and comparisons of texts with
-//! numbers.
+//! numbers. Beginnings of texts, too, which are ordered as their code points come.
 #![tactic(auto)]
 
+#[cfg(test)]
+mod beginnings;
 #[cfg(test)]
 mod texts;
 #[cfg(test)]

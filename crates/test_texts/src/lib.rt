@@ -3,6 +3,8 @@
 #![tactic(auto)]
 
 #[cfg(test)]
+mod asked_settings;
+#[cfg(test)]
 mod cases;
 #[cfg(test)]
 mod compared_texts;

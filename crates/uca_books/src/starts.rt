@@ -1,10 +1,10 @@
 //! The weights at which cells begin, in their order.
 
-ghost use Rattle.std.specs.Prelude.{◌≡◌, ◌↔◌, ◌⊎◌, [], IsTrue, OnOk, OnErr, IfErr};
+ghost use Rattle.std.specs.Prelude.{◌≡◌, ◌↔◌, ◌⊎◌, [], IsTrue, OnOk, OnErr, IfOk, IfErr};
 ghost use Rattle.uca_values.specs.declared.faults.FaultKind.{FaultKind};
 ghost use Rattle.uca_books.specs.Books.{Letter, Variable, IsBook, MayFollow, Adds, Refuses, last_of};
 
-use std::alloc::{Allocator, Global};
+use std::alloc::{AllocError, Allocator, Global};
 use std::marker::Model;
 use uca_values::FaultKind;
 
@@ -52,6 +52,21 @@ impl<A: Allocator + Copy> Book<A> {
 }
 
 impl<A: Allocator> Book<A> {
+    /// A copy of this book, in memory of its own.
+    ///
+    /// # Errors
+    ///
+    /// An allocation failed.
+    pub fn copied<B: Allocator + Copy>(&self, alloc: B) -> Result<Book<B>, AllocError>
+        ensures { IfOk result (λ book. book ≡ self.now) }
+    {
+        let mut letters = Vec::new(alloc);
+        letters.extend_from_slice(&self.letters)?;
+        let mut variables = Vec::new(alloc);
+        variables.extend_from_slice(&self.variables)?;
+        Ok(Book { letters, variables })
+    }
+
     /// Adds a start of level 1 after the others.
     ///
     /// # Errors

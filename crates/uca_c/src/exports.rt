@@ -80,6 +80,39 @@ pub extern "C" fn uca_open(
     }
 }
 
+/// Opens a collator that is closed, as one more with all that an open one keys texts by. The two share what was read, and
+/// two threads may call them at the same time.
+#[unsafe(no_mangle)]
+pub extern "C" fn uca_share(alloc: Global, collator: &mut Slot, other: &mut Slot) -> u32
+    ensures closed { (result ≡ CLOSED) ↔ (collator.old.full ≡ false) }
+    ensures already { (result ≡ ALREADY_OPEN) ↔ ((collator.old.full ≡ true) × (other.old.full ≡ true)) }
+    ensures statuses { (result ≡ OK) ⊎ (result ≡ CLOSED) ⊎ (result ≡ ALREADY_OPEN) ⊎ (result ≡ MEMORY) }
+    ensures ok { result ≡ OK → keying_at other.new.handle.kept ≡ keying_at collator.old.handle.kept }
+    ensures same_book { result ≡ OK → other.new.handle.kept.book ≡ collator.old.handle.kept.book }
+    ensures open { result ≡ OK → other.new.full ≡ true }
+    ensures same { result ≢ OK → other.new ≡ other.old }
+    ensures full { collator.new.full ≡ collator.old.full }
+    ensures keying { collator.old.full ≡ true → keying_at collator.new.handle.kept ≡ keying_at collator.old.handle.kept }
+    ensures book { collator.old.full ≡ true → collator.new.handle.kept.book ≡ collator.old.handle.kept.book }
+{
+    if !collator.full {
+        return CLOSED;
+    }
+    if other.full {
+        return ALREADY_OPEN;
+    }
+    let opened = take(alloc, collator);
+    let shared = opening::share(alloc, &opened);
+    put(collator, opened);
+    match shared {
+        Ok(shared) => {
+            put(other, shared);
+            OK
+        }
+        Err(status) => status,
+    }
+}
+
 /// Writes the key of a text at `out`.
 #[unsafe(no_mangle)]
 pub extern "C" fn uca_key(

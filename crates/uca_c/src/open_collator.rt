@@ -1,8 +1,9 @@
 //! What an open collator of C's has.
 
-ghost use Rattle.std.specs.Prelude.{◌≡◌, None, Some};
+ghost use Rattle.std.specs.Prelude.{◌≡◌, None, Some, IfOk};
+ghost use Rattle.uca_c.specs.OpenCollators.{keying_at};
 
-use std::alloc::Global;
+use std::alloc::{AllocError, Global};
 use std::marker::Model;
 use uca_books::Book;
 use uca_compact::KeyCompacter;
@@ -50,6 +51,21 @@ impl OpenCollator {
             collator,
             compacter: Some(KeyCompacter::new(alloc, book, settings)),
             made: Vec::new(alloc),
+        }
+    }
+
+    // One more with all that this one keys texts by. They share the table and the data file.
+    pub(crate) fn share(&self, alloc: Global) -> Result<OpenCollator, AllocError>
+        ensures keying { IfOk result (λ shared. keying_at shared ≡ keying_at self.now) }
+        ensures book { IfOk result (λ shared. shared.book ≡ self.now.book) }
+    {
+        let collator = self.collator.share(alloc)?;
+        match &self.compacter {
+            None => Ok(OpenCollator::new(alloc, collator)),
+            Some(compacter) => {
+                let book = compacter.book().copied(alloc)?;
+                Ok(OpenCollator::with_book(alloc, collator, book))
+            }
         }
     }
 }

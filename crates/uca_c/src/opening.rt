@@ -148,6 +148,18 @@ pub fn open_compact(
     }
 }
 
+// One more collator with all that an open one keys texts by, or the status of the call.
+pub fn share(alloc: Global, collator: &OpenCollator) -> Result<Box<OpenCollator>, u32>
+    ensures keying { IfOk result (λ kept. keying_at kept.value ≡ keying_at collator.now) }
+    ensures book { IfOk result (λ kept. kept.value.book ≡ collator.now.book) }
+    ensures rejected { IfErr result (λ status. status ≡ MEMORY) }
+{
+    match collator.share(alloc) {
+        Ok(shared) => keep(alloc, shared),
+        Err(_) => Err(MEMORY),
+    }
+}
+
 // The fingerprint of what a collator of these bytes keys texts by, or the status of the call.
 pub fn fingerprint(
     alloc: Global,

@@ -2,6 +2,7 @@
 use Rattle.std.proofs.Common.{inl, inr, ⊎_elim, ℕ, List, [], ◌∷◌, None, map, Contains, refl, ap, arith}
 use Rattle.std.specs.List.{AllByRecursion}
 use Rattle.std.proofs.lemmas.List.Elements.{Contains-append_right}
+use Rattle.uca_weights.specs.AskedSettings.{weighting_by}
 use Rattle.uca_weights.proofs.Lists.{each_weaker}
 use Rattle.uca_relations.specs.declared.Relation.{Relation}
 use Rattle.uca_relations.specs.Relations.{IsTarget}
@@ -10,7 +11,6 @@ use Rattle.uca_tailorings.specs.KeptRows.{IsKeptRow, IsKnownRow}
 use Rattle.uca_tailorings.specs.Tailorings.{Tailoring, IsCovered, IsCoveredRow, IsPresentRow, IsUnchangedRow, IsExpectedRow, IsAccepted}
 use Rattle.uca_tailorings.specs.declared.conditions.Condition.TheVariants as conditions
 use Rattle.uca_change_lists.specs.Points.{range_pair}
-use Rattle.uca_order.specs.Keyings.{weighting_by}
 use Rattle.uca_changes.specs.Changes.{IsChangedText, IsAcceptedChange}
 use Rattle.uca_changes.specs.declared.conditions.ChangeCondition.TheVariants.{OldIllFormed, NewIllFormed, RangeChanged, Uncovered, RowChanged, RowMissing, RowExtra, PointChanged, SettingChanged}
 use Rattle.uca_changes.specs.Laws.{change_of, TailoringsAreChanges}

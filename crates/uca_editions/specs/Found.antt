@@ -1,11 +1,11 @@
 -- The change that was found, and why there is none.
 use Rattle.std.specs.Prelude.{◌≡◌, ◌⊎◌, None, ⊤}
+use Rattle.uca_weights.specs.AskedSettings.{weighting_by}
 use Rattle.uca_values.specs.Content.{properties_of}
 use Rattle.uca_certificates.specs.Certificates.{CertificateContent}
 use Rattle.uca_tailorings.specs.Inputs.{maps_of}
 use Rattle.uca_change_lists.specs.ChangeLists.{ChangesContent}
 use Rattle.uca_check.specs.WellFormed.{IsWellFormed}
-use Rattle.uca_order.specs.Keyings.{weighting_by}
 use Rattle.uca_changes.specs.Changes.{Change}
 use Rattle.uca_changes.specs.declared.conditions.ChangeCondition.{ChangeCondition}
 use Rattle.uca_changes.specs.declared.conditions.ChangeCondition.TheVariants.{OldIllFormed, NewIllFormed, RangeChanged, Uncovered, RowChanged, RowMissing, RowExtra, PointChanged, SettingChanged}

@@ -2,10 +2,10 @@
 //! first position where it is not.
 
 ghost use Rattle.std.specs.Prelude.{◌≡◌, ◌<◌, ◌+◌, IfOk, None, length};
+ghost use Rattle.uca_weights.specs.AskedSettings.{weighting_by};
 ghost use Rattle.uca_check.specs.Searches.{FindsFirstWithout};
 ghost use Rattle.uca_elements.specs.Rows.{rows_of};
 ghost use Rattle.uca_tailorings.specs.KeptRows.{IsKnownRow};
-ghost use Rattle.uca_order.specs.Keyings.{weighting_by};
 ghost use Rattle.uca_changes.specs.Changes.{IsChangedText};
 ghost use Rattle.uca_editions.specs.ChangeInputs.{change_in};
 ghost use Rattle.uca_editions.specs.inside.Chaining.{FindsRowsOf, MeetsBelow, Passes};

@@ -9,6 +9,7 @@ use Rattle.std.proofs.lemmas.List.{length-append, take-append-le}
 use Rattle.uca_weights.specs.declared.Asked.{Asked}
 use Rattle.uca_weights.specs.declared.Settings.{Settings}
 use Rattle.uca_weights.specs.Streams.{SourceState, SinkState}
+use Rattle.uca_weights.specs.AskedSettings.{settings_by}
 use Rattle.uca_text.specs.Texts.{NfdText}
 use Rattle.uca_fingerprint.specs.Fingerprints.{compact_fingerprint_text, fingerprint_text}
 use Rattle.uca_fingerprint.specs.KeyHeaders.{compact_header, key_header}
@@ -21,7 +22,7 @@ use Rattle.uca_run_parts.specs.EachLine.{WritesEach, ended_before_input}
 use Rattle.uca_run_parts.specs.Input.{clean_lines}
 use Rattle.uca_run_parts.specs.Runs.{FailsToWrite, ended_by_output, is_input_read}
 use Rattle.uca_fingerprint_runs.specs.SummedFiles.{BookedContent, SummedContent}
-use Rattle.uca_order.specs.Keyings.{settings_by, Keying, keying, text_of}
+use Rattle.uca_order.specs.Keyings.{Keying, keying, text_of}
 use Rattle.uca_key_runs.specs.inside.HeadedParts.{ended_after}
 use Rattle.uca_key_runs.specs.HeadedRun.{RunsHeaded, WritesHeaded, header_under}
 use Rattle.uca_key_runs.specs.HeadedCompactRun.{RunsHeadedCompact, compact_header_under}

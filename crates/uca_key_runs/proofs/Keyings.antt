@@ -2,11 +2,12 @@
 use Rattle.std.proofs.Common.{◌≡◌, ap, ap₂, ◌∙◌}
 use Rattle.uca_weights.specs.declared.Asked.{Asked}
 use Rattle.uca_weights.specs.declared.Settings.{Settings}
+use Rattle.uca_weights.specs.AskedSettings.{settings_by}
 use Rattle.uca_values.specs.Content.{HeaderContent}
 use Rattle.uca_elements.specs.Rows.{Rows, rows_of}
 use Rattle.uca_elements.specs.Collations.{Collation, collation_over}
 use Rattle.uca_run_parts.specs.Files.{TableAndData}
-use Rattle.uca_order.specs.Keyings.{settings_by, keying, keying_by}
+use Rattle.uca_order.specs.Keyings.{keying, keying_by}
 use Rattle.uca_key_runs.specs.Keys.{IsCollation}
 
 -- it is the same where its parts are

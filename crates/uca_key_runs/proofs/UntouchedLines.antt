@@ -7,6 +7,7 @@ use Rattle.uca_weights.specs.declared.Depth.TheVariants.{Weights, Identical}
 use Rattle.uca_weights.specs.declared.Element.{Element}
 use Rattle.uca_weights.specs.declared.Numbers.{Numbers}
 use Rattle.uca_weights.specs.declared.Weighting.{Weighting}
+use Rattle.uca_weights.specs.AskedSettings.{weighting_by}
 use Rattle.uca_values.specs.Content.{HeaderContent}
 use Rattle.uca_text.specs.Limits.{IsNormal}
 use Rattle.uca_elements.specs.Collations.{elements_of}
@@ -18,7 +19,7 @@ use Rattle.uca_tailorings.specs.Laws.{AcceptedTailoringsAreFaithful}
 use Rattle.uca_tailorings.specs.Meaning.{IsFaithful}
 use Rattle.uca_tailorings.specs.Tailorings.{Tailoring, base_reading, tailored_reading}
 use Rattle.uca_tailorings.specs.declared.conditions.Condition.TheVariants.{Header}
-use Rattle.uca_order.specs.Keyings.{weighting_by, key_of_bytes, bytes_compared}
+use Rattle.uca_order.specs.Keyings.{key_of_bytes, bytes_compared}
 use Rattle.uca_run_parts.specs.Input.{line_text}
 use Rattle.uca_run_parts.specs.Print.{print_line_at}
 use Rattle.uca_key_runs.specs.Laws.{base_keying, tailored_keying, LineKeysCompareAsLines, IsUntouchedLine, UntouchedLinesKeepTheirOrder}

@@ -2,10 +2,11 @@
 use Rattle.std.specs.Prelude.{ℕ, List, IfSome, Result, Err, ⊤}
 use Rattle.uca_weights.specs.declared.Asked.{Asked}
 use Rattle.uca_weights.specs.Streams.{SourceState, SinkState}
+use Rattle.uca_weights.specs.AskedSettings.{settings_by}
 use Rattle.uca_books.specs.Books.{BookContent}
 use Rattle.uca_fingerprint.specs.KeyHeaders.{compact_header}
 use Rattle.uca_lines.specs.Lines.{ended}
-use Rattle.uca_order.specs.Keyings.{Keying, keying, settings_by, text_of}
+use Rattle.uca_order.specs.Keyings.{Keying, keying, text_of}
 use Rattle.uca_run_parts.specs.declared.faults.RunFault.{RunFault}
 use Rattle.uca_run_parts.specs.declared.faults.RunFault.TheVariants.{Memory}
 use Rattle.uca_run_parts.specs.EachLine.{PrintsEach}

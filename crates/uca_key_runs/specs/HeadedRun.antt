@@ -4,10 +4,11 @@ use Rattle.std.specs.List.{flat_map}
 use Rattle.std.specs.Io.KnownBytes.{Appends}
 use Rattle.uca_weights.specs.declared.Asked.{Asked}
 use Rattle.uca_weights.specs.Streams.{SourceState, SinkState}
+use Rattle.uca_weights.specs.AskedSettings.{settings_by}
 use Rattle.uca_text.specs.Texts.{NfdText}
 use Rattle.uca_fingerprint.specs.KeyHeaders.{key_header}
 use Rattle.uca_lines.specs.Lines.{ended, lines_of}
-use Rattle.uca_order.specs.Keyings.{settings_by, Keying, keying, text_of}
+use Rattle.uca_order.specs.Keyings.{Keying, keying, text_of}
 use Rattle.uca_run_parts.specs.declared.faults.RunFault.{RunFault}
 use Rattle.uca_run_parts.specs.declared.faults.RunFault.TheVariants.{Input, Memory, Write}
 use Rattle.uca_run_parts.specs.EachLine.{PrintsEach}

@@ -7,7 +7,6 @@ ghost use Rattle.uca_match.specs.OwnedCollations.{owned_collation};
 ghost use Rattle.uca_order.specs.Lengths.{HasShortRows};
 ghost use Rattle.uca_run_parts.specs.Files.{HaveFailed, Over, table_and_data, table_and_data_roles, table_with};
 ghost use Rattle.uca_run_parts.specs.EachLine.{ended_before_input};
-ghost use Rattle.uca_order.specs.Keyings.{as_text, settings_by};
 ghost use Rattle.uca_key_runs.specs.Keys.{IsCollation};
 
 pub(crate) mod packed_files;
@@ -20,7 +19,7 @@ use uca_match::{OwnedCollation, Trie};
 use uca_order::laws::rows_are_short;
 use uca_run_parts::RunFault;
 use uca_values::{Data, Header, PackedTable};
-use uca_weights::{Asked, Depth, Numbers, Settings, Source, Weighting};
+use uca_weights::{Asked, Settings, Source};
 
 /// What keys go by: what texts are read by, and settings.
 #[derive(Drop)]
@@ -77,7 +76,7 @@ pub(crate) fn collation_of<A: Allocator + Copy>(
 {
     match rows_of_table(alloc, table) {
         Ok((header, rows)) => Ok(ReadCollation {
-            settings: chosen_settings(asked, &header),
+            settings: asked.settings(header.setting),
             collation: OwnedCollation {
                 rows,
                 header,
@@ -107,31 +106,5 @@ fn rows_of_table<A: Allocator + Copy>(
     match Trie::of_table(alloc, table) {
         Ok(both) => Ok(both),
         Err(_) => Err(RunFault::Memory),
-    }
-}
-
-// The settings that are asked for. The weighting is the one that is asked for, or else that of the table's `@variable`,
-// or else shifted (UTS #10, section 4).
-fn chosen_settings<A: Allocator>(asked: Asked, header: &Header<A>) -> Settings
-    ensures { result ≡ settings_by asked header.now.setting }
-{
-    Settings {
-        weighting: asked
-            .weighting
-            .or(header.setting)
-            .unwrap_or(Weighting::Shifted),
-        depth: asked.depth,
-        numbers: asked.numbers,
-    }
-}
-
-/// What is asked for where numbers compare as any other text.
-pub(crate) fn asked_as_text(weighting: Option<Weighting>, depth: Depth) -> Asked
-    ensures { result ≡ as_text weighting depth }
-{
-    Asked {
-        weighting,
-        depth,
-        numbers: Numbers::AsText,
     }
 }

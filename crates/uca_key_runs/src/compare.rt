@@ -2,12 +2,13 @@
 //! (`TextComparison` of `uca_text_comparer`).
 
 ghost use Rattle.std.specs.Prelude.{◌≡◌, ◌∷◌, [], ◌≤◌, ◌||◌, true, false};
-ghost use Rattle.uca_order.specs.Keyings.{as_text, keying_of};
+ghost use Rattle.uca_weights.specs.AskedSettings.{as_text};
+ghost use Rattle.uca_order.specs.Keyings.{keying_of};
 ghost use Rattle.uca_run_parts.specs.Files.{ended_by_file};
 ghost use Rattle.uca_run_parts.specs.Runs.{ended_before_output, ended_by_output};
 ghost use Rattle.uca_key_runs.specs.CompareRun.{comparison_line, Compares, WritesComparison, comparing};
 
-use crate::collations::{asked_as_text, read_collation};
+use crate::collations::read_collation;
 use std::alloc::{Allocator, Global};
 use std::cmp::Ordering;
 use std::io::{Read, Write};
@@ -87,7 +88,7 @@ pub fn run_compare<T: Read, D: Read, W: Write>(
         left,
         right,
         out,
-        asked_as_text(weighting, depth),
+        Asked::as_text(weighting, depth),
     )
 }
 

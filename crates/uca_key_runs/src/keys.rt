@@ -2,6 +2,7 @@
 
 ghost use Rattle.std.specs.Prelude.{◌≡◌, ◌∷◌, [], ℕ, ◌+◌, ◌-◌, ◌*◌, ◌^◌, ◌<◌, ◌≤◌, ◌||◌, true, false, List, Option, IfErr, IfOk, IfSome, OnOk, length, chars};
 ghost use Rattle.std.specs.Bool.{OnTrue};
+ghost use Rattle.uca_weights.specs.AskedSettings.{as_text};
 ghost use Rattle.uca_lines.specs.OutputBuffer.{IsBuffered};
 ghost use Rattle.uca_lines.specs.Buffered.{HasRoom, WritesThrough};
 ghost use Rattle.unicode_normalization.specs.Forms.{nfd};
@@ -9,7 +10,7 @@ ghost use Rattle.uca_text.specs.Texts.{NfdText};
 ghost use Rattle.uca_elements.specs.Collations.{collation_of};
 ghost use Rattle.uca_order.specs.Lengths.{HasShortRows};
 ghost use Rattle.uca_order.specs.Depths.{read_points};
-ghost use Rattle.uca_order.specs.Keyings.{as_text, keying_of, text_of};
+ghost use Rattle.uca_order.specs.Keyings.{keying_of, text_of};
 ghost use Rattle.uca_key_writer.specs.Writers.{collation_by};
 ghost use Rattle.uca_key_runs.specs.Keys.{keying_at, keying_of_writer};
 ghost use Rattle.uca_run_parts.specs.Runs.{is_input_read, ended_by_output};
@@ -21,7 +22,7 @@ ghost use Rattle.uca_run_parts.specs.Texts.{HasRead, HasTextCause, ReadsCleanLin
 ghost use Rattle.uca_key_runs.specs.inside.KeyForms;
 ghost use Rattle.uca_key_runs.specs.inside.KeyForms.{IsFor, MakesKeys, PrintsAs, book_of, compacter_of, depth_as, line_as, printed_as, shown_at, shown_of};
 
-use crate::collations::{asked_as_text, read_collation};
+use crate::collations::read_collation;
 use crate::compacting::{Compacting, compact_shown, compacting_by, shown};
 use crate::line_keys::write_line_key;
 use std::alloc::{Allocator, Global};
@@ -392,7 +393,7 @@ pub fn run_keys<T: Read, D: Read, I: Read, W: Write>(
         properties,
         input,
         out,
-        asked_as_text(weighting, depth),
+        Asked::as_text(weighting, depth),
     )
 }
 

@@ -18,7 +18,7 @@ use Rattle.uca_numbers.specs.Texts.{by_value}
 use Rattle.uca_order.specs.Levels.{key_bytes}
 use Rattle.uca_order.specs.Depths.{key_at, points_bytes, read_points, text_key, written}
 use Rattle.uca_order.specs.Lengths.{HasShortRows}
-use Rattle.uca_order.proofs.KeyLength.{length-key, length-elements, length-with_classes}
+use Rattle.uca_order.proofs.KeyLength.{length-key, length-elements, length-points_bytes, length-with_classes}
 use Rattle.uca_plain.proofs.Results.{with_value}
 use Rattle.uca_key_writer.specs.Buffers.{KeyState}
 use Rattle.uca_key_writer.specs.inside.AsItIs.{key_as_it_is}
@@ -77,11 +77,6 @@ key_with_points c settings xs ys points text by is text_is points_are =
 -- a key is as short as what it is
 pub as_short : {T E : Type 0} (r : Result T E) (key is : List ℕ) → length is < 2 ^ 40 → OnOk r (key ≡ is) → OnOk r (length key < 2 ^ 40)
 as_short r key is short = with_value r (key ≡ is) (length key < 2 ^ 40) (λ same. subst (λ (l : List ℕ). length l < 2 ^ 40) (sym same) short)
-
--- three bytes for each code point
-length-points_bytes : (points : List ℕ) → length (points_bytes points) ≡ 3 * length points
-length-points_bytes [] = refl
-length-points_bytes (p ∷ points) = omega (arith, length-points_bytes points)
 
 -- the key of an accepted text, and other code points
 pub with_points_short : (c : Collation) (depth : Depth) (weighting : Weighting) (text : NfdText) (points : List ℕ) → HasShortRows c.rows → IsAccepted text

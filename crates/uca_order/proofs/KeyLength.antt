@@ -174,7 +174,7 @@ length-with_classes (c ∷ points) [] = omega arith
 length-with_classes (c ∷ points) (k ∷ classes) = omega (arith, length-with_classes points classes)
 
 -- three bytes for each code point
-length-points_bytes : (points : List ℕ) → length (points_bytes points) ≡ 3 * length points
+pub length-points_bytes : (points : List ℕ) → length (points_bytes points) ≡ 3 * length points
 length-points_bytes [] = refl
 length-points_bytes (p ∷ points) = omega (arith, length-points_bytes points)
 

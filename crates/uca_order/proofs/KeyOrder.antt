@@ -64,6 +64,12 @@ pub lexicographic_itself : (xs : List ℕ) → lexicographic xs xs ≡ Equal
 lexicographic_itself [] = refl
 lexicographic_itself (x ∷ xs) = ap (λ o. ordering_then o (lexicographic xs xs)) (cmp_equal x x refl) ∙ lexicographic_itself xs
 
+-- so are lists of levels, at each level
+pub lists_themselves : (level : ℕ) (lists : List (List ℕ)) → compare_from level lists lists ≡ record { order = Equal; level = 0 }
+lists_themselves level [] = refl
+lists_themselves level (a ∷ more) =
+    ap (λ o. decided o level (compare_from (suc level) more more)) (lexicographic_itself a) ∙ lists_themselves (suc level) more
+
 -- lists that compare as equal are equal
 pub same_from_lexicographic : (xs ys : List ℕ) → lexicographic xs ys ≡ Equal → xs ≡ ys
 same_from_lexicographic xs ys h = (bytes_eq-Decides xs ys).0 (sym (is_eq-slice_cmp xs ys) ∙ ap is_eq h)

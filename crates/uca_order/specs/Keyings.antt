@@ -1,11 +1,8 @@
 -- What keys go by: what texts are read by, and settings. And the keys of texts by it.
-use Rattle.std.specs.Prelude.{ℕ, List, Option, chars, unwrap_or}
+use Rattle.std.specs.Prelude.{ℕ, List, chars}
 use Rattle.uca_weights.specs.declared.Asked.{Asked}
-use Rattle.uca_weights.specs.declared.Depth.{Depth}
-use Rattle.uca_weights.specs.declared.Numbers.TheVariants.{AsText}
 use Rattle.uca_weights.specs.declared.Settings.{Settings}
-use Rattle.uca_weights.specs.declared.Weighting.{Weighting}
-use Rattle.uca_weights.specs.declared.Weighting.TheVariants.{Shifted}
+use Rattle.uca_weights.specs.AskedSettings.{settings_by}
 use Rattle.uca_values.specs.Content.{HeaderContent, TableContent, Properties}
 use Rattle.uca_text.specs.Texts.{NfdText}
 use Rattle.uca_elements.specs.Rows.{Rows, rows_of}
@@ -28,18 +25,6 @@ keying_by read chosen = record { collation = read; settings = chosen }
 -- that of a collator whose lookup is the map `content`
 abbrev pub keying_of : {L N A : Type 0} → (L → Rows) → Collator L N A → Settings → Keying
 keying_of content collator chosen = keying_by (collation_of content collator) chosen
-
--- the weighting that is asked for, or else the table's, or else shifted (UTS #10, section 4)
-abbrev pub weighting_by : Option Weighting → Option Weighting → Weighting
-weighting_by asked setting = unwrap_or asked (unwrap_or setting Shifted)
-
--- what is asked for where numbers compare as any other text
-abbrev pub as_text : Option Weighting → Depth → Asked
-as_text weighting depth = record { weighting = weighting; depth = depth; numbers = AsText }
-
--- the settings of what is asked for, with that weighting
-abbrev pub settings_by : Asked → Option Weighting → Settings
-settings_by asked setting = record { weighting = weighting_by asked.weighting setting; depth = asked.depth; numbers = asked.numbers }
 
 -- what keys go by with these rows, the header of a table, and the properties of a data file
 abbrev pub keying_over : Rows → HeaderContent → Asked → Properties → Keying

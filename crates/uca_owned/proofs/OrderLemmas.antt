@@ -1,14 +1,14 @@
 -- The order of all byte strings is that of lists: 0 before the key of an accepted text, and 1 before all other bytes.
-use Rattle.std.proofs.Common.{◌≡◌, ◌⊎◌, ℕ, suc, ◌≤◌, List, [], ◌∷◌, length, ◌∙◌, sym, ap, refl, chars, inl, inr}
+use Rattle.std.proofs.Common.{◌≡◌, ◌⊎◌, ℕ, ◌≤◌, List, ◌∷◌, length, ◌∙◌, sym, ap, refl, chars, inl, inr}
 use Rattle.std.specs.Str.{IsUtf8}
 use Rattle.std.specs.declared.cmp.Ordering.{Ordering}
 use Rattle.std.specs.declared.cmp.Ordering.TheVariants.{Less, Equal, Greater}
 use Rattle.std.specs.Ordering.{ordering_reverse}
 use Rattle.std.proofs.lemmas.Cmp.{nat_list_cmp_total}
-use Rattle.uca_order.specs.Levels.{lexicographic, compare_from, decided}
+use Rattle.uca_order.specs.Levels.{lexicographic}
 use Rattle.uca_order.specs.Depths.{read_points, lists_at}
 use Rattle.uca_order.specs.Laws.{StoredKeysCompareAsTexts}
-use Rattle.uca_order.proofs.KeyOrder.{lexicographic_itself}
+use Rattle.uca_order.proofs.KeyOrder.{lexicographic_itself, lists_themselves}
 use Rattle.uca_text_comparer.proofs.ReadLengths.{short_text_accepted}
 use Rattle.uca_order.specs.Keyings.{Keying, key_of_bytes, bytes_compared}
 use Rattle.uca_owned.specs.Causes.{IsAcceptedBy}
@@ -30,12 +30,7 @@ stable Greater Greater h = refl
 by_choice : (A : Type 0) (x y : Ordering) → (A ⊎ (A → ⊥) → x ≡ y) → x ≡ y
 by_choice A x y h = stable x y (λ differ. differ (h (inr (λ a. differ (h (inl a))))))
 
--- a text is equal to itself, at each level
-lists_themselves : (level : ℕ) (lists : List (List ℕ)) → compare_from level lists lists ≡ record { order = Equal; level = 0 }
-lists_themselves level [] = refl
-lists_themselves level (a ∷ more) =
-    ap (λ o. decided o level (compare_from (suc level) more more)) (lexicographic_itself a) ∙ lists_themselves (suc level) more
-
+-- a text is equal to itself
 pub compared_itself : (k : Keying) (bytes : List ℕ) → bytes_compared k bytes bytes ≡ record { order = Equal; level = 0 }
 compared_itself k bytes =
     lists_themselves 1 (lists_at k.settings.depth k.settings.weighting (read_points k.collation k.settings.numbers (chars bytes)))

@@ -1,14 +1,40 @@
 //! Keys and comparisons of texts that are given as bytes.
 
 ghost use Rattle.std.specs.Prelude.{◌≡◌, IfOk, IfErr, OnOk};
-ghost use Rattle.uca_order.specs.Keyings.{key_of_bytes, bytes_compared};
+ghost use Rattle.uca_values.specs.Content.{properties_of};
+ghost use Rattle.uca_match.specs.OwnedCollations.{owned_collation};
+ghost use Rattle.uca_plain.specs.PointCache.{AreTrueEntries};
+ghost use Rattle.uca_order.specs.Keyings.{keying_by, key_of_bytes, bytes_compared};
+ghost use Rattle.uca_key_writer.specs.Memories.{settings_in};
 ghost use Rattle.uca_owned.specs.Owned.{keying_in, key_in};
-ghost use Rattle.uca_owned.specs.Causes.{IsAcceptedBy, IsKeyCause, IsCompareCause};
+ghost use Rattle.uca_owned.specs.Causes.{IsAcceptedBy, IsAcceptedText, IsKeyCause, IsCompareCause};
 
 use crate::OwnedCollator;
 use crate::comparing::{compare_bytes, compare_same};
 use crate::faults::{CompareFault, KeyFault};
 use std::cmp::Ordering;
+use uca_key_writer::KeyMemory;
+use uca_match::OwnedCollation;
+
+// Makes the key of a text that is given as bytes.
+fn write_key(collation: &OwnedCollation, keys: &mut KeyMemory, text: &[u8]) -> Result<(), KeyFault>
+    requires { AreTrueEntries (owned_collation collation.now) keys.old.points.entries.items }
+    ensures known { AreTrueEntries (owned_collation collation.now) keys.new.points.entries.items }
+    ensures key { OnOk result (keys.new.buffer.key
+        ≡ key_of_bytes (keying_by (owned_collation collation.now) (settings_in keys.old)) text.now) }
+    ensures accepted { OnOk result (IsAcceptedText keys.old.numbers (properties_of collation.now.properties) text.now) }
+    ensures fault { IfErr result (IsKeyCause keys.old.numbers (properties_of collation.now.properties) text.now) }
+    ensures settings { settings_in keys.new ≡ settings_in keys.old }
+{
+    let Ok(text) = str::from_utf8(text) else {
+        return Err(KeyFault::Utf8);
+    };
+    let collator = collation.collator();
+    match keys.write(&collator, text) {
+        Ok(()) => Ok(()),
+        Err(fault) => Err(KeyFault::Text(fault)),
+    }
+}
 
 impl OwnedCollator {
     /// Makes the sort key of a text (UTS #10, section 7.3), over the key that was there. [`key`](OwnedCollator::key)
@@ -25,14 +51,7 @@ impl OwnedCollator {
             IfErr result (IsKeyCause k.settings.numbers k.collation.properties text.now) }
         ensures keying { keying_in self.new ≡ keying_in self.old }
     {
-        let Ok(text) = str::from_utf8(text) else {
-            return Err(KeyFault::Utf8);
-        };
-        let collator = self.collation.collator();
-        match self.keys.write(&collator, text) {
-            Ok(()) => Ok(()),
-            Err(fault) => Err(KeyFault::Text(fault)),
-        }
+        write_key(&*self.collation, &mut self.keys, text)
     }
 
     /// The key that was made last, or no bytes if none was.
@@ -63,7 +82,7 @@ impl OwnedCollator {
             return Ok(pair);
         }
         compare_bytes(
-            &self.collation,
+            &*self.collation,
             &mut self.comparison,
             self.settings,
             left,

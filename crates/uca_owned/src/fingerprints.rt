@@ -7,7 +7,6 @@ ghost use Rattle.uca_owned.specs.Opening.{HasFingerprint, IsOpenCause, IsOpenSto
 
 use crate::faults::OpenFault;
 use crate::files::{data_of, table_of};
-use crate::opening::chosen_settings;
 use std::alloc::Global;
 use uca_fingerprint::fingerprint;
 use uca_weights::Asked;
@@ -34,7 +33,7 @@ pub fn fingerprint_of(
         Ok(read) => read,
         Err(fault) => return Err(OpenFault::Table(fault)),
     };
-    let settings = chosen_settings(asked, &read.header);
+    let settings = asked.settings(read.header.setting);
     drop(read);
     let properties = match data_of(alloc, data_file) {
         Ok(properties) => properties,

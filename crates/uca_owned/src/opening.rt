@@ -3,7 +3,7 @@
 ghost use Rattle.std.specs.Prelude.{◌≡◌, [], IfOk, IfErr, MatchResult};
 ghost use Rattle.uca_values.specs.Content.{TableContent, Properties, properties_of};
 ghost use Rattle.uca_match.specs.NumberedKeys.{rows_at};
-ghost use Rattle.uca_order.specs.Keyings.{keying, keying_over, settings_by};
+ghost use Rattle.uca_order.specs.Keyings.{keying, keying_over};
 ghost use Rattle.uca_owned.specs.Owned.{keying_in, key_in};
 ghost use Rattle.uca_owned.specs.Opening.{MeanFiles, Opens, IsOpenCause, IsOpenStop};
 
@@ -11,26 +11,12 @@ use crate::OwnedCollator;
 use crate::faults::OpenFault;
 use crate::files::{data_of, table_of};
 use std::alloc::{AllocError, Global};
+use std::sync::Arc;
 use uca_key_writer::KeyMemory;
 use uca_match::{OwnedCollation, Trie};
 use uca_text_comparer::TextComparison;
 use uca_values::{Data, Header, PackedTable, Table};
-use uca_weights::{Asked, Settings, Weighting};
-
-// What is asked for. If that is no weighting, it is that of the table's `@variable`, or else shifted (UTS #10, section
-// 4).
-pub(crate) fn chosen_settings(asked: Asked, header: &Header) -> Settings
-    ensures { result ≡ settings_by asked header.now.setting }
-{
-    Settings {
-        weighting: asked
-            .weighting
-            .or(header.setting)
-            .unwrap_or(Weighting::Shifted),
-        depth: asked.depth,
-        numbers: asked.numbers,
-    }
-}
+use uca_weights::Asked;
 
 // A collator of a header, of rows that are ready to be looked up, and of a data file.
 fn collator_of(
@@ -39,21 +25,22 @@ fn collator_of(
     rows: Trie,
     properties: Data,
     asked: Asked,
-) -> OwnedCollator
-    ensures keying { keying_in result ≡ keying_over (rows_at rows) header asked (properties_of properties) }
-    ensures key { key_in result ≡ [] }
+) -> Result<OwnedCollator, AllocError>
+    ensures keying { IfOk result (λ c. keying_in c ≡ keying_over (rows_at rows) header asked (properties_of properties)) }
+    ensures key { IfOk result (λ c. key_in c ≡ []) }
 {
-    let settings = chosen_settings(asked, &header);
-    OwnedCollator {
-        collation: OwnedCollation {
-            rows,
-            header,
-            properties,
-        },
+    let settings = asked.settings(header.setting);
+    let collation = OwnedCollation {
+        rows,
+        header,
+        properties,
+    };
+    Ok(OwnedCollator {
+        collation: Arc::new(alloc, collation)?,
         keys: KeyMemory::new(alloc, alloc, settings),
         comparison: TextComparison::new(alloc, alloc),
         settings,
-    }
+    })
 }
 
 // A collator of a table that was read with its rows in a few lists, and of a data file.
@@ -67,7 +54,7 @@ fn packed_collator(
     ensures key { IfOk result (λ c. key_in c ≡ []) }
 {
     let (header, rows) = Trie::of_table(alloc, table)?;
-    Ok(collator_of(alloc, header, rows, properties, asked))
+    collator_of(alloc, header, rows, properties, asked)
 }
 
 impl OwnedCollator {
@@ -88,7 +75,7 @@ impl OwnedCollator {
     {
         let rows = Trie::new(alloc, &table)?;
         let Table { header, .. } = table;
-        Ok(collator_of(alloc, header, rows, properties, asked))
+        collator_of(alloc, header, rows, properties, asked)
     }
 
     /// Reads a table and then a data file from their bytes, and makes a collator of them, as

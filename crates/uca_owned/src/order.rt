@@ -120,7 +120,7 @@ impl OwnedCollator {
             return Ok(Ordering::Equal);
         }
         order_bytes(
-            &self.collation,
+            &*self.collation,
             &mut self.comparison,
             self.settings,
             left,

@@ -7,8 +7,10 @@ use Rattle.unicode_normalization.specs.Forms.{nfd}
 use Rattle.uca_weights.specs.declared.Depth.{Depth}
 use Rattle.uca_weights.specs.declared.Depth.TheVariants.{Weights, Identical}
 use Rattle.uca_weights.specs.declared.Element.{Element}
+use Rattle.uca_weights.specs.declared.Settings.{Settings}
 use Rattle.uca_weights.specs.declared.Weighting.{Weighting}
 use Rattle.uca_elements.specs.Collations.{Collation}
+use Rattle.uca_order.specs.Depths.{compared_at, texts_compared}
 use Rattle.uca_comparison.specs.declared.walk.LevelsSoFar.{LevelsSoFar}
 use Rattle.uca_comparison.specs.Fronts.{FrontState, begun, counted, weight_here, is_ended, fetched}
 use Rattle.uca_comparison.specs.Walks.{Stands, Differs, none_decided}
@@ -16,9 +18,10 @@ use Rattle.uca_comparison.specs.inside.Comparisons.{NothingElseDecides}
 use Rattle.uca_comparison.proofs.ComparisonLemmas.{compares_at}
 use Rattle.uca_comparison.proofs.WalkSteps.{stands_begun, stands_decided}
 use Rattle.uca_plain.proofs.PlainTexts.{read_before, plain_texts}
-use Rattle.uca_text_comparer.specs.inside.Beginnings.{HaveRests, DifferFirst}
+use Rattle.uca_text_comparer.specs.inside.Beginnings.{HaveRests, DifferFirst, AreReadAsText}
 use Rattle.uca_text_comparer.specs.inside.Pairs.{read_as}
 use Rattle.uca_text_comparer.specs.inside.Shared.{flag_after, BeginsPlain, text_elements}
+use Rattle.uca_text_comparer.proofs.PairSteps.{of_both}
 use Rattle.uca_text_comparer.proofs.SharedSteps.{stands_shared}
 use Rattle.uca_text_comparer.proofs.PrimarySteps.{first_decides}
 
@@ -106,3 +109,12 @@ differ_first c weighting xs ys left right order rests begins begins_too differs 
 pub with_some : {T : Type 0} (P : Type 0) (o : Option T) → P → IfSome o (λ _. P)
 with_some P None p = tt
 with_some P (Some x) p = p
+
+-- texts that are read as they are have this order under all settings
+pub differ_first_by : (c : Collation) (settings : Settings) (xs ys : List ℕ) (o : Option Ordering) → AreReadAsText settings.numbers xs ys
+    → IfSome o (DifferFirst c settings.weighting xs ys)
+    → IfSome o (λ order. let answer = texts_compared c settings xs ys in (answer.order ≡ order) × (answer.level ≡ 1))
+differ_first_by c settings xs ys None both differ = tt
+differ_first_by c settings xs ys (Some order) both differ =
+    of_both (λ l m. let answer = compared_at settings.depth settings.weighting (read_as c l xs) (read_as c m ys) in (answer.order ≡ order) × (answer.level ≡ 1))
+    (sym both.0) (sym both.1) (differ settings.depth)

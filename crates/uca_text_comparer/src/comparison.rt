@@ -2,6 +2,7 @@
 
 ghost use Rattle.std.specs.Prelude.{◌≡◌, ◌-◌, ◌^◌, chars, min, IfOk, OnOk, IfErr, IfSome};
 ghost use Rattle.uca_values.specs.Content.{Properties};
+ghost use Rattle.std.specs.Bool.{OnTrue};
 ghost use Rattle.uca_weights.specs.declared.Depth.TheVariants.{Weights};
 ghost use Rattle.uca_weights.specs.declared.Numbers.TheVariants.{AsText, ByValue};
 ghost use Rattle.uca_text.specs.Limits.{IsAccepted};
@@ -10,6 +11,7 @@ ghost use Rattle.uca_order.specs.Depths.{written_text, texts_compared};
 ghost use Rattle.uca_order.specs.Fetched.{fetched_left, fetched_right};
 ghost use Rattle.uca_plain.specs.PointCache.{AreTrueEntries};
 ghost use Rattle.uca_text_comparer.specs.Causes.{IsPairCause};
+ghost use Rattle.uca_text_comparer.specs.inside.Beginnings.{AreReadAsText};
 ghost use Rattle.uca_text_comparer.specs.inside.Pairs.{ComparesPair, IsPairStop};
 
 use crate::beginnings::order_beginnings;
@@ -107,8 +109,8 @@ impl<A: Allocator> TextComparison<A> {
     }
 
     /// The order of two texts of at most 32 bytes that differ at level 1 right after the code points with which both
-    /// begin. Only those that come next are looked up. There is no result for other texts, for numbers by value, and
-    /// if nothing is known of a code point yet.
+    /// begin. Only those that come next are looked up. There is no result for other texts, for numbers by value if one
+    /// of the texts has a digit, and if nothing is known of a code point yet.
     pub fn order_beginnings(&self, settings: Settings, left: &str, right: &str) -> Option<Ordering>
         ensures compared { (c : Collation) → AreTrueEntries c self.now.plain.points.entries.items → IfSome result (λ order.
             let answer = texts_compared c settings (chars left.now) (chars right.now) in
@@ -120,12 +122,10 @@ impl<A: Allocator> TextComparison<A> {
         if left.len() > SHORT_TEXT || right.len() > SHORT_TEXT {
             return None;
         }
-        match settings.numbers {
-            Numbers::AsText => {
-                order_beginnings(&self.plain.points, settings.weighting, left, right)
-            }
-            Numbers::ByValue => None,
+        if !are_read_as_text(settings.numbers, left, right) {
+            return None;
         }
+        order_beginnings(&self.plain.points, settings.weighting, left, right)
     }
 
     // How two texts compare with numbers by value.
@@ -193,6 +193,16 @@ impl<A: Allocator> TextComparison<A> {
             self.left.as_str(),
             self.right.as_str(),
         )
+    }
+}
+
+// Whether both texts are read as they are, whatever numbers compare by.
+fn are_read_as_text(numbers: Numbers, left: &str, right: &str) -> bool
+    ensures { OnTrue result (AreReadAsText numbers (chars left.now) (chars right.now)) }
+{
+    match numbers {
+        Numbers::AsText => true,
+        Numbers::ByValue => has_no_digit(left) && has_no_digit(right),
     }
 }
 

@@ -2,7 +2,6 @@
 
 ghost use Rattle.std.specs.Prelude.{◌≡◌, IfOk, IfErr, MatchResult};
 ghost use Rattle.uca_changes.specs.Changes.{Change};
-ghost use Rattle.uca_order.specs.Keyings.{settings_by};
 ghost use Rattle.uca_upgrade.specs.Causes.{IsUpgradeCause, IsUpgradeStop};
 ghost use Rattle.uca_upgrade.specs.Files.{MeanChange};
 ghost use Rattle.uca_upgrade.specs.Opening.{IsUpgradeOf, OpensUpgrade};
@@ -20,8 +19,7 @@ use uca_fingerprint::fingerprint;
 use uca_images::KeyMover;
 use uca_numbers::WrittenText;
 use uca_text::Normal;
-use uca_values::Header;
-use uca_weights::{Asked, Settings, Weighting};
+use uca_weights::Asked;
 
 impl OwnedUpgrade {
     /// Reads the six files from their bytes, audits the change that they mean, and keeps what an upgrade of stored keys
@@ -101,8 +99,8 @@ fn kept(
         editions: EditionFiles { old, new },
         listed: Listed { list, certificate },
     } = read;
-    let settings = settings_under(asked, &old.table.header);
-    let new_settings = settings_under(asked, &new.table.header);
+    let settings = asked.settings(old.table.header.setting);
+    let new_settings = asked.settings(new.table.header.setting);
     let index = ChangeIndex::new(alloc, list)?;
     let mover = KeyMover::new(alloc, certificate, settings)?;
     Ok(OwnedUpgrade {
@@ -116,18 +114,4 @@ fn kept(
         old_fingerprint: fingerprint(settings, files.old_table, files.old_data),
         new_fingerprint: fingerprint(new_settings, files.new_table, files.new_data),
     })
-}
-
-// The settings of keys under a table: the weighting that was asked for, or else that of the table, or else shifted.
-fn settings_under(asked: Asked, header: &Header) -> Settings
-    ensures { result ≡ settings_by asked header.now.setting }
-{
-    Settings {
-        weighting: asked
-            .weighting
-            .or(header.setting)
-            .unwrap_or(Weighting::Shifted),
-        depth: asked.depth,
-        numbers: asked.numbers,
-    }
 }

@@ -5,6 +5,7 @@ use Rattle.uca_weights.specs.declared.Asked.{Asked}
 use Rattle.uca_weights.specs.declared.Element.{Element}
 use Rattle.uca_weights.specs.declared.Numbers.{Numbers}
 use Rattle.uca_weights.specs.declared.Weighting.{Weighting}
+use Rattle.uca_weights.specs.AskedSettings.{weighting_by}
 use Rattle.uca_values.specs.Content.{Properties}
 use Rattle.uca_lines.specs.Lines.{ended, lines_of}
 use Rattle.uca_elements.specs.Collations.{elements_of, collation_under}
@@ -15,7 +16,7 @@ use Rattle.uca_tailorings.specs.Images.{Maps, AreImages}
 use Rattle.uca_tailorings.specs.Moves.{moved_key}
 use Rattle.uca_tailorings.specs.Tailorings.{Tailoring}
 use Rattle.uca_changes.specs.Changes.{Change}
-use Rattle.uca_order.specs.Keyings.{weighting_by, Keying, keying, key_of_bytes, bytes_compared}
+use Rattle.uca_order.specs.Keyings.{Keying, keying, key_of_bytes, bytes_compared}
 use Rattle.uca_run_parts.specs.AffectedRun.{is_affected, line_if}
 use Rattle.uca_run_parts.specs.Files.{TableAndData, table_with}
 use Rattle.uca_run_parts.specs.Input.{cause_of, line_text}

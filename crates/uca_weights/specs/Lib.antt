@@ -2,6 +2,7 @@ pub mod Streams
 pub mod Writes
 pub mod Kinds
 pub mod WeightingText
+pub mod AskedSettings
 pub mod Levels
 pub mod PerLevel
 pub mod Maps

@@ -4,6 +4,7 @@
 #![tactic(auto)]
 
 ghost use Rattle.std.specs.Prelude.{◌≡◌, IfSome, IfNone};
+ghost use Rattle.uca_weights.specs.AskedSettings.{as_text, settings_by};
 ghost use Rattle.uca_weights.specs.WeightingText.{weighting_text, IsNoWeighting};
 
 mod maps;
@@ -107,6 +108,31 @@ pub struct Asked {
     pub depth: Depth,
     /// How their numbers compare.
     pub numbers: Numbers,
+}
+
+impl Asked {
+    /// What is asked for where numbers compare as any other text.
+    pub fn as_text(weighting: Option<Weighting>, depth: Depth) -> Asked
+        ensures { result ≡ as_text weighting depth }
+    {
+        Asked {
+            weighting,
+            depth,
+            numbers: Numbers::AsText,
+        }
+    }
+
+    /// The settings of keys under a table with this `@variable`, or with none. The weighting is the one that is asked for,
+    /// or else that of the table, or else `Shifted` (UTS #10, section 4).
+    pub fn settings(self, of_table: Option<Weighting>) -> Settings
+        ensures { result ≡ settings_by self of_table }
+    {
+        Settings {
+            weighting: self.weighting.or(of_table).unwrap_or(Weighting::Shifted),
+            depth: self.depth,
+            numbers: self.numbers,
+        }
+    }
 }
 
 impl Weighting {

@@ -2,9 +2,10 @@
 use Rattle.std.specs.Prelude.{◌≡◌, ℕ, List, ◌++◌}
 use Rattle.std.specs.declared.cmp.Ordering.{Ordering}
 use Rattle.uca_weights.specs.declared.Depth.{Depth}
+use Rattle.uca_weights.specs.declared.Numbers.{Numbers}
 use Rattle.uca_weights.specs.declared.Weighting.{Weighting}
 use Rattle.uca_elements.specs.Collations.{Collation}
-use Rattle.uca_order.specs.Depths.{compared_at}
+use Rattle.uca_order.specs.Depths.{compared_at, written}
 use Rattle.uca_text_comparer.specs.inside.Pairs.{read_as}
 
 -- the texts `xs` and `ys` begin with the same code points, which `left` and `right` follow
@@ -17,3 +18,7 @@ pub record HaveRests (xs ys left right : List ℕ) : Type 0 where
 abbrev pub DifferFirst : Collation → Weighting → (xs ys : List ℕ) → Ordering → Type 0
 DifferFirst c weighting xs ys order = (depth : Depth) → let answer = compared_at depth weighting (read_as c xs xs) (read_as c ys ys) in
     (answer.order ≡ order) × (answer.level ≡ 1)
+
+-- both texts are read as they are
+abbrev pub AreReadAsText : Numbers → (xs ys : List ℕ) → Type 0
+AreReadAsText numbers xs ys = (written numbers xs ≡ xs) × (written numbers ys ≡ ys)

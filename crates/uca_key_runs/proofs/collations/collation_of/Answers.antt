@@ -7,5 +7,5 @@ use Rattle.uca_key_runs.proofs.collations.collation_of.Goals as goal
 
 pub returns-in-Ok-clause-made : goal.returns-in-Ok-clause-made
 returns-in-Ok-clause-made g c =
-    made_of_files c.args.asked (rows_at c.in-Ok.rows) c.in-Ok.header c.chosen_settings.result (table_with c.args.table (properties_of c.args.properties))
-    c.in-Ok.ensures.rows c.in-Ok.ensures.header c.chosen_settings.ensures
+    made_of_files c.args.asked (rows_at c.in-Ok.rows) c.in-Ok.header c.settings.result (table_with c.args.table (properties_of c.args.properties))
+    c.in-Ok.ensures.rows c.in-Ok.ensures.header c.settings.ensures

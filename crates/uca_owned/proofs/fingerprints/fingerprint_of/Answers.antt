@@ -1,14 +1,15 @@
 -- The files are those that `open` reads, and the settings are those of the table which they mean.
 use Rattle.std.proofs.Common.{◌≡◌, ◌∙◌, ap, refl}
+use Rattle.uca_weights.specs.AskedSettings.{settings_by}
 use Rattle.uca_values.specs.Content.{TableContent, properties_of}
 use Rattle.uca_fingerprint.specs.Fingerprints.{fingerprint}
-use Rattle.uca_order.specs.Keyings.{keying, settings_by}
+use Rattle.uca_order.specs.Keyings.{keying}
 use Rattle.uca_owned.proofs.fingerprints.fingerprint_of.Goals as goal
 
 -- the fingerprint is by the settings under the table that was read
 by_table : (c : goal.After-fingerprint) → c.fingerprint.result ≡ fingerprint (settings_by c.args.asked c.in-Ok.read.header.setting) c.args.table.now c.args.data_file.now
 by_table c =
-    let settings = c.chosen_settings-settings.ensures ∙ ap (λ (t : TableContent). settings_by c.args.asked t.header.setting) c.read.view_is in
+    let settings = c.settings-settings.ensures ∙ ap (λ (t : TableContent). settings_by c.args.asked t.header.setting) c.read.view_is in
     c.fingerprint.ensures ∙ (λ i. fingerprint (settings i) c.args.table.now c.args.data_file.now)
 
 pub returns-clause-found : goal.returns-clause-found

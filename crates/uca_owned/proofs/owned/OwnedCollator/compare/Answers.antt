@@ -17,4 +17,4 @@ returns-clause-compared c =
     let right = c.args.right.now in
     subst (λ (s : OwnedState). IfOk c.compare_bytes.result (λ found.
     (found.0 ≡ (bytes_compared (keying_in s) left right).order) × (found.1 ≡ (bytes_compared (keying_in s) left right).level)))
-    c.self.view_is c.compare_bytes.ensures.compared
+    c.self.view_is (rw c.deref.ensures at c.compare_bytes.ensures.compared)

@@ -1,11 +1,15 @@
 -- The rows are those of the table, at each key.
-use Rattle.std.proofs.Common.{◌∙◌, ap}
+use Rattle.std.proofs.Common.{◌≡◌, ap, subst}
+use Rattle.std.specs.Prelude.{IfOk}
 use Rattle.std.proofs.Math.Path.{fun_ext}
 use Rattle.uca_values.specs.Content.{TableContent, properties_of}
-use Rattle.uca_order.specs.Keyings.{keying_over}
+use Rattle.uca_order.specs.Keyings.{Keying, keying_over}
+use Rattle.uca_owned.specs.Owned.{keying_in}
 use Rattle.uca_owned.proofs.owned.OwnedCollator.new.Goals as goal
 
 pub returns-clause-keying : goal.returns-clause-keying
 returns-clause-keying c =
     let header = ap (λ (t : TableContent). t.header) c.table.view_is in
-    c.collator_of.ensures.keying ∙ (λ i. keying_over (fun_ext c.in_ok-rows.ensures i) (header i) c.args.asked (properties_of c.args.properties))
+    subst (λ (k : Keying). IfOk c.collator_of.result (λ made. keying_in made ≡ k))
+    (λ i. keying_over (fun_ext c.in_ok-rows.ensures i) (header i) c.args.asked (properties_of c.args.properties))
+    c.collator_of.ensures.keying

@@ -16,4 +16,4 @@ returns-then-eq-clause-order c =
 
 pub returns-clause-order : goal.returns-clause-order
 returns-clause-order c =
-    subst (λ (s : OwnedState). IfOk c.order_bytes.result (IsOrder (keying_in s) c.args.left.now c.args.right.now)) c.self.view_is c.order_bytes.ensures.order
+    subst (λ (s : OwnedState). IfOk c.order_bytes.result (IsOrder (keying_in s) c.args.left.now c.args.right.now)) c.self.view_is (rw c.deref.ensures at c.order_bytes.ensures.order)

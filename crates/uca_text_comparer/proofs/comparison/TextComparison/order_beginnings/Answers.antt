@@ -1,14 +1,21 @@
--- Short texts are accepted.
-use Rattle.std.proofs.Common.{arith}
+-- Short texts are accepted. Those that are read as they are have the order of what comes after their beginning.
+use Rattle.std.proofs.Common.{◌≡◌, true, arith, rules}
+use Rattle.std.specs.Str.{chars}
+use Rattle.std.proofs.lemmas.Bool.{OnTrue_at}
 use Rattle.uca_text.specs.Limits.{IsAccepted}
 use Rattle.uca_order.specs.Depths.{written_text}
-use Rattle.std.specs.Str.{chars}
-use Rattle.uca_text_comparer.proofs.BeginningSteps.{with_some}
+use Rattle.uca_text_comparer.proofs.BeginningSteps.{differ_first_by, with_some}
 use Rattle.uca_text_comparer.proofs.ReadLengths.{short_text_accepted}
 use Rattle.uca_text_comparer.proofs.comparison.TextComparison.order_beginnings.Goals as goal
 
-pub returns-in-AsText-clause-accepted : goal.returns-in-AsText-clause-accepted
-returns-in-AsText-clause-accepted g c = λ properties.
+pub returns-clause-compared : goal.returns-clause-compared
+returns-clause-compared g c = λ collation entries.
+    let as_text : c.are_read_as_text.result ≡ true = search rules in
+    differ_first_by collation c.args.settings (chars c.args.left.now) (chars c.args.right.now) c.order_beginnings.result
+    (OnTrue_at as_text c.are_read_as_text.ensures) (c.order_beginnings.ensures collation entries)
+
+pub returns-clause-accepted : goal.returns-clause-accepted
+returns-clause-accepted g c = λ properties.
     let numbers = c.args.settings.numbers in
     with_some (IsAccepted (written_text numbers properties (chars c.args.left.now)) × IsAccepted (written_text numbers properties (chars c.args.right.now)))
     c.order_beginnings.result (
