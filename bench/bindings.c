@@ -1,17 +1,21 @@
-/* Processor time of a call of the library for C, beside ICU4C, over the lines of a file.
+/* Times of calls of the library for C, beside ICU4C, over the lines of a file.
 
      bindings TABLE DATA LINES
 
    Each round goes over all lines, or all pairs of neighbours. It prints a line for each kind: its name, and the nanoseconds of a call of
-   uca and of ICU, each in its fastest round of five. Variable elements are non-ignorable, and there are three levels. */
+   uca and of ICU, each in its fastest round of five. Those are of processor time. With threads they are of time on the clock: each thread
+   makes the keys of all lines. Collators of uca share their table, and ICU's is one. Variable elements are non-ignorable, and there are
+   three levels. */
 #include "uca.h"
 
+#include <pthread.h>
 #include <stdio.h>
 #include <stdlib.h>
 #include <string.h>
 #include <time.h>
 #include <unicode/ucol.h>
 #include <unicode/ustring.h>
+#include <unistd.h>
 
 enum { ROUNDS = 5, ROOM = 1 << 20 };
 
@@ -32,10 +36,10 @@ typedef struct bench {
 
 typedef void (*call)(bench *it, const text *left, const text *right);
 
-static double now(void)
+static double now(clockid_t clock)
 {
     struct timespec time;
-    clock_gettime(CLOCK_PROCESS_CPUTIME_ID, &time);
+    clock_gettime(clock, &time);
     return time.tv_sec * 1e9 + time.tv_nsec;
 }
 
@@ -121,11 +125,11 @@ static double time_of(bench *it, call make, size_t apart)
 {
     double best = 0;
     for (int round = 0; round < ROUNDS; round++) {
-        double begun = now();
+        double begun = now(CLOCK_PROCESS_CPUTIME_ID);
         for (size_t i = 0; i + apart < it->count; i++) {
             make(it, &it->lines[i], &it->lines[i + apart]);
         }
-        double spent = (now() - begun) / (double)(it->count - apart);
+        double spent = (now(CLOCK_PROCESS_CPUTIME_ID) - begun) / (double)(it->count - apart);
         best = round == 0 || spent < best ? spent : best;
     }
     return best;
@@ -134,6 +138,63 @@ static double time_of(bench *it, call make, size_t apart)
 static void report(bench *it, const char *name, call uca, call icu, size_t apart)
 {
     printf("%s %.0f %.0f\n", name, time_of(it, uca, apart), time_of(it, icu, apart));
+}
+
+enum { MOST_THREADS = 64 };
+
+/* A thread, with a collator and memory of its own over the same lines. */
+typedef struct worker {
+    pthread_t thread;
+    bench own;
+    call make;
+} worker;
+
+static void *work(void *given)
+{
+    worker *it = given;
+    for (size_t i = 0; i < it->own.count; i++) {
+        it->make(&it->own, &it->own.lines[i], NULL);
+    }
+    return NULL;
+}
+
+/* The nanoseconds on the clock of a call, where so many threads make calls at once. */
+static double time_in_threads(worker *workers, int threads, call make)
+{
+    double best = 0;
+    for (int round = 0; round < ROUNDS; round++) {
+        double begun = now(CLOCK_MONOTONIC);
+        for (int i = 0; i < threads; i++) {
+            workers[i].make = make;
+            if (pthread_create(&workers[i].thread, NULL, work, &workers[i])) {
+                exit(1);
+            }
+        }
+        for (int i = 0; i < threads; i++) {
+            pthread_join(workers[i].thread, NULL);
+        }
+        double spent = (now(CLOCK_MONOTONIC) - begun) / ((double)workers->own.count * threads);
+        best = round == 0 || spent < best ? spent : best;
+    }
+    return best;
+}
+
+static void report_threads(bench *it)
+{
+    static worker workers[MOST_THREADS];
+    long most = sysconf(_SC_NPROCESSORS_ONLN);
+    for (int i = 0; i < most && i < MOST_THREADS; i++) {
+        bench *own = &workers[i].own;
+        *own = (bench){.uca = UCA_CLOSED_COLLATOR, .icu = it->icu, .lines = it->lines, .count = it->count};
+        own->key = malloc(ROOM);
+        own->wide = malloc(ROOM * sizeof(UChar));
+        if (!own->key || !own->wide || uca_share(&it->uca, &own->uca) != UCA_OK) {
+            exit(1);
+        }
+    }
+    for (int threads = 1; threads <= most && threads <= MOST_THREADS; threads *= 2) {
+        printf("keys, %d threads %.0f %.0f\n", threads, time_in_threads(workers, threads, uca_keys), time_in_threads(workers, threads, icu_keys));
+    }
 }
 
 int main(int count, char **arguments)
@@ -147,5 +208,6 @@ int main(int count, char **arguments)
     report(&it, "keys", uca_keys, icu_keys, 0);
     report(&it, "neighbours", uca_comparison_of, icu_comparison_of, 1);
     report(&it, "equal", uca_comparison_of, icu_comparison_of, 0);
+    report_threads(&it);
     return 0;
 }

@@ -6,10 +6,11 @@
 
 With no arguments the table and the data file are Unicode's, and the lines are 100,000 words of nine languages, as in tests/by_hand/bindings.py.
 
-For each file it prints how many calls for keys and for comparisons there are in a second (bindings.c). The lines are sorted first. Then it
-prints the seconds of sorting without an index, and of making an index. In SQLite they are those of `uca_key` and `icu_key`, and of the
-collations `uca_..` and `icu` (sqlite_icu.c). In PostgreSQL they are those of `uca_key` and COLLATE "und-x-icu". All times are processor time, and
-each is the least of ROUNDS. The weighting is non-ignorable, but that of PostgreSQL's `uca_key` is shifted.
+For each file it prints how many calls for keys and for comparisons there are in a second (bindings.c), and how many keys in 1, 2, 4 .. threads
+at once. The lines are sorted first. Then it prints the seconds of sorting without an index, and of making an index. In SQLite they are those
+of `uca_key` and `icu_key`, and of the collations `uca_..` and `icu` (sqlite_icu.c). In PostgreSQL they are those of `uca_key` and COLLATE
+"und-x-icu". All times but those of threads are processor time, and each is the least of ROUNDS. The weighting is non-ignorable, but that of
+PostgreSQL's `uca_key` is shifted.
 
 It installs nothing. It needs Debian's packages gcc, libicu-dev and pkgconf, and for each database those of tests/by_hand/bindings.py. A database that is
 not here is left out, and a line says so. Compare only figures of one run.
@@ -40,7 +41,7 @@ def icu_flags():
 
 def compiled(work):
     program = f"{work}/bindings"
-    run(["gcc", "-O2", "-std=c11", "-D_POSIX_C_SOURCE=200809L", f"-I{bindings.C}/include", "-o", program, f"{TOP}/bench/bindings.c", f"{bindings.C}/out/libuca.a", *icu_flags()])
+    run(["gcc", "-O2", "-std=c11", "-pthread", "-D_POSIX_C_SOURCE=200809L", f"-I{bindings.C}/include", "-o", program, f"{TOP}/bench/bindings.c", f"{bindings.C}/out/libuca.a", *icu_flags()])
     return program
 
 
@@ -52,7 +53,7 @@ def calls(program, table, data, lines, work):
     with open(path, "w", encoding="utf-8") as file:
         file.writelines(ordered)
     for line in run([program, table, data, path]).splitlines():
-        kind, own, icu = line.split()
+        kind, own, icu = line.rsplit(maxsplit=2)
         print(f"| {os.path.basename(lines)} | {kind} | {1e9 / int(own):,.0f} | {1e9 / int(icu):,.0f} | {int(own) / int(icu):.2f} |")
 
 

@@ -9,7 +9,8 @@ use Rattle.uca_owned.proofs.fingerprints.fingerprint_of.Goals as goal
 -- the fingerprint is by the settings under the table that was read
 by_table : (c : goal.After-fingerprint) → c.fingerprint.result ≡ fingerprint (settings_by c.args.asked c.in-Ok.read.header.setting) c.args.table.now c.args.data_file.now
 by_table c =
-    let settings = c.settings-settings.ensures ∙ ap (λ (t : TableContent). settings_by c.args.asked t.header.setting) c.read.view_is in
+    let settings = c.settings-settings.ensures ∙ ap (λ t. settings_by c.args.asked t.header.setting) c.read-inside.view_is
+    ∙ ap (λ (t : TableContent). settings_by c.args.asked t.header.setting) c.read.view_is in
     c.fingerprint.ensures ∙ (λ i. fingerprint (settings i) c.args.table.now c.args.data_file.now)
 
 pub returns-clause-found : goal.returns-clause-found
