@@ -1,4 +1,4 @@
-//! The sizes.
+//! The sizes of texts and tables that are tried: around powers of two, around round numbers, and random ones.
 
 use std::alloc::{AllocError, Global};
 
