@@ -181,7 +181,10 @@ class Made:
         """The table, with comments at its head."""
         version, *rest = self.draft.lines(han_order.single(self.draft, self.kind))
         yield f"# The order of {self.tag.text}, made from Unicode's table and CLDR's files by tools/languages.py."
-        yield f"# CLDR takes the weighting {self.rules.weighting} with it."
+        if "ka" in self.tag.settings:
+            yield f"# It names the weighting {self.rules.weighting}."
+        else:
+            yield f"# CLDR takes the weighting {self.rules.weighting} with it: give --weighting {self.rules.weighting}."
         yield version
         if "ka" in self.tag.settings:
             yield f"@variable {self.rules.weighting}"

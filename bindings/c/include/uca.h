@@ -7,11 +7,11 @@
      writable, and not written by anyone while the call lasts. What a call writes does not overlap anything else that it is
      given. A pointer is never NULL, not even where the length is 0. A length is below 2^63.
    - A uca_collator was zeroed (UCA_CLOSED_COLLATOR) before its first call, and its members are written by calls alone. It may be
-     moved in memory, between calls, if the old bytes are forgotten. A copy of an open one is none. So it is with a uca_upgrade
-     (UCA_CLOSED_UPGRADE).
-   - A uca_collator or a uca_upgrade is in one call at a time. It may change threads between two calls, if a lock or a thread's
-     start or join orders these. For work side by side, each thread has a collator of its own: uca_share opens one of another,
-     in little time and memory. uca_abi, uca_version, uca_collator_size, uca_upgrade_size, uca_compare_keys, uca_fingerprint and
+     moved in memory, between calls, if the old bytes are forgotten. Do not use a copy of an open one: closing both frees its
+     memory twice. So it is with a uca_upgrade (UCA_CLOSED_UPGRADE).
+   - A uca_collator or a uca_upgrade is in one call at a time: two at once damage memory, and no status reports it. It may change
+     threads between two calls, if a lock or a thread's start or join orders these. For work side by side, each thread has a
+     collator of its own: uca_share opens one of another, in little time and memory. uca_abi, uca_version, uca_collator_size, uca_upgrade_size, uca_compare_keys, uca_fingerprint and
      uca_compact_fingerprint may be called from any thread at any time.
    - malloc, realloc and free are one allocator, whose blocks are aligned to 16 bytes. No call is made in a signal handler, or in
      the forked child of a process with threads.
@@ -48,9 +48,9 @@ typedef enum uca_status {
     UCA_CLOSED = 1,       /* the collator or the upgrade is closed */
     UCA_ALREADY_OPEN = 2, /* the collator or the upgrade is open, and stays as it is */
     UCA_ARGUMENT = 3,     /* the weighting or the depth is none of those below */
-    UCA_TABLE = 4,        /* the table is rejected: the error has the line and why */
-    UCA_DATA = 5,         /* the table is read, and the data file is rejected: the error has the line and why */
-    UCA_MEMORY = 6,       /* out of memory; the call may be tried again */
+    UCA_TABLE = 4,        /* the table is rejected: the error has the line and why. At UCA_KIND_MEMORY memory ran out there */
+    UCA_DATA = 5,         /* the table is read, and so it is with the data file */
+    UCA_MEMORY = 6,       /* out of memory elsewhere; a call that ran out of memory may be tried again */
     UCA_UTF8 = 7,         /* a text is not UTF-8 */
     UCA_TOO_LONG = 8,     /* a text has more than 1,048,576 code points in Normalization Form D */
     UCA_LONG_RUN = 9,     /* a text has more than 64 non-starters in a row in Normalization Form D */
@@ -99,7 +99,7 @@ typedef enum uca_end {
     UCA_HIGH = 1 /* all keys of the range are less than this one */
 } uca_end;
 
-/* Why a file is rejected. docs/FORMATS.md says what each kind means. */
+/* Why a file is rejected. docs/MESSAGES.md says what each kind means, and what to do. */
 typedef enum uca_kind {
     UCA_NO_ERROR = 0,
     UCA_KIND_LINE = 1,

@@ -1,6 +1,7 @@
 //! How an upgrade is opened: from the bytes of six files, and only if the audit accepts what they mean.
 
 ghost use Rattle.std.specs.Prelude.{◌≡◌, IfOk, IfErr, MatchResult};
+ghost use Rattle.uca_weights.specs.AskedSettings.{settings_by};
 ghost use Rattle.uca_changes.specs.Changes.{Change};
 ghost use Rattle.uca_upgrade.specs.Causes.{IsUpgradeCause, IsUpgradeStop};
 ghost use Rattle.uca_upgrade.specs.Files.{MeanChange};
@@ -19,7 +20,8 @@ use uca_fingerprint::fingerprint;
 use uca_images::KeyMover;
 use uca_numbers::WrittenText;
 use uca_text::Normal;
-use uca_weights::Asked;
+use uca_values::Header;
+use uca_weights::{Asked, Settings};
 
 impl OwnedUpgrade {
     /// Reads the six files from their bytes, audits the change that they mean, and keeps what an upgrade of stored keys
@@ -99,8 +101,8 @@ fn kept(
         editions: EditionFiles { old, new },
         listed: Listed { list, certificate },
     } = read;
-    let settings = asked.settings(old.table.header.setting);
-    let new_settings = asked.settings(new.table.header.setting);
+    let settings = settings_under(asked, &old.table.header);
+    let new_settings = settings_under(asked, &new.table.header);
     let index = ChangeIndex::new(alloc, list)?;
     let mover = KeyMover::new(alloc, certificate, settings)?;
     Ok(OwnedUpgrade {
@@ -114,4 +116,11 @@ fn kept(
         old_fingerprint: fingerprint(settings, files.old_table, files.old_data),
         new_fingerprint: fingerprint(new_settings, files.new_table, files.new_data),
     })
+}
+
+// The settings of keys under a table with this header.
+fn settings_under(asked: Asked, header: &Header) -> Settings
+    ensures { result ≡ settings_by asked header.now.setting }
+{
+    asked.settings(header.setting)
 }
