@@ -1,5 +1,8 @@
 /* keys TABLE DATA [non-ignorable|shifted [identical] [numeric]]: prints the sort key of each line of standard input, as
    `uca keys` does. */
+#ifndef _POSIX_C_SOURCE
+#define _POSIX_C_SOURCE 200809L
+#endif
 #include "uca.h"
 
 #include <stdio.h>

@@ -462,8 +462,8 @@ void need_files(Oid function)
         ereport(ERROR, (errcode(ERRCODE_OBJECT_NOT_IN_PREREQUISITE_STATE),
                         errmsg("uca: the server has other files or settings than those by which this database's keys were made"),
                         errdetail("The database's fingerprint is %s. The server's is %s.", other, present.fingerprint),
-                        errhint("Give the server the old files and settings. Or call uca_use_files(), and make all stored keys and "
-                                "indexes on keys again.")));
+                        errhint("Give the server the old files and settings. Or call uca_use_files(again => true), which makes "
+                                "again what uca_dependents() lists.")));
 }
 
 bool has_its_files(Oid function)

@@ -86,7 +86,8 @@ typedef enum uca_depth {
     UCA_NUMERIC = 2    /* a flag: numbers are compared by their values, so `file 9` comes before `file 10` */
 } uca_depth;
 
-/* Which keys a range has. "The same letters" means that level 1 is the same, as for `cafe`, `Cafe` and `café`. */
+/* Which keys a range has. "The same letters" means that level 1 is the same, as for `cafe`, `Cafe` and `café`. Under UCA_SHIFTED
+   `ca fe` and `c-a-f-e` have these letters too. */
 typedef enum uca_range_of {
     UCA_SAME_LETTERS = 1, /* the keys with the letters of the text: level 1 is the same */
     UCA_SAME_ACCENTS = 2, /* the keys with the letters and the accents of the text: levels 1 and 2 are the same */
@@ -359,7 +360,7 @@ uint32_t uca_open_upgrade(uca_upgrade *upgrade, const uint8_t *old_table, size_t
 uint32_t uca_affected(uca_upgrade *upgrade, const uint8_t *text, size_t length, uint32_t *affected);
 
 /* The new key of the old key of a text that the change does not affect. Give it whole keys of the first fingerprint of
-   uca_upgrade_fingerprints alone. No other key is told from these. The key of an affected text has to be made anew: here it
+   uca_upgrade_fingerprints alone. No call detects a key of other files or settings. The key of an affected text has to be made anew: here it
    becomes other bytes, or has no image. Compact keys are expanded before (uca_expand), and the new keys are made compact after
    (uca_compact).
 
@@ -421,7 +422,7 @@ static inline const char *uca_kind_text(uint32_t kind)
 static inline const char *uca_condition_text(uint32_t condition)
 {
     static const char *const texts[] = {
-        "accepted", "OldIllFormed", "NewIllFormed", "RangeChanged", "Uncovered",
+        "no condition", "OldIllFormed", "NewIllFormed", "RangeChanged", "Uncovered",
         "RowChanged", "RowMissing", "RowExtra", "PointChanged", "SettingChanged",
     };
     return condition < sizeof texts / sizeof *texts ? texts[condition] : "unknown";

@@ -249,7 +249,7 @@ def _loaded(path: str) -> ctypes.PyDLL:
         return ctypes.PyDLL(path)
     except OSError as error:
         raise ImportError(
-            f"the library of uca cannot be loaded ({error}): name its file in the environment's UCA_LIBRARY, or install it and run ldconfig"
+            f"the library of uca cannot be loaded ({error}): set the environment variable UCA_LIBRARY to its path, or install it and run ldconfig"
         ) from None
 
 

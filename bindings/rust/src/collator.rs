@@ -6,7 +6,8 @@ use std::cmp::Ordering;
 use std::fmt;
 use std::ops::Range;
 
-/// Which keys a range has. "The same letters" means that level 1 is the same, as for `cafe`, `Cafe` and `café`.
+/// Which keys a range has. "The same letters" means that level 1 is the same, as for `cafe`, `Cafe` and `café`. Under
+/// [`crate::Weighting::Shifted`] `ca fe` and `c-a-f-e` have these letters too.
 #[derive(Clone, Copy, Debug, PartialEq, Eq, Hash)]
 pub enum RangeOf {
     /// The keys with the letters of the text: level 1 is the same.

@@ -22,6 +22,9 @@ impl Collator {
     /// # Ok::<(), Box<dyn std::error::Error>>(())
     /// ```
     ///
+    /// The text of a value is one that the value has. Where you make it, such as by `format!`, make keys by
+    /// [`Collator::key`], and sort by these.
+    ///
     /// # Errors
     ///
     /// Those of [`Collator::sort`].
