@@ -5,7 +5,8 @@
 
 First prove and build the static library: `tools/build.py uca_c`. Then this script makes bindings/c/out and runs
 
-- `calls`, which calls everything in uca.h with good and bad input: as it is, under valgrind, and with the sanitizers of gcc;
+- `calls`, which calls everything in uca.h with good and bad input, also in threads: as it is, under valgrind and its helgrind, and with the
+  sanitizers of gcc;
 - `memory`, in which each allocation fails in turn: as it is, and under valgrind;
 - `sizes`, over texts and tables of many sizes, where memory may not run out;
 - `keys` and the module over files of examples/, whose keys and orders have to be those of `uca keys` and `uca sort`;
@@ -112,6 +113,8 @@ def valgrind(work):
     need("valgrind")
     for program in ("calls", "memory"):
         run(["valgrind", "-q", "--error-exitcode=9", "--leak-check=full", "--show-leak-kinds=all", "--errors-for-leak-kinds=all", f"{C}/out/{program}"])
+    # Threads whose collators share a table, and threads that share a collator under a lock, do not race.
+    run(["valgrind", "-q", "--tool=helgrind", "--error-exitcode=9", f"{C}/out/calls"])
 
 
 def sanitizers(work):
