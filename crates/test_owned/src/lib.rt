@@ -1,5 +1,0 @@
-//! Tests of an owned collator: keys of texts of many lengths, and one more collator that shares the table of another.
-#![tactic(auto)]
-
-#[cfg(test)]
-mod collators;
