@@ -11,8 +11,8 @@
      memory twice. So it is with a uca_upgrade (UCA_CLOSED_UPGRADE).
    - A uca_collator or a uca_upgrade is in one call at a time: two at once damage memory, and no status reports it. It may change
      threads between two calls, if a lock or a thread's start or join orders these. For work side by side, each thread has a
-     collator of its own: uca_share opens one of another, in little time and memory. uca_abi, uca_version, uca_collator_size, uca_upgrade_size, uca_compare_keys, uca_fingerprint and
-     uca_compact_fingerprint may be called from any thread at any time.
+     collator of its own: uca_share opens one of another, in little time and memory. uca_abi, uca_version, uca_collator_size,
+     uca_upgrade_size, uca_compare_keys, uca_fingerprint and uca_compact_fingerprint may be called from any thread at any time.
    - malloc, realloc and free are one allocator, whose blocks are aligned to 16 bytes. No call is made in a signal handler, or in
      the forked child of a process with threads.
 
@@ -49,7 +49,7 @@ typedef enum uca_status {
     UCA_ALREADY_OPEN = 2, /* the collator or the upgrade is open, and stays as it is */
     UCA_ARGUMENT = 3,     /* the weighting or the depth is none of those below */
     UCA_TABLE = 4,        /* the table is rejected: the error has the line and why. At UCA_KIND_MEMORY memory ran out there */
-    UCA_DATA = 5,         /* the table is read, and so it is with the data file */
+    UCA_DATA = 5,         /* the table is read, and the data file is rejected in the same way */
     UCA_MEMORY = 6,       /* out of memory elsewhere; a call that ran out of memory may be tried again */
     UCA_UTF8 = 7,         /* a text is not UTF-8 */
     UCA_TOO_LONG = 8,     /* a text has more than 1,048,576 code points in Normalization Form D */
@@ -360,8 +360,8 @@ uint32_t uca_open_upgrade(uca_upgrade *upgrade, const uint8_t *old_table, size_t
 uint32_t uca_affected(uca_upgrade *upgrade, const uint8_t *text, size_t length, uint32_t *affected);
 
 /* The new key of the old key of a text that the change does not affect. Give it whole keys of the first fingerprint of
-   uca_upgrade_fingerprints alone. No call detects a key of other files or settings. The key of an affected text has to be made anew: here it
-   becomes other bytes, or has no image. Compact keys are expanded before (uca_expand), and the new keys are made compact after
+   uca_upgrade_fingerprints alone. No call detects a key of other files or settings. The key of an affected text has to be made
+   anew: here it becomes other bytes, or has no image. Compact keys are expanded before (uca_expand), and the new keys are made compact after
    (uca_compact).
 
    UCA_OK: the first `*needed` bytes of `out` are the new key, and those after them are as before.
