@@ -18,7 +18,7 @@ RELEASED = datetime.datetime(2026, 11, 28, 12, tzinfo=datetime.timezone.utc)
 SECONDS = int(RELEASED.timestamp())
 
 LICENSES = ["LICENSE", "LICENSE-MIT", "LICENSE-APACHE", "NOTICE"]
-PROGRAM, ARCHIVE = "crates/uca/out/uca", "crates/uca_c/out/libuca_c.a"
+PROGRAM, ARCHIVES = "crates/uca/out/uca", ["crates/uca_c/out/libuca_c.a", "crates/uca_run/out/libuca_run.a"]
 
 # Debian's packages, by a command or a file that each brings.
 BRINGS = {
@@ -74,8 +74,9 @@ def build(*crates):
 def copy_of_bindings(work):
     """A copy of bindings/ in a folder, with the library made there. Its compilers are told to write no name of the folder."""
     staged = f"{work}/staged"
-    os.makedirs(f"{staged}/{os.path.dirname(ARCHIVE)}")
-    shutil.copy(f"{TOP}/{ARCHIVE}", f"{staged}/{ARCHIVE}")
+    for archive in ARCHIVES:
+        os.makedirs(f"{staged}/{os.path.dirname(archive)}")
+        shutil.copy(f"{TOP}/{archive}", f"{staged}/{archive}")
     built = ("out", "build", "target", "dist", "__pycache__", "*.egg-info", "*.o", "*.so")
     shutil.copytree(f"{TOP}/bindings", f"{staged}/bindings", ignore=shutil.ignore_patterns(*built))
     run("make", "-s", "-C", f"{staged}/bindings/c", f"CFLAGS=-O2 -ffile-prefix-map={staged}=.")

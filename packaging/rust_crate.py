@@ -25,7 +25,7 @@ def make(out):
     if not shutil.which("cargo"):
         print("install cargo first", file=sys.stderr)
         sys.exit(2)
-    made.build("uca_c")
+    made.build("uca_c", "uca_run")
     with tempfile.TemporaryDirectory(prefix="uca-crate-") as work:
         bindings = made.copy_of_bindings(work)
         crate = f"{bindings}/rust"

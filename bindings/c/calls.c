@@ -711,6 +711,83 @@ static void check_compact_fingerprint(void)
     CHECK(strcmp(digits, COMPACT_SUM) == 0);
 }
 
+/* Whether the status of a text is this, at this position. */
+static bool is_judged(uca_collator *collator, const uint8_t *text, size_t length, uint32_t status, size_t position)
+{
+    size_t found = 77;
+    return uca_check_text(collator, text, length, &found) == status && found == position;
+}
+
+static void check_positions(void)
+{
+    char marks[4 + 2 * 65] = "b\xC3\xA1";
+    for (size_t i = 0; i < 65; i++) {
+        memcpy(marks + 3 + 2 * i, "\xCC\x81", 2);
+    }
+    uca_collator it = UCA_CLOSED_COLLATOR;
+    uca_error error;
+    CHECK(is_judged(&it, BYTES("a"), UCA_CLOSED, 0));
+    CHECK(opened(&it, TABLE, DATA, UCA_NON_IGNORABLE, UCA_WEIGHTS, &error) == UCA_OK);
+    CHECK(is_judged(&it, BYTES(""), UCA_OK, 0) && is_judged(&it, BYTES("a\xCC\x81"), UCA_OK, 0));
+    CHECK(is_judged(&it, BYTES("\xFF"), UCA_UTF8, 0) && is_judged(&it, BYTES("ab\xFFz\xFF"), UCA_UTF8, 2));
+    CHECK(is_judged(&it, BYTES("a\xCC"), UCA_UTF8, 1) && is_judged(&it, BYTES("a\xED\xA0\x80"), UCA_UTF8, 1));
+    /* b, a and 64 accents, one of which comes from the second letter; the first of 65 or 66 is at position 2 */
+    CHECK(is_judged(&it, (const uint8_t *)marks, 3 + 2 * 63, UCA_OK, 0));
+    CHECK(is_judged(&it, (const uint8_t *)marks, 3 + 2 * 64, UCA_LONG_RUN, 2) && is_judged(&it, (const uint8_t *)marks, 3 + 2 * 65, UCA_LONG_RUN, 2));
+    size_t length = 1048577;
+    uint8_t *text = calloc(length, 1);
+    if (!text) {
+        abort();
+    }
+    CHECK(is_judged(&it, text, length, UCA_TOO_LONG, 0) && is_judged(&it, text, length - 1, UCA_OK, 0));
+    free(text);
+    CHECK(IS_KEY(&it, "a", "\x1C\x47\0\0\0\x20\0\0\0\x02"));
+    uca_close(&it);
+    /* `12` is read as `212` */
+    char number[2 + 2 * 65] = "12";
+    memcpy(number + 2, marks + 3, 2 * 65);
+    CHECK(opened(&it, DIGITS, DATA, UCA_NON_IGNORABLE, UCA_NUMERIC, &error) == UCA_OK);
+    CHECK(is_judged(&it, (const uint8_t *)number, sizeof number, UCA_LONG_RUN, 3));
+    uca_close(&it);
+}
+
+/* Whether so many bytes of the key are written where there is room for so many, and how many it has is told. */
+static bool begins(uca_collator *collator, const uint8_t *text, size_t length, size_t room, const char *key, size_t key_length)
+{
+    uint8_t out[ROOM];
+    size_t needed = 77, count = room < key_length ? room : key_length;
+    memset(out, 0xEE, ROOM);
+    bool is_written = uca_key_beginning(collator, text, length, out, room, &needed) == UCA_OK && needed == key_length && memcmp(out, key, count) == 0;
+    return is_written && out[count] == 0xEE;
+}
+
+#define BEGINS(collator, text, room, key) begins(collator, BYTES(text), room, key, sizeof(key) - 1)
+
+static bool has_no_beginning(uca_collator *collator, const uint8_t *text, size_t length, uint32_t status)
+{
+    uint8_t out[ROOM];
+    size_t needed = 77;
+    out[0] = 0xEE;
+    return uca_key_beginning(collator, text, length, out, ROOM, &needed) == status && needed == 0 && out[0] == 0xEE;
+}
+
+static void check_key_beginnings(void)
+{
+    static const char key[] = "\x1C\x47\0\0\0\x20\0\0\0\x02";
+    uca_collator it = UCA_CLOSED_COLLATOR;
+    uca_error error;
+    CHECK(has_no_beginning(&it, BYTES("a"), UCA_CLOSED));
+    CHECK(opened(&it, TABLE, DATA, UCA_NON_IGNORABLE, UCA_WEIGHTS, &error) == UCA_OK);
+    CHECK(BEGINS(&it, "a", 0, key) && BEGINS(&it, "a", 1, key) && BEGINS(&it, "a", 9, key) && BEGINS(&it, "a", 10, key) && BEGINS(&it, "a", 11, key));
+    CHECK(BEGINS(&it, "", 3, "\0\0\0\0"));
+    CHECK(has_no_beginning(&it, BYTES("a\xFF"), UCA_UTF8));
+    uca_close(&it);
+    CHECK(opened_compact(&it, TABLE, DATA, BOOK, UCA_NON_IGNORABLE, UCA_WEIGHTS, &error) == UCA_OK);
+    CHECK(BEGINS(&it, "ab", 2, "\x08\x0A\x02") && BEGINS(&it, "ab", 3, "\x08\x0A\x02") && BEGINS(&it, "ab", 40, "\x08\x0A\x02"));
+    CHECK(has_no_beginning(&it, BYTES("\xFF"), UCA_UTF8));
+    uca_close(&it);
+}
+
 /* ---- Upgrades: the letter c comes between a and b, whose weight moves from 1C60 to 1C70 */
 
 static const char OLD[] = "@version 1\n0061 ; [.1C47.0020.0002]\n0062 ; [.1C60.0020.0002]\n0301 ; [.0000.0024.0002]\n";
@@ -1020,6 +1097,116 @@ static void check_upgrades(void)
     check_upgrade_threads();
 }
 
+/* ---- Commands over files in memory: c comes after a, and takes a weight that is free */
+
+static const char LETTERS[] = "@version 1\n0061 ; [.1C47.0020.0002]\n0062 ; [.1C60.0020.0002]\n";
+static const char RULES[] = "& a < c";
+static const char TAILORED[] = "@version 1\n0061 ; [.1C47.0020.0002]\n0062 ; [.1C60.0020.0002]\n0063 ; [.1C48.0020.0002]\n";
+static const char PLAN[] = "1 1C47 1C47 0001\n1 1C60 1C60 0001\n2 0020 0020 0001\n3 0002 0002 0001\n";
+
+static uca_bytes file_of(const char *text)
+{
+    return (uca_bytes){(const uint8_t *)text, strlen(text)};
+}
+
+/* Memory for what a command writes, and the lengths that are told. */
+typedef struct written {
+    uint8_t out[256], err[256], kept[256];
+    uca_lengths lengths;
+} written;
+
+#define OUT_OF(it) ((uca_room){(it).out, sizeof (it).out})
+#define ERR_OF(it) ((uca_room){(it).err, sizeof (it).err})
+#define KEPT_OF(it) ((uca_room){(it).kept, sizeof (it).kept})
+
+static bool holds(const uint8_t *bytes, size_t length, const char *text)
+{
+    return length == strlen(text) && memcmp(bytes, text, length) == 0 && bytes[length] == 0xEE;
+}
+
+/* Whether a command wrote this output and these errors, and made this file, or none. */
+static bool wrote(const written *it, const char *out, const char *err, const char *kept)
+{
+    bool is_file = it->lengths.files == (kept != NULL) && holds(it->kept, it->lengths.kept, kept ? kept : "");
+    return is_file && holds(it->out, it->lengths.out, out) && holds(it->err, it->lengths.err, err);
+}
+
+static written unwritten(void)
+{
+    written it;
+    memset(&it, 0xEE, sizeof it);
+    return it;
+}
+
+static void check_tailoring(void)
+{
+    uca_bytes table = file_of(LETTERS), data = file_of(ACCENT), rules = file_of(RULES), tailored = file_of(TAILORED), plan = file_of(PLAN);
+    written it = unwritten();
+    CHECK(uca_tailor(table, data, rules, OUT_OF(it), KEPT_OF(it), ERR_OF(it), &it.lengths) == 0 && wrote(&it, TAILORED, "", PLAN));
+    it = unwritten();
+    CHECK(uca_tailor(table, data, file_of("& a <"), OUT_OF(it), KEPT_OF(it), ERR_OF(it), &it.lengths) == 1 && wrote(&it, "", "rules byte 5: EmptyText\n", NULL));
+    it = unwritten();
+    CHECK(uca_audit(table, data, rules, tailored, plan, OUT_OF(it), ERR_OF(it), &it.lengths) == 0 && wrote(&it, "accepted\n", "", NULL));
+    it = unwritten();
+    CHECK(uca_audit(table, data, file_of("& b < c"), tailored, plan, OUT_OF(it), ERR_OF(it), &it.lengths) == 1
+          && wrote(&it, "refused 9 NotPlaced relation 1\n", "", NULL));
+}
+
+static void check_changes(void)
+{
+    uca_bytes before = file_of(OLD), data = file_of(ACCENT), after = file_of(NEW), changes = file_of(CHANGES), maps = file_of(MAPS);
+    written it = unwritten();
+    CHECK(uca_find_changes(before, data, after, data, OUT_OF(it), KEPT_OF(it), ERR_OF(it), &it.lengths) == 0 && wrote(&it, CHANGES, "", MAPS));
+    it = unwritten();
+    CHECK(uca_audit_changes(before, data, after, data, changes, maps, OUT_OF(it), ERR_OF(it), &it.lengths) == 0 && wrote(&it, "accepted\n", "", NULL));
+    it = unwritten();
+    CHECK(uca_audit_changes(before, data, after, data, file_of("@changes 1\n"), maps, OUT_OF(it), ERR_OF(it), &it.lengths) == 1
+          && wrote(&it, "refused 7 RowExtra new row 3\n", "", NULL));
+}
+
+/* A tailoring is an upgrade too: its target is affected, and no other text. */
+static void check_tailoring_upgrade(void)
+{
+    uca_upgrade upgrade = UCA_CLOSED_UPGRADE;
+    uca_collator before = UCA_CLOSED_COLLATOR, after = UCA_CLOSED_COLLATOR;
+    uca_upgrade_error error;
+    uca_error collator_error;
+    written it = unwritten();
+    uca_bytes data = file_of(ACCENT);
+    CHECK(uca_find_changes(file_of(LETTERS), data, file_of(TAILORED), data, OUT_OF(it), KEPT_OF(it), ERR_OF(it), &it.lengths) == 0);
+    it.out[it.lengths.out] = it.kept[it.lengths.kept] = 0;
+    six files = {{LETTERS, ACCENT, TAILORED, ACCENT, (const char *)it.out, (const char *)it.kept}};
+    CHECK(opened_upgrade(&upgrade, &files, UCA_NON_IGNORABLE, UCA_WEIGHTS, &error) == UCA_OK);
+    CHECK(opened(&before, LETTERS, ACCENT, UCA_NON_IGNORABLE, UCA_WEIGHTS, &collator_error) == UCA_OK);
+    CHECK(opened(&after, TAILORED, ACCENT, UCA_NON_IGNORABLE, UCA_WEIGHTS, &collator_error) == UCA_OK);
+    CHECK(is_affected(&upgrade, BYTES("abc"), 1));
+    CHECK(is_renewed(&upgrade, &before, &after, BYTES("ab")) && is_renewed(&upgrade, &before, &after, BYTES("b\xCC\x81""d")));
+    uca_close_upgrade(&upgrade);
+    uca_close(&before);
+    uca_close(&after);
+}
+
+#define NONE BYTES("")
+
+static void check_runs(void)
+{
+    written it = unwritten();
+    CHECK(uca_run(BYTES("uca\0sort\0t\0d"), BYTES("t\0d"), BYTES(LETTERS), BYTES(ACCENT), NONE, NONE, NONE, NONE, BYTES("b\na\n"), it.out, 256, it.err, 256,
+                  it.kept, 256, &it.lengths) == 0 && wrote(&it, "a\nb\n", "", NULL));
+    it = unwritten();
+    CHECK(uca_run(BYTES("uca\0sort\0t\0d"), BYTES("t"), BYTES(LETTERS), NONE, NONE, NONE, NONE, NONE, NONE, it.out, 256, it.err, 256, it.kept, 256,
+                  &it.lengths) == 3 && wrote(&it, "", "data: Open\n", NULL));
+    it = unwritten();
+    CHECK(uca_run(BYTES("uca\0sort\0t\0d"), BYTES("t\0d"), BYTES(LETTERS), BYTES(ACCENT), NONE, NONE, NONE, NONE, BYTES("b\na\n"), it.out, 3, it.err, 0,
+                  it.kept, 0, &it.lengths) == 0 && it.lengths.out == 4 && memcmp(it.out, "a\nb", 3) == 0 && it.out[3] == 0xEE);
+    it = unwritten();
+    CHECK(uca_run(BYTES("uca\0\xFF"), NONE, NONE, NONE, NONE, NONE, NONE, NONE, NONE, it.out, 256, it.err, 256, it.kept, 256, &it.lengths) == UCA_RUN_ARGUMENT
+          && wrote(&it, "", "", NULL));
+    it = unwritten();
+    CHECK(uca_run(BYTES("uca"), BYTES("\xFF"), NONE, NONE, NONE, NONE, NONE, NONE, NONE, it.out, 256, it.err, 256, it.kept, 256, &it.lengths) == UCA_RUN_ARGUMENT
+          && wrote(&it, "", "", NULL));
+}
+
 static void check_texts(void)
 {
     CHECK(!strcmp(uca_status_text(UCA_OK), "done"));
@@ -1068,7 +1255,13 @@ int main(void)
     check_ranges();
     check_number_ranges();
     check_compact_fingerprint();
+    check_positions();
+    check_key_beginnings();
     check_upgrades();
+    check_tailoring();
+    check_changes();
+    check_tailoring_upgrade();
+    check_runs();
     check_texts();
     printf("%d passed, %d failed\n", passed, failed);
     return failed != 0;

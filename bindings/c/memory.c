@@ -255,6 +255,43 @@ static bool use_upgrade(opened *opened)
     return is_made(third, key, needed, NEW_KEY, sizeof NEW_KEY) && status == UCA_OK && other == UCA_OK;
 }
 
+/* Where a text is rejected, and the beginning of a key. Returns whether nothing failed. */
+static bool use_texts(opened *opened)
+{
+    uca_collator *it = &opened->collator;
+    uca_error error = {7, 7};
+    if (!it->is_open) {
+        uint32_t status = uca_open_compact(it, BYTES(TABLE), BYTES(DATA), BYTES(BOOK), UCA_NON_IGNORABLE, UCA_WEIGHTS, &error);
+        if (status != UCA_OK) {
+            return false;
+        }
+    }
+    uint8_t key[64] = {0xEE};
+    size_t needed = 7, position = 7;
+    uint32_t status = uca_key_beginning(it, BYTES("a\xCC\x81"), key, 3, &needed);
+    CHECK(status == UCA_OK ? needed == sizeof COMPACT_KEY && memcmp(key, COMPACT_KEY, 3) == 0 && key[3] == 0
+                           : can_fail() && status == UCA_MEMORY && needed == 0 && key[0] == 0xEE);
+    uint32_t other = uca_check_text(it, BYTES("a\xCC\x81"), &position);
+    CHECK(position == 0 && (other == UCA_OK || (can_fail() && other == UCA_MEMORY)));
+    return status == UCA_OK && other == UCA_OK;
+}
+
+/* Finds changes, by the command. Returns whether nothing failed. */
+static bool use_command(opened *opened)
+{
+    (void)opened;
+    uint8_t out[256] = {0}, err[256] = {0}, kept[256] = {0};
+    uca_bytes before = {BYTES(OLD_TABLE)}, data = {BYTES(ACCENT)}, after = {BYTES(NEW_TABLE)};
+    uca_lengths lengths = {7, 7, 7, 7};
+    uint32_t status = uca_find_changes(before, data, after, data, (uca_room){out, 256}, (uca_room){kept, 256}, (uca_room){err, 256}, &lengths);
+    bool is_done = status == 0 && lengths.files == 1 && !strcmp((char *)out, CHANGES) && !strcmp((char *)kept, MAPS) && lengths.err == 0;
+    /* the certificate is kept before the output ends, which is the error 3 if it has no memory */
+    bool is_begun = status >= 1 && status <= 4 && (lengths.files == 0 || status == 3);
+    bool is_none = status == UCA_RUN_MEMORY && lengths.out == 0 && lengths.err == 0 && lengths.files == 0;
+    CHECK(is_done || (can_fail() && (is_begun || is_none)));
+    return is_done;
+}
+
 static void close_all(opened *it)
 {
     uca_close(&it->collator);
@@ -292,7 +329,7 @@ static long run_all(bool uses(opened *))
 
 int main(void)
 {
-    bool (*const uses[])(opened *) = {use, use_compact, use_shared, use_numbers, use_upgrade};
+    bool (*const uses[])(opened *) = {use, use_compact, use_shared, use_numbers, use_upgrade, use_texts, use_command};
     long all = 0;
     for (size_t i = 0; i < sizeof uses / sizeof *uses; i++) {
         long count = run_all(uses[i]);

@@ -3,7 +3,7 @@
 
     tests/by_hand/bindings.py [--uca PATH]        crates/uca/out/uca, unless another program is named
 
-First prove and build the static library: `tools/build.py uca_c`. Then this script makes bindings/c/out and runs
+First prove and build the static library: `tools/build.py uca_c uca_run`. Then this script makes bindings/c/out and runs
 
 - `calls`, which calls everything in uca.h with good and bad input, also in threads: as it is, under valgrind and its helgrind, and with the
   sanitizers of gcc;
@@ -41,7 +41,7 @@ import packages
 
 TOP = os.path.dirname(os.path.dirname(os.path.dirname(os.path.realpath(__file__))))
 C, PYTHON, EXAMPLES = f"{TOP}/bindings/c", f"{TOP}/bindings/python", f"{TOP}/examples"
-ARCHIVE = f"{TOP}/crates/uca_c/out/libuca_c.a"
+ARCHIVES = [f"{TOP}/crates/{it}/out/lib{it}.a" for it in ("uca_c", "uca_run")]
 
 NEEDS = ["gcc", "make"]
 WANTS = ["g++", "pkgconf", "valgrind", "sqlite3", "libsqlite3-dev", "postgresql", "postgresql-server-dev-15", "unicode-data", *packages.LISTS]
@@ -1966,8 +1966,9 @@ def main():
     parser = argparse.ArgumentParser(description=__doc__, formatter_class=argparse.RawDescriptionHelpFormatter)
     parser.add_argument("--uca", default=f"{TOP}/crates/uca/out/uca")
     program = os.path.realpath(parser.parse_args().uca)
-    if not os.path.exists(ARCHIVE):
-        sys.exit(f"there is no {ARCHIVE}: run `tools/build.py uca_c` first")
+    missing = [it for it in ARCHIVES if not os.path.exists(it)]
+    if missing:
+        sys.exit(f"there is no {missing[0]}: run `tools/build.py uca_c uca_run` first")
     checks = [("make", make), ("valgrind", valgrind), ("sanitizers", sanitizers), ("header in C++", header), ("exported names", exports),
               ("installation", installed), ("stored run", stored_run), ("docs/BINDINGS.md", page), ("keys", keys_like(program)), ("Python", python), ("Python under valgrind", python_valgrind), ("wheel", wheel), ("sort", sorted_like(program)), ("SQLite", sqlite),
               ("SQLite's loads", sqlite_loads), ("SQLite's files", sqlite_files), ("SQLite's compact keys", sqlite_compact), ("SQLite's numbers", sqlite_numbers), ("SQLite's arguments", sqlite_arguments),

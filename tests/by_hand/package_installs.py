@@ -131,7 +131,7 @@ def copy_of_repository(folder):
             os.makedirs(os.path.dirname(f"{folder}/{name}"), exist_ok=True)
             shutil.copyfile(f"{TOP}/{name}", f"{folder}/{name}")
             os.chmod(f"{folder}/{name}", 0o700 if os.access(f"{TOP}/{name}", os.X_OK) else 0o600)
-    for name in ("crates/uca/out/uca", "crates/uca_c/out/libuca_c.a"):
+    for name in ("crates/uca/out/uca", "crates/uca_c/out/libuca_c.a", "crates/uca_run/out/libuca_run.a"):
         os.makedirs(os.path.dirname(f"{folder}/{name}"))
         shutil.copy(f"{TOP}/{name}", f"{folder}/{name}")
     write(f"{folder}/tools/build.py", "#!/bin/sh\n", 0o755)

@@ -635,8 +635,9 @@ def main():
     parser.add_argument("names", nargs="*", metavar="NAME")
     given = parser.parse_args()
     packages.stop_without(NEEDS)
-    if not os.path.exists(bindings.ARCHIVE):
-        sys.exit(f"there is no {bindings.ARCHIVE}: run `tools/build.py uca_c` first")
+    missing = [it for it in bindings.ARCHIVES if not os.path.exists(it)]
+    if missing:
+        sys.exit(f"there is no {missing[0]}: run `tools/build.py uca_c uca_run` first")
     program = os.path.realpath(given.uca)
     checks = {"statements": statements, "bad_texts": bad_texts, "unique": unique, "joins": joins, "begins": begins, "casts": casts, "text_class": text_class, "other_settings": other_settings,
               "dumps": dumps, "standby": standby, "transactions": inside_transactions, "roles": roles, "page": page, "orders": orders_like(program),

@@ -12,7 +12,8 @@
    - A uca_collator or a uca_upgrade is in one call at a time: two at once damage memory, and no status reports it. It may change
      threads between two calls, if a lock or a thread's start or join orders these. For work side by side, each thread has a
      collator of its own: uca_share opens one of another, in little time and memory. uca_abi, uca_version, uca_collator_size,
-     uca_upgrade_size, uca_compare_keys, uca_fingerprint and uca_compact_fingerprint may be called from any thread at any time.
+     uca_upgrade_size, uca_compare_keys, uca_fingerprint, uca_compact_fingerprint and uca_run may be called from any thread at
+     any time.
    - malloc, realloc and free are one allocator, whose blocks are aligned to 16 bytes. No call is made in a signal handler, or in
      the forked child of a process with threads.
 
@@ -242,6 +243,24 @@ uint32_t uca_share(uca_collator *collator, uca_collator *other);
    level too. Canonically equivalent texts have one key. At UCA_IDENTICAL no other texts have. */
 uint32_t uca_key(uca_collator *collator, const uint8_t *text, size_t length, uint8_t *out, size_t room, size_t *needed);
 
+/* The first bytes of the key that uca_key makes of a text: as many as there is room for. An index that sorts by the first
+   bytes, and looks at the rest where these are equal, needs no more.
+
+   UCA_OK: the key has `*needed` bytes. The first of them, as many as fit, are at the beginning of `out`, and the bytes after
+   them are as before.
+   UCA_CLOSED, UCA_UTF8, UCA_TOO_LONG, UCA_LONG_RUN, UCA_MEMORY: `out` is as before, and `*needed` is 0. */
+uint32_t uca_key_beginning(uca_collator *collator, const uint8_t *text, size_t length, uint8_t *out, size_t room, size_t *needed);
+
+/* Whether a text is accepted, and where an error is. Ask it where another call rejects a text. Of two texts, ask it of the left
+   one, and then of the right one.
+
+   UCA_OK: the text is accepted, and `*position` is 0.
+   UCA_UTF8: `*position` is the first byte, from 0 on, that is not part of UTF-8.
+   UCA_LONG_RUN: `*position` is the index, from 0 on, of a code point of the text in Normalization Form D. The first run of more
+   than 64 non-starters begins there. At UCA_NUMERIC it is that of what is read of the text.
+   UCA_CLOSED, UCA_TOO_LONG, UCA_MEMORY: `*position` is 0. */
+uint32_t uca_check_text(uca_collator *collator, const uint8_t *text, size_t length, size_t *position);
+
 /* The compact key of a whole key, by the book of the collator. The key need not be that of a text.
 
    UCA_OK: the first `*needed` bytes of `out` are the compact key, and those after them are as before.
@@ -380,6 +399,105 @@ uint32_t uca_upgrade_fingerprints(uca_upgrade *upgrade, uint8_t *old_out, uint8_
 
 /* Gives back all memory of an upgrade, which is closed then. A closed one stays so. */
 void uca_close_upgrade(uca_upgrade *upgrade);
+
+/* How much a command wrote. */
+typedef struct uca_lengths {
+    size_t out;   /* the bytes of its output */
+    size_t err;   /* the bytes of its error lines */
+    size_t kept;  /* the bytes of the file that it made */
+    size_t files; /* how many files it made: 0 or 1 */
+} uca_lengths;
+
+/* What a call of uca_run returns where no command ran. */
+typedef enum uca_run_status {
+    UCA_RUN_ARGUMENT = 256, /* the arguments or the names are not UTF-8 */
+    UCA_RUN_MEMORY = 257    /* out of memory before the command began */
+} uca_run_status;
+
+/* Runs the command `uca` over files in memory, and returns its status, which is 0 to 4 (docs/MESSAGES.md). It does what the
+   program does with these arguments: all commands, with their output, their error lines and the file that they make. uca_tailor,
+   uca_audit, uca_find_changes and uca_audit_changes below are calls of it.
+
+   `arguments` are UTF-8, with a 0 between two of them. The first one is the name of the program, as in `uca\0check\0t\0d`.
+   `names` are those of the files, in the same form: the first name is that of `first`, and so on. A file that has no name
+   cannot be read, so give the others no bytes. `input` is what the command reads from its standard input. A file that it makes,
+   such as a certificate, may have any name.
+
+   The first bytes of the output are at the beginning of `out`, as many as there is room for, and so it is with the error lines
+   and `err`, and with the file and `kept`. The rest of each is as before. The lengths are those of all bytes: where one is more
+   than its room, call it again with that much room.
+
+   UCA_RUN_ARGUMENT, UCA_RUN_MEMORY: no command ran. Nothing is written, and the lengths are 0. */
+uint32_t uca_run(const uint8_t *arguments, size_t arguments_length, const uint8_t *names, size_t names_length, const uint8_t *first,
+                 size_t first_length, const uint8_t *second, size_t second_length, const uint8_t *third, size_t third_length,
+                 const uint8_t *fourth, size_t fourth_length, const uint8_t *fifth, size_t fifth_length, const uint8_t *sixth,
+                 size_t sixth_length, const uint8_t *input, size_t input_length, uint8_t *out, size_t out_room, uint8_t *err,
+                 size_t err_room, uint8_t *kept, size_t kept_room, uca_lengths *lengths);
+
+/* ---- Tables, certificates and their audits. These are calls of uca_run with the arguments of one command. They are in this header,
+   so nothing is proved of them. Each returns the status of uca_run: 0 where the command did its work, and 1 where an audit rejects.
+   The bytes at `err` are error lines as `uca` prints them, such as `rules: byte 12: Utf8`. The lengths are those of uca_run. */
+
+/* Bytes of a file. */
+typedef struct uca_bytes {
+    const uint8_t *bytes;
+    size_t length;
+} uca_bytes;
+
+/* Memory of the caller for what is written. */
+typedef struct uca_room {
+    uint8_t *bytes;
+    size_t room;
+} uca_room;
+
+#define UCA_BYTES_OF(text) (const uint8_t *)(text), sizeof(text) - 1
+#define UCA_FILE_OF(file) (file).bytes, (file).length
+#define UCA_ROOM_OF(to) (to).bytes, (to).room
+
+/* Tailors a table by rules (UTS #35 Part 5): the table goes to `tailored`, and its certificate to `certificate`. */
+static inline uint32_t uca_tailor(uca_bytes table, uca_bytes data, uca_bytes rules, uca_room tailored, uca_room certificate,
+                                  uca_room err, uca_lengths *lengths)
+{
+    static const uint8_t none[1] = {0};
+    return uca_run(UCA_BYTES_OF("uca\0tailor\0table\0data\0rules\0certificate"), UCA_BYTES_OF("table\0data\0rules"),
+                   UCA_FILE_OF(table), UCA_FILE_OF(data), UCA_FILE_OF(rules), none, 0, none, 0, none, 0, none, 0,
+                   UCA_ROOM_OF(tailored), UCA_ROOM_OF(err), UCA_ROOM_OF(certificate), lengths);
+}
+
+/* Audits a tailored table. The verdict goes to `verdict`: a line that begins with `accepted`, or with `refused` and the condition
+   that is not met. */
+static inline uint32_t uca_audit(uca_bytes table, uca_bytes data, uca_bytes rules, uca_bytes tailored, uca_bytes certificate,
+                                 uca_room verdict, uca_room err, uca_lengths *lengths)
+{
+    static uint8_t none[1] = {0};
+    return uca_run(UCA_BYTES_OF("uca\0audit\0table\0data\0rules\0tailored\0certificate"),
+                   UCA_BYTES_OF("table\0data\0rules\0tailored\0certificate"), UCA_FILE_OF(table), UCA_FILE_OF(data),
+                   UCA_FILE_OF(rules), UCA_FILE_OF(tailored), UCA_FILE_OF(certificate), none, 0, none, 0, UCA_ROOM_OF(verdict),
+                   UCA_ROOM_OF(err), none, 0, lengths);
+}
+
+/* Finds what a new table and its data file change: the file of changes goes to `changes`, and the certificate to `certificate`.
+   uca_open_upgrade takes both. The new table may be a new edition, or the old table tailored. */
+static inline uint32_t uca_find_changes(uca_bytes old_table, uca_bytes old_data, uca_bytes new_table, uca_bytes new_data,
+                                        uca_room changes, uca_room certificate, uca_room err, uca_lengths *lengths)
+{
+    static const uint8_t none[1] = {0};
+    return uca_run(UCA_BYTES_OF("uca\0changes\0old\0old-data\0new\0new-data\0certificate"),
+                   UCA_BYTES_OF("old\0old-data\0new\0new-data"), UCA_FILE_OF(old_table), UCA_FILE_OF(old_data),
+                   UCA_FILE_OF(new_table), UCA_FILE_OF(new_data), none, 0, none, 0, none, 0, UCA_ROOM_OF(changes), UCA_ROOM_OF(err),
+                   UCA_ROOM_OF(certificate), lengths);
+}
+
+/* Audits a file of changes and its certificate. The verdict goes to `verdict`, as that of uca_audit does. */
+static inline uint32_t uca_audit_changes(uca_bytes old_table, uca_bytes old_data, uca_bytes new_table, uca_bytes new_data,
+                                         uca_bytes changes, uca_bytes certificate, uca_room verdict, uca_room err, uca_lengths *lengths)
+{
+    static uint8_t none[1] = {0};
+    return uca_run(UCA_BYTES_OF("uca\0audit-changes\0old\0old-data\0new\0new-data\0changes\0certificate"),
+                   UCA_BYTES_OF("old\0old-data\0new\0new-data\0changes\0certificate"), UCA_FILE_OF(old_table),
+                   UCA_FILE_OF(old_data), UCA_FILE_OF(new_table), UCA_FILE_OF(new_data), UCA_FILE_OF(changes),
+                   UCA_FILE_OF(certificate), none, 0, UCA_ROOM_OF(verdict), UCA_ROOM_OF(err), none, 0, lengths);
+}
 
 /* ---- Texts of numbers. They are in this header, so nothing is proved of them. A number of another kind is "unknown". */
 

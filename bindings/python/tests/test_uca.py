@@ -731,6 +731,96 @@ builtins.kept, sys.kept, kept = (uca.Upgrade(*EDITIONS) for _ in range(3))
         self.assertEqual((run.returncode, run.stdout, run.stderr), (0, b"", b""))
 
 
+#: A table of two letters, rules that put c between them, and what they make.
+LETTERS = b"@version 1\n0061 ; [.1C47.0020.0002]\n0062 ; [.1C60.0020.0002]\n"
+RULES = b"& a < c"
+TAILORED = LETTERS + b"0063 ; [.1C48.0020.0002]\n"
+PLAN = b"1 1C47 1C47 0001\n1 1C60 1C60 0001\n2 0020 0020 0001\n3 0002 0002 0001\n"
+
+
+class Commands(unittest.TestCase):
+    def test_tailor(self):
+        self.assertEqual(uca.tailor(LETTERS, b"@data 1\n", RULES), uca.Tailoring(TAILORED, PLAN))
+        with self.assertRaises(uca.CommandError) as caught:
+            uca.tailor(LETTERS, b"@data 1\n", b"& a <")
+        self.assertEqual((caught.exception.status, caught.exception.message), (1, "rules byte 5: EmptyText"))
+
+    def test_audit(self):
+        self.assertEqual(uca.audit(LETTERS, b"@data 1\n", RULES, TAILORED, PLAN), (True, "accepted"))
+        self.assertEqual(uca.audit(LETTERS, b"@data 1\n", b"& b < c", TAILORED, PLAN), (False, "refused 9 NotPlaced relation 1"))
+        with self.assertRaises(uca.CommandError) as caught:
+            uca.audit(LETTERS, b"?\n", RULES, TAILORED, PLAN)
+        self.assertEqual((caught.exception.status, str(caught.exception)), (1, "data line 1: Order"))
+
+    def test_changes(self):
+        self.assertEqual(uca.find_changes(*EDITIONS[:4]), uca.Changes(CHANGES, CERTIFICATE))
+        self.assertEqual(uca.audit_changes(*EDITIONS), (True, "accepted"))
+        self.assertEqual(uca.audit_changes(*EDITIONS[:4], b"@changes 1\nrange 0324..0324\n", CERTIFICATE), (False, "refused 7 RowExtra new row 5"))
+        with self.assertRaises(uca.CommandError) as caught:
+            uca.find_changes(TABLE, DATA, b"?\n", DATA)
+        self.assertEqual((caught.exception.status, str(caught.exception)), (1, "new line 1: Order"))
+
+    def test_a_tailoring_is_an_upgrade(self):
+        changes = uca.find_changes(LETTERS, DATA, TAILORED, DATA)
+        with uca.Upgrade(LETTERS, DATA, TAILORED, DATA, *changes) as upgrade, uca.Collator(LETTERS, DATA) as old, uca.Collator(TAILORED, DATA) as new:
+            self.assertTrue(upgrade.affected("abc"))
+            for text in ("", "ab", "b\u0301d"):
+                self.assertFalse(upgrade.affected(text))
+                self.assertEqual(upgrade.rekey(old.key(text)), new.key(text))
+
+    def test_run(self):
+        known = {"t": TABLE, "d": DATA}
+        self.assertEqual(uca.run(["sort", "t", "d"], known, b"b\na\n"), (0, b"a\nb\n", "", None))
+        self.assertEqual(uca.run(["sort", "t", "d"], {"t": TABLE}), (3, b"", "data: Open\n", None))
+        self.assertTrue(uca.run(["--version"], {}).output.startswith(b"uca 0.1.0 "))
+        self.assertEqual(uca.run(["tailor", "t", "d", "r", "any"], {"t": LETTERS, "d": DATA, "r": RULES}), (0, TAILORED, "", PLAN))
+        self.assertEqual(uca.run([], {}).status, uca.run(["none"], {}).status)
+        with files() as (table, data):
+            self.assertEqual(uca.run(["check", "t", "d"], {"t": table, "d": data}).output, b"well-formed\n")
+
+    def test_more_than_there_is_room_for(self):
+        """The keys of these lines have more bytes than there is room for at first."""
+        lines = b"ab\n" * 30000
+        keys = uca.run(["keys", "t", "d"], {"t": TABLE, "d": DATA}, lines)
+        self.assertEqual((keys.status, len(set(keys.output.split(b"\n"))), keys.output.count(b"\n")), (0, 2, 30000))
+        self.assertGreater(len(keys.output), 2 * (len(lines) + len(TABLE) + len(DATA)) + 65536)
+
+    def test_values(self):
+        for arguments, given, kind in ((["a\0b"], {}, ValueError), ([b"a"], {}, TypeError), (["x"], {"a\0b": b""}, ValueError)):
+            self.assertRaises(kind, uca.run, arguments, given)
+        self.assertRaises(ValueError, uca.run, ["x"], {str(it): b"" for it in range(7)})
+        self.assertRaises(TypeError, uca.run, ["x"], {}, "text")
+
+    def test_threads(self):
+        def sort(_):
+            return uca.run(["sort", "t", "d"], {"t": TABLE, "d": DATA}, b"b\na\n" * 1000).output
+
+        with concurrent.futures.ThreadPoolExecutor(4) as pool:
+            self.assertEqual(set(pool.map(sort, range(40))), {b"a\n" * 1000 + b"b\n" * 1000})
+
+
+class Positions(unittest.TestCase):
+    """Where a rejected text has its error."""
+
+    def rejected(self, call, *given):
+        with self.assertRaises(uca.TextError) as caught:
+            call(*given)
+        return caught.exception.kind, caught.exception.position, caught.exception.side
+
+    def test_texts(self):
+        marks = "b\u00e1" + 64 * "\u0301"
+        with uca.Collator(TABLE, DATA) as collator:
+            self.assertEqual(self.rejected(collator.key, b"ab\xff"), ("Utf8", 2, ""))
+            self.assertEqual(self.rejected(collator.key, "\ud800"), ("Utf8", 0, ""))
+            self.assertEqual(self.rejected(collator.key, marks), ("LongRun", 2, ""))
+            self.assertEqual(self.rejected(collator.key, "a" * 1048577), ("TooLong", None, ""))
+            self.assertEqual(self.rejected(collator.range, b"ab\xff"), ("Utf8", 2, ""))
+            self.assertEqual(self.rejected(collator.compare, "a", b"ab\xff"), ("Utf8", 2, "right"))
+            self.assertEqual(self.rejected(collator.compare, marks, b"ab\xff"), ("LongRun", 2, "left"))
+        with uca.Upgrade(*EDITIONS) as upgrade:
+            self.assertEqual(self.rejected(upgrade.affected, b"ab\xff"), ("Utf8", None, ""))
+
+
 class Values(unittest.TestCase):
     """What texts, keys, files and settings are made of."""
 
@@ -1313,7 +1403,7 @@ class Errors(unittest.TestCase):
     def test_pickled(self):
         other_files = uca.FingerprintError("0" * 64, "1" * 64)
         errors = [uca.FileError("table", 3, "Line"), uca.TextError("Utf8"), uca.StoredKeyError("OtherKey"), uca.NoBookError(), uca.ClosedError()]
-        errors.append(uca.AuditError("RowExtra", "new row", 5))
+        errors += [uca.AuditError("RowExtra", "new row", 5), uca.TextError("LongRun", 2, "left"), uca.CommandError(1, "table line 1: Order")]
         for error in [*errors, other_files, uca.UcaError("x")]:
             for protocol in range(pickle.HIGHEST_PROTOCOL + 1):
                 for found in (pickle.loads(pickle.dumps(error, protocol)), copy.copy(error), copy.deepcopy(error)):
@@ -1322,7 +1412,10 @@ class Errors(unittest.TestCase):
 
     def test_messages(self):
         self.assertEqual(str(uca.FileError("table", 3, "Line")), "table: line 3: Line")
-        self.assertEqual(str(uca.TextError("Utf8")), "text: Utf8")
+        self.assertEqual(str(uca.TextError("TooLong")), "text: TooLong")
+        self.assertEqual(str(uca.TextError("Utf8", 3)), "text: Utf8 at 3")
+        self.assertEqual(str(uca.TextError("LongRun", 2, "right")), "right text: LongRun at 2")
+        self.assertEqual(str(uca.CommandError(3, "data: Open")), "data: Open")
         self.assertEqual(str(uca.ClosedError()), "the collator or the upgrade is closed")
 
     def test_errors_of_other_processes(self):
@@ -1382,8 +1475,8 @@ class Library(unittest.TestCase):
 
     def test_older(self):
         first = ["uca_abi", "uca_version", "uca_collator_size", "uca_open", "uca_key", "uca_compare", "uca_compare_keys", "uca_close"]
-        later = ["uca_open_compact", "uca_compact_fingerprint", "uca_compact", "uca_expand", "uca_range"]
-        later += ["uca_upgrade_size", "uca_open_upgrade", "uca_affected", "uca_rekey", "uca_upgrade_fingerprints", "uca_close_upgrade"]
+        later = ["uca_open_compact", "uca_compact_fingerprint", "uca_compact", "uca_expand", "uca_range", "uca_check_text"]
+        later += ["uca_upgrade_size", "uca_open_upgrade", "uca_affected", "uca_rekey", "uca_upgrade_fingerprints", "uca_close_upgrade", "uca_run"]
         for calls, missing in [(first + later, "uca_fingerprint"), *((["uca_fingerprint", *first, *later[:it]], later[it]) for it in range(len(later)))]:
             with self.assertRaises(ImportError) as caught:
                 uca._declare(types.SimpleNamespace(**{it: lambda: None for it in calls}), "/old/libuca.so.1")

@@ -5,7 +5,8 @@
 
 With a book, keys are compact: Collator("allkeys.txt", "data.txt", book="general.book"). With numeric=True, numbers are
 ordered by their values: "Band 2" comes before "Band 10". After a new edition of the table, an Upgrade says which stored
-keys have to be made again, and mends the others.
+keys have to be made again, and mends the others. :func:`tailor`, :func:`audit`, :func:`find_changes` and :func:`run` do what
+the command ``uca`` does, over files in memory.
 
 The work is done by libuca.so.1, whose contracts are proved. Nothing is proved of this module. The library is the file that
 the environment's UCA_LIBRARY names, or else the one beside this module, or else the one that the system finds.
@@ -21,23 +22,33 @@ import sys
 import sysconfig
 import threading
 import types
-from typing import Any, Callable, Dict, List, NamedTuple, Optional, Set, Tuple, Type, TypeVar, Union
+from typing import Any, Callable, Dict, List, Mapping, NamedTuple, Optional, Sequence, Set, Tuple, Type, TypeVar, Union
 
 __all__ = [
     "AuditError",
+    "Changes",
     "Collator",
+    "CommandError",
     "Comparison",
     "ClosedError",
     "FileError",
     "FingerprintError",
     "KeyRange",
     "NoBookError",
+    "Run",
     "StoredKeyError",
+    "Tailoring",
     "TextError",
     "UcaError",
     "Upgrade",
+    "Verdict",
+    "audit",
+    "audit_changes",
     "compare_keys",
+    "find_changes",
     "library_version",
+    "run",
+    "tailor",
 ]
 
 #: the version of this module
@@ -46,7 +57,9 @@ __version__ = "0.1.0"
 _ABI = 1
 
 _OK, _CLOSED, _ARGUMENT, _TABLE, _DATA, _MEMORY, _SMALL, _BOOK, _NO_BOOK, _NO_KEY = 0, 1, 3, 4, 5, 6, 10, 11, 12, 13
-_FILE, _NO_IMAGE = 14, 16
+_TOO_LONG, _FILE, _NO_IMAGE = 8, 14, 16
+#: the status of uca_run where memory ran out before the command began
+_RUN_MEMORY = 257
 _ROLES = {_TABLE: "table", _DATA: "data", _BOOK: "book"}
 _TEXT_ERRORS = {7: "Utf8", 8: "TooLong", 9: "LongRun"}
 _STORED_KEY_ERRORS = {"uca_compact": "OtherKey", "uca_expand": "NoCompactKey", "uca_rekey": "NoImage"}
@@ -130,13 +143,19 @@ class AuditError(UcaError, ValueError):
 class TextError(UcaError, ValueError):
     """A text is rejected."""
 
-    def __init__(self, kind: str) -> None:
+    def __init__(self, kind: str, position: Optional[int] = None, side: str = "") -> None:
         #: why: "Utf8", "TooLong" or "LongRun"
         self.kind = kind
-        super().__init__(kind)
+        #: where, from 0 on. "Utf8": the first byte that is not UTF-8. "LongRun": the code point, in Normalization Form D of what is
+        #: read of the text, at which the run begins. Else, and where an Upgrade rejects it, None
+        self.position = position
+        #: "left" or "right" if two texts were compared, else ""
+        self.side = side
+        super().__init__(kind, position, side)
 
     def __str__(self) -> str:
-        return f"text: {self.kind}"
+        text = f"{self.side} text" if self.side else "text"
+        return f"{text}: {self.kind}" if self.position is None else f"{text}: {self.kind} at {self.position}"
 
 
 class ClosedError(UcaError, ValueError):
@@ -164,6 +183,60 @@ class StoredKeyError(UcaError, ValueError):
 
     def __str__(self) -> str:
         return f"key: {self.kind}"
+
+
+class CommandError(UcaError, ValueError):
+    """The command ``uca`` has an error, such as a file that is rejected."""
+
+    def __init__(self, status: int, message: str) -> None:
+        #: its status, from 1 on, as docs/MESSAGES.md has them
+        self.status = status
+        #: its error lines, as it prints them: "rules byte 5: EmptyText"
+        self.message = message
+        super().__init__(status, message)
+
+    def __str__(self) -> str:
+        return self.message
+
+
+class Run(NamedTuple):
+    """What a command did."""
+
+    #: its status, from 0 on, as docs/MESSAGES.md has them
+    status: int
+    #: what it printed to standard output
+    output: bytes
+    #: its error lines
+    errors: str
+    #: the file that it made, or None
+    made: Optional[bytes]
+
+
+class Tailoring(NamedTuple):
+    """A tailored table."""
+
+    #: the file of the table
+    table: bytes
+    #: the certificate, which :func:`audit` takes
+    certificate: bytes
+
+
+class Changes(NamedTuple):
+    """What a new table and data file change."""
+
+    #: the file of changes
+    changes: bytes
+    #: the certificate
+    certificate: bytes
+
+
+class Verdict(NamedTuple):
+    """What an audit says."""
+
+    #: whether it accepts
+    accepted: bool
+    #: "accepted", or "refused" and the first condition that is not met: "refused 9 NotPlaced relation 1"
+    text: str
 
 
 class Comparison(NamedTuple):
@@ -239,6 +312,10 @@ class _UpgradeError(ctypes.Structure):
     _fields_ = [(it, ctypes.c_uint32) for it in ("file", "line", "kind", "condition", "place", "number")]
 
 
+class _Lengths(ctypes.Structure):
+    _fields_ = [(it, ctypes.c_size_t) for it in ("out", "err", "kept", "files")]
+
+
 class _Comparison(ctypes.Structure):
     _fields_ = [("order", ctypes.c_int32), ("level", ctypes.c_uint32)]
 
@@ -271,6 +348,7 @@ def _declare(library: ctypes.PyDLL, path: str) -> None:
         "uca_compact": ([collator, data, size, *written], number),
         "uca_expand": ([collator, data, size, *written], number),
         "uca_range": ([collator, data, size, number, number, *written], number),
+        "uca_check_text": ([collator, data, size, ctypes.POINTER(size)], number),
         "uca_compare": ([collator, data, size, data, size, comparison], number),
         "uca_compare_keys": ([data, size, data, size, ctypes.c_uint8, comparison], None),
         "uca_close": ([collator], None),
@@ -280,6 +358,7 @@ def _declare(library: ctypes.PyDLL, path: str) -> None:
         "uca_rekey": ([upgrade, data, size, *written], number),
         "uca_upgrade_fingerprints": ([upgrade, out, out], number),
         "uca_close_upgrade": ([upgrade], None),
+        "uca_run": ([*[data, size] * 9, *[out, size] * 3, ctypes.POINTER(_Lengths)], number),
     }
     for name, (arguments, result) in calls.items():
         try:
@@ -292,7 +371,8 @@ def _declare(library: ctypes.PyDLL, path: str) -> None:
 
 
 #: the calls that take a collator or an upgrade
-_CALLS_IN_TURN = ["uca_open", "uca_open_compact", "uca_key", "uca_compact", "uca_expand", "uca_range", "uca_compare", "uca_close"]
+_CALLS_IN_TURN = ["uca_open", "uca_open_compact", "uca_key", "uca_compact", "uca_expand", "uca_range", "uca_check_text", "uca_compare"]
+_CALLS_IN_TURN += ["uca_close"]
 _CALLS_IN_TURN += ["uca_open_upgrade", "uca_affected", "uca_rekey", "uca_upgrade_fingerprints", "uca_close_upgrade"]
 
 
@@ -334,6 +414,9 @@ def _load() -> ctypes.PyDLL:
     path = os.environ.get("UCA_LIBRARY") or (beside if os.path.exists(beside) else "libuca.so.1")
     library = _loaded(path)
     _declare(library, path)
+    # A command may take long, and shares nothing with other calls. So the interpreter's lock is free while it runs.
+    types_of_run, library.uca_run = library.uca_run, ctypes.CDLL(path).uca_run
+    library.uca_run.argtypes, library.uca_run.restype = types_of_run.argtypes, types_of_run.restype
     sizes = [library.uca_collator_size(), library.uca_upgrade_size()]
     if library.uca_abi() != _ABI or sizes != [ctypes.sizeof(_Collator), ctypes.sizeof(_Upgrade)]:
         raise ImportError(f"{path} has another interface than this module")
@@ -447,7 +530,17 @@ def _opened_upgrade(files: List[bytes], settings: Tuple[int, int]) -> _Upgrade:
     return upgrade
 
 
-def _raise(status: int, opened: Union[_Collator, _Upgrade], name: str) -> None:
+def _text_error(status: int, opened: Union[_Collator, _Upgrade], texts: Sequence[bytes]) -> TextError:
+    """The error of a status of a call with one text or two."""
+    if isinstance(opened, _Collator):
+        for side, text in zip(("left", "right") if len(texts) == 2 else ("",), texts):
+            position = ctypes.c_size_t()
+            if _library.uca_check_text(opened, text, len(text), position) == status:
+                return TextError(_TEXT_ERRORS[status], None if status == _TOO_LONG else position.value, side)
+    return TextError(_TEXT_ERRORS[status])
+
+
+def _raise(status: int, opened: Union[_Collator, _Upgrade], name: str, *texts: bytes) -> None:
     """Raises the error of a status of the call of this name with texts or keys."""
     if status == _CLOSED:
         raise opened.new_error()
@@ -457,7 +550,7 @@ def _raise(status: int, opened: Union[_Collator, _Upgrade], name: str) -> None:
         raise NoBookError
     if status in (_NO_KEY, _NO_IMAGE):
         raise StoredKeyError(_STORED_KEY_ERRORS[name])
-    raise TextError(_TEXT_ERRORS[status])
+    raise _text_error(status, opened, texts)
 
 
 def _made(opened: Union[_Collator, _Upgrade], name: str, given: bytes, *numbers: int) -> bytes:
@@ -469,7 +562,7 @@ def _made(opened: Union[_Collator, _Upgrade], name: str, given: bytes, *numbers:
         out = ctypes.create_string_buffer(needed.value)
         status = call(opened, given, len(given), *numbers, out, len(out), needed)
     if status != _OK:
-        _raise(status, opened, name)
+        _raise(status, opened, name, given)
     return out[: needed.value]
 
 
@@ -490,6 +583,96 @@ def compare_keys(left: Bytes, right: Bytes, levels: int) -> Comparison:
         raise ValueError("levels is a number from 0 to 255")
     _library.uca_compare_keys(first, len(first), second, len(second), count, found)
     return Comparison(found.order, found.level)
+
+
+def _list_of(texts: Sequence[str], what: str) -> bytes:
+    """Texts with a NUL between two of them."""
+    for it in texts:
+        if not isinstance(it, str):
+            raise TypeError(f"{what} are texts")
+        if "\0" in it:
+            raise ValueError(f"{what} have no NUL")
+    return "\0".join(texts).encode()
+
+
+def _ran(words: bytes, names: bytes, files: Sequence[bytes], lines: bytes, rooms: Tuple[int, int, int]) -> Tuple[int, _Lengths, List[Any]]:
+    """The status of a command, the lengths, and what it wrote where there is so much room."""
+    made, lengths = [(ctypes.c_char * room)() for room in rooms], _Lengths()
+    given = [words, names, *files, *[b""] * (6 - len(files)), lines]
+    arguments = [part for it in given for part in (it, len(it))]
+    status = _library.uca_run(*arguments, *(part for it in made for part in (it, len(it))), lengths)
+    return status, lengths, made
+
+
+def run(arguments: Sequence[str], files: Mapping[str, File], lines: Bytes = b"") -> Run:
+    """Runs the command ``uca`` with these arguments, which is ``["sort", "table", "data"]`` without the program's name.
+
+    It reads files by their names: ``files`` has at most six, which are bytes, or paths. ``lines`` is its standard input. It does
+    what the program does, and touches no other file. One that it makes is :attr:`Run.made`, whatever its name is. Other threads
+    run meanwhile.
+
+    Raises MemoryError where memory runs out before the command begins. Afterwards that is a status.
+    """
+    if len(files) > 6:
+        raise ValueError("a command reads at most six files")
+    words, names, given = _list_of(["uca", *arguments], "arguments"), _list_of(list(files), "names of files"), _bytes_of(lines)
+    read = [_read(it)[0] for it in files.values()]
+    size = sum(map(len, read)) + len(given)
+    rooms = (2 * size + 65536, 65536, size + 65536)
+    status, lengths, made = _ran(words, names, read, given, rooms)
+    if lengths.out > rooms[0] or lengths.err > rooms[1] or lengths.kept > rooms[2]:
+        status, lengths, made = _ran(words, names, read, given, (lengths.out, lengths.err, lengths.kept))
+    if status == _RUN_MEMORY:
+        raise MemoryError
+    out, err, kept = (it[:length] for it, length in zip(made, (lengths.out, lengths.err, lengths.kept)))
+    return Run(status, out, err.decode(), kept if lengths.files else None)
+
+
+def _done(ended: Run, most: int) -> Run:
+    """What a command did. A status above `most` is an error, and so is one with error lines."""
+    if ended.status > most or ended.errors:
+        raise CommandError(ended.status, ended.errors.rstrip("\n"))
+    return ended
+
+
+def tailor(table: File, data: File, rules: File) -> Tailoring:
+    """A table that is tailored by rules (UTS #35 Part 5), and its certificate. It does what ``uca tailor`` does.
+
+    The files are bytes, or paths. Raises :class:`CommandError` and MemoryError.
+    """
+    ended = _done(run(["tailor", "table", "data", "rules", "certificate"], {"table": table, "data": data, "rules": rules}), 0)
+    return Tailoring(ended.output, ended.made or b"")
+
+
+def audit(table: File, data: File, rules: File, tailored: File, certificate: File) -> Verdict:
+    """Whether the audit of a tailored table accepts it. It does what ``uca audit`` does.
+
+    The files are bytes, or paths. Raises :class:`CommandError` for a file that is rejected, and MemoryError.
+    """
+    files = {"table": table, "data": data, "rules": rules, "tailored": tailored, "certificate": certificate}
+    ended = _done(run(["audit", *files], files), 1)
+    return Verdict(ended.status == 0, ended.output.decode().rstrip("\n"))
+
+
+def find_changes(old_table: File, old_data: File, new_table: File, new_data: File) -> Changes:
+    """What a new table and its data file change. It does what ``uca changes`` does, and an :class:`Upgrade` takes both files.
+
+    The new table may be that of a new edition, or the old one tailored. The files are bytes, or paths. Raises
+    :class:`CommandError` where a file is rejected, or no change between the two is accepted; MemoryError.
+    """
+    files = {"old": old_table, "old-data": old_data, "new": new_table, "new-data": new_data}
+    ended = _done(run(["changes", *files, "certificate"], files), 0)
+    return Changes(ended.output, ended.made or b"")
+
+
+def audit_changes(old_table: File, old_data: File, new_table: File, new_data: File, changes: File, certificate: File) -> Verdict:
+    """Whether the audit of changes accepts them. It does what ``uca audit-changes`` does.
+
+    The files are bytes, or paths. Raises :class:`CommandError` for a file that is rejected, and MemoryError.
+    """
+    files = {"old": old_table, "old-data": old_data, "new": new_table, "new-data": new_data, "changes": changes, "certificate": certificate}
+    ended = _done(run(["audit-changes", *files], files), 1)
+    return Verdict(ended.status == 0, ended.output.decode().rstrip("\n"))
 
 
 class Collator:
@@ -638,7 +821,7 @@ class Collator:
         first, second, found = _encoded(left), _encoded(right), _Comparison()
         status = _library.uca_compare(self._collator, first, len(first), second, len(second), found)
         if status != _OK:
-            _raise(status, self._collator, "uca_compare")
+            _raise(status, self._collator, "uca_compare", first, second)
         return Comparison(found.order, found.level)
 
     def close(self) -> None:
@@ -725,7 +908,7 @@ class Upgrade:
         encoded, found = _encoded(text), ctypes.c_uint32()
         status = _library.uca_affected(self._upgrade, encoded, len(encoded), found)
         if status != _OK:
-            _raise(status, self._upgrade, "uca_affected")
+            _raise(status, self._upgrade, "uca_affected", encoded)
         return bool(found.value)
 
     def rekey(self, key: Bytes) -> bytes:

@@ -21,6 +21,8 @@ pub const NO_KEY: u32 = 13;
 pub const FILE: u32 = 14;
 pub const NOT_MET: u32 = 15;
 pub const NO_IMAGE: u32 = 16;
+pub const RUN_ARGUMENT: u32 = 256;
+pub const RUN_MEMORY: u32 = 257;
 
 pub const LOW: u32 = 0;
 pub const HIGH: u32 = 1;
@@ -80,6 +82,15 @@ pub struct UpgradeError {
     pub number: u32,
 }
 
+#[repr(C)]
+#[derive(Default)]
+pub struct Lengths {
+    pub out: usize,
+    pub err: usize,
+    pub kept: usize,
+    pub files: usize,
+}
+
 /// A call that writes bytes: uca_key, uca_compact and uca_expand of a collator, and uca_rekey of an upgrade.
 pub type Writes<Opened> = unsafe extern "C" fn(*mut Opened, *const u8, usize, *mut u8, usize, *mut usize) -> u32;
 
@@ -125,6 +136,15 @@ extern "C" {
         room: usize,
         needed: *mut usize,
     ) -> u32;
+    pub fn uca_key_beginning(
+        collator: *mut Collator,
+        text: *const u8,
+        length: usize,
+        out: *mut u8,
+        room: usize,
+        needed: *mut usize,
+    ) -> u32;
+    pub fn uca_check_text(collator: *mut Collator, text: *const u8, length: usize, position: *mut usize) -> u32;
     pub fn uca_compact(
         collator: *mut Collator,
         key: *const u8,
@@ -217,4 +237,31 @@ extern "C" {
     ) -> u32;
     pub fn uca_upgrade_fingerprints(upgrade: *mut Upgrade, old_out: *mut u8, new_out: *mut u8) -> u32;
     pub fn uca_close_upgrade(upgrade: *mut Upgrade);
+    pub fn uca_run(
+        arguments: *const u8,
+        arguments_length: usize,
+        names: *const u8,
+        names_length: usize,
+        first: *const u8,
+        first_length: usize,
+        second: *const u8,
+        second_length: usize,
+        third: *const u8,
+        third_length: usize,
+        fourth: *const u8,
+        fourth_length: usize,
+        fifth: *const u8,
+        fifth_length: usize,
+        sixth: *const u8,
+        sixth_length: usize,
+        input: *const u8,
+        input_length: usize,
+        out: *mut u8,
+        out_room: usize,
+        err: *mut u8,
+        err_room: usize,
+        kept: *mut u8,
+        kept_room: usize,
+        lengths: *mut Lengths,
+    ) -> u32;
 }

@@ -1,7 +1,7 @@
 //! An open collator: keys, ranges of keys, and comparisons.
 use crate::calls;
 use crate::room::{self, append, with, Room};
-use crate::{Fingerprint, OpenError, Options, StoredKeyError, TextError};
+use crate::{Fingerprint, OpenError, Options, RejectedText, StoredKeyError, TextError};
 use std::cmp::Ordering;
 use std::fmt;
 use std::ops::Range;
@@ -113,6 +113,34 @@ impl Collator {
     pub fn key_into(&mut self, text: impl AsRef<[u8]>, key: &mut Vec<u8>) -> Result<(), TextError> {
         key.clear();
         self.append_key(text.as_ref(), key)
+    }
+
+    /// Writes the first bytes of the sort key of a text: as many as there is room for. The number is how many bytes the
+    /// key has. The rest of `out` stays as it was.
+    ///
+    /// # Errors
+    ///
+    /// Those of [`Collator::key`]. Then `out` stays as it was.
+    pub fn key_beginning(&mut self, text: impl AsRef<[u8]>, out: &mut [u8]) -> Result<usize, TextError> {
+        let mut needed = 0;
+        match with(calls::uca_key_beginning, &mut self.inner, text.as_ref())(out.as_mut_ptr(), out.len(), &mut needed) {
+            calls::OK => Ok(needed),
+            status => Err(TextError::of(status)),
+        }
+    }
+
+    /// Whether a text is accepted. The error says where it is rejected.
+    ///
+    /// # Errors
+    ///
+    /// Those of [`Collator::key`], with a position.
+    pub fn check_text(&mut self, text: impl AsRef<[u8]>) -> Result<(), RejectedText> {
+        let (text, mut position) = (text.as_ref(), 0);
+        // SAFETY: the text is borrowed for the call.
+        match unsafe { calls::uca_check_text(&mut self.inner, text.as_ptr(), text.len(), &mut position) } {
+            calls::OK => Ok(()),
+            status => Err(RejectedText { error: TextError::of(status), position }),
+        }
     }
 
     /// Writes the sort key of a text after what `keys` has. An error leaves `keys` as it was.

@@ -178,6 +178,29 @@ impl fmt::Display for TextError {
 
 impl Error for TextError {}
 
+/// A text that is rejected, and where.
+#[derive(Clone, Copy, Debug, PartialEq, Eq, Hash)]
+pub struct RejectedText {
+    /// Why.
+    pub error: TextError,
+    /// [`TextError::Utf8`]: the first byte, from 0 on, that is not part of UTF-8. [`TextError::LongRun`]: the index, from 0
+    /// on, of the code point of the text in Normalization Form D at which the run begins. With
+    /// [`crate::Numbers::ByValue`] it is that of what is read of the text. Otherwise 0.
+    pub position: usize,
+}
+
+impl fmt::Display for RejectedText {
+    fn fmt(&self, out: &mut fmt::Formatter<'_>) -> fmt::Result {
+        match self.error {
+            TextError::Utf8 => write!(out, "{}: byte {}", self.error, self.position),
+            TextError::LongRun => write!(out, "{}: code point {}", self.error, self.position),
+            TextError::TooLong | TextError::Memory => self.error.fmt(out),
+        }
+    }
+}
+
+impl Error for RejectedText {}
+
 /// Why bytes are not made another form of a stored key.
 #[derive(Clone, Copy, Debug, PartialEq, Eq, Hash)]
 #[non_exhaustive]

@@ -25,13 +25,18 @@
 //! **A new edition of the table makes other keys.** An [`Upgrade`] says which texts need a new key, and makes the new
 //! keys of all others from the old ones.
 //!
+//! **Tables of one's own.** [`tailor`] makes a table from rules and [`audit`] judges it, and [`find_changes`] makes the
+//! files of an upgrade. They do what the command `uca` does, over files in memory.
+//!
 //! **What is proved.** The library for C that does the work has contracts, which are proved: for every table and
 //! text, its calls do what `uca.h` says. Nothing is proved of this crate, which is a small layer over these calls.
-//! Its tests are `tests/keys.rs` and `tests/upgrades.rs`, and `tests/header.rs` in the repository.
+//! Its tests are `tests/keys.rs`, `tests/upgrades.rs` and `tests/commands.rs`, and `tests/header.rs` in the
+//! repository.
 //!
 //! **Processors and systems.** The library is made for `x86_64-unknown-linux-gnu`, and for any processor of x86-64.
 mod calls;
 mod collator;
+mod commands;
 mod errors;
 mod fingerprint;
 mod opening;
@@ -41,7 +46,8 @@ mod upgrade;
 mod upgrade_errors;
 
 pub use collator::{compare_keys, Collator, Comparison, RangeOf};
-pub use errors::{File, FileErrorKind, OpenError, StoredKeyError, TextError};
+pub use commands::{audit, audit_changes, find_changes, run, tailor, Changes, CommandError, Run, Tailoring, Verdict};
+pub use errors::{File, FileErrorKind, OpenError, RejectedText, StoredKeyError, TextError};
 pub use fingerprint::{Fingerprint, NoFingerprint};
 pub use opening::{Depth, Numbers, Options, Weighting};
 pub use upgrade::{Upgrade, UpgradeFiles, UpgradeOptions};

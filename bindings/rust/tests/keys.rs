@@ -4,8 +4,8 @@ use std::cmp::Ordering::{Equal, Greater, Less};
 use std::collections::BTreeMap;
 use std::thread;
 use uca::{
-    compare_keys, Collator, Comparison, Depth, File, FileErrorKind, Numbers, OpenError, RangeOf, StoredKeyError,
-    TextError, Weighting,
+    compare_keys, Collator, Comparison, Depth, File, FileErrorKind, Numbers, OpenError, RangeOf, RejectedText,
+    StoredKeyError, TextError, Weighting,
 };
 
 const TABLE: &[u8] = b"@version 1
@@ -171,6 +171,30 @@ fn rejected_texts() {
         assert_eq!(collator.range_start(&text, RangeOf::SameLetters), Err(error));
     }
     assert!(collator.key(format!("a{}", "\u{301}".repeat(64))).is_ok());
+}
+
+#[test]
+fn positions_of_errors() {
+    let mut collator = non_ignorable();
+    assert_eq!(collator.check_text("a"), Ok(()));
+    let rejected = |error, position| Err(RejectedText { error, position });
+    assert_eq!(collator.check_text(b"ab\xFF"), rejected(TextError::Utf8, 2));
+    assert_eq!(collator.check_text(format!("b\u{e1}{}", "\u{301}".repeat(64))), rejected(TextError::LongRun, 2));
+    assert_eq!(collator.check_text("a".repeat(1_048_577)), rejected(TextError::TooLong, 0));
+    let said = collator.check_text(b"ab\xFF").unwrap_err().to_string();
+    assert_eq!(said, "the text is not UTF-8: byte 2");
+}
+
+#[test]
+fn beginnings_of_keys() {
+    let mut out = [0xEE; 4];
+    let mut collator = non_ignorable();
+    assert_eq!(collator.key_beginning("a", &mut out[..3]), Ok(10));
+    assert_eq!(out, [0x1C, 0x47, 0, 0xEE]);
+    assert_eq!(collator.key_beginning(b"\xFF", &mut out), Err(TextError::Utf8));
+    assert_eq!(out, [0x1C, 0x47, 0, 0xEE]);
+    assert_eq!(with_book().key_beginning("ab", &mut out), Ok(3));
+    assert_eq!(out, [0x08, 0x0A, 0x02, 0xEE]);
 }
 
 #[test]

@@ -13,6 +13,7 @@ use Rattle.uca_owned.specs.declared.faults.KeyFault.TheVariants.{Text}
 use Rattle.uca_c.specs.declared.statuses.TheConstants.{OK, SMALL, MEMORY}
 use Rattle.uca_c.specs.OpenCollators.{key_by, text_of}
 use Rattle.uca_c.specs.Statuses.{IsKeyStatus}
+use Rattle.uca_c.specs.TextCalls.{IsBeginningStatus}
 use Rattle.uca_c.specs.inside.TextKeys.{IsKeyOf}
 use Rattle.uca_c.proofs.CompactTexts.{bytes_key}
 
@@ -43,3 +44,9 @@ pub key_status_by : (k : Keying) (text : List ℕ) (status : ℕ) → IsAccepted
 key_status_by k text status accepted (inl ok) = inl (accepted, inl ok)
 key_status_by k text status accepted (inr (inl small)) = inl (accepted, inr small)
 key_status_by k text status accepted (inr (inr memory)) = inr (record { fault = Text Memory; cause = (accepted.utf8, tt); same = memory })
+
+-- and where its beginning is written
+pub beginning_status_by : (k : Keying) (text : List ℕ) (status : ℕ) → IsAcceptedBy k text
+    → (status ≡ OK) ⊎ (status ≡ MEMORY) → IsBeginningStatus k text status
+beginning_status_by k text status accepted (inl ok) = inl (accepted, ok)
+beginning_status_by k text status accepted (inr memory) = inr (record { fault = Text Memory; cause = (accepted.utf8, tt); same = memory })

@@ -5,6 +5,7 @@ pub mod Opened
 pub mod RangeCalls
 pub mod Results
 pub mod Statuses
+pub mod TextCalls
 pub mod UpgradeCalls
 pub mod UpgradeErrors
 pub mod inside

@@ -21,6 +21,8 @@ mod range_work;
 mod slot;
 mod statuses;
 mod structs;
+mod text_exports;
+mod text_work;
 mod upgrade_errors;
 mod upgrade_exports;
 mod upgrade_handle;

@@ -35,7 +35,7 @@ pub(crate) fn copy_out(bytes: &[u8], out: &mut [u8], needed: &mut usize) -> u32
 }
 
 // Makes the compact key of the key of a text over the bytes that were there.
-fn compact_into(
+pub(crate) fn compact_into(
     compacter: &mut KeyCompacter,
     key: &[u8],
     made: &mut Vec<u8>,

@@ -5,9 +5,9 @@ use Rattle.std.specs.Slice.Iter.{iter_rest}
 use Rattle.std.specs.Iterator.Adapters.{zip_first, zip_second}
 use Rattle.std.proofs.lemmas.List.{at_drop_more, length_push}
 use Rattle.std.proofs.lemmas.Slice.Zip.{zip_turn, Zip-so_far, either_empty_from_Zip}
-use Rattle.uca_page.specs.MemoryFiles.{file_of}
-use Rattle.uca_page.proofs.files.find.Invariants.{texts}
-use Rattle.uca_page.proofs.files.find.Goals as goal
+use Rattle.uca_run.specs.MemoryFiles.{file_of}
+use Rattle.uca_run.proofs.files.find.Invariants.{texts}
+use Rattle.uca_run.proofs.files.find.Goals as goal
 
 -- the file of a name, where this pair is the next one
 file_of-next : (names files : List (Bor (List ℕ))) (name : List ℕ) (n m : ℕ) (given file : Bor (List ℕ))

@@ -1,7 +1,7 @@
 //! Texts that the caller gives in one run of bytes, with a NUL between two of them.
 
 ghost use Rattle.std.specs.Prelude.{◌≡◌, IfOk, map};
-ghost use Rattle.uca_page.specs.TextLists.{texts_in};
+ghost use Rattle.uca_run.specs.TextLists.{texts_in};
 
 use std::alloc::{AllocError, Global};
 

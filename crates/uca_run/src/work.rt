@@ -1,7 +1,7 @@
 //! The run of a command over files in memory.
 
 ghost use Rattle.std.specs.Prelude.{◌≡◌, ◌∷◌, [], IfOk, map};
-ghost use Rattle.uca_page.specs.Results.{RunsInMemory};
+ghost use Rattle.uca_run.specs.Results.{RunsInMemory};
 
 use crate::files::{MadeFile, MemoryFiles};
 use std::alloc::Global;

@@ -3,7 +3,7 @@
 ghost use Rattle.std.specs.Prelude.{◌≡◌, Some, None, option_copied, map};
 ghost use Rattle.std.specs.Io.{WritesAtMost};
 ghost use Rattle.std.specs.Io.KnownBytes.{WriteAppends};
-ghost use Rattle.uca_page.specs.MemoryFiles.{file_of, given_files, memory_calls};
+ghost use Rattle.uca_run.specs.MemoryFiles.{file_of, given_files, memory_calls};
 
 use std::alloc::Global;
 use std::io::{self, Write};
@@ -59,7 +59,7 @@ pub struct MemoryFiles<'a> {
 
 impl<'a> Model for MemoryFiles<'a> {
     ghost use Rattle.std.specs.Prelude.{map};
-    ghost use Rattle.uca_page.specs.MemoryFiles.{MemoryState};
+    ghost use Rattle.uca_run.specs.MemoryFiles.{MemoryState};
 
     ghost Value = { MemoryState };
 

@@ -2,9 +2,9 @@ use Rattle.std.proofs.Common.{◌≡◌, [], ℕ, Bool, false, List, Option, Som
 use Rattle.std.specs.Borrow.{Bor}
 use Rattle.uca_weights.specs.Streams.{SourceState, SinkState}
 use Rattle.uca_cli.specs.Command.{DoesCommand, streams}
-use Rattle.uca_page.specs.MemoryFiles.{MemoryState, given_files, memory_files}
-use Rattle.uca_page.specs.Results.{unread, unwritten}
-use Rattle.uca_page.proofs.work.run.Goals as goal
+use Rattle.uca_run.specs.MemoryFiles.{MemoryState, given_files, memory_files}
+use Rattle.uca_run.specs.Results.{unread, unwritten}
+use Rattle.uca_run.proofs.work.run.Goals as goal
 
 -- a source, by its parts
 source-by_parts : (source : SourceState) (remaining : Option (List ℕ)) (failed : Bool) → source.remaining ≡ remaining → source.failed ≡ failed

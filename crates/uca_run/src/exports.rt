@@ -1,9 +1,9 @@
-//! The call that a page makes. Its clauses hold for every argument.
+//! The call that C and a page make. Its clauses hold for every argument.
 
 ghost use Rattle.std.specs.Prelude.{◌≡◌, ◌≢◌, ◌↔◌, ◌⊎◌, ◌∷◌, [], IfOk, map};
 ghost use Rattle.std.specs.Str.{IsUtf8};
-ghost use Rattle.uca_page.specs.TextLists.{texts_in};
-ghost use Rattle.uca_page.specs.Results.{RunsInMemory, Tells, TellsNothing, TellsRun, kept_bytes, kept_count, rooms};
+ghost use Rattle.uca_run.specs.TextLists.{texts_in};
+ghost use Rattle.uca_run.specs.Results.{RunsInMemory, Tells, TellsNothing, TellsRun, kept_bytes, kept_count, rooms};
 
 use crate::files::MadeFile;
 use crate::given::texts_of;

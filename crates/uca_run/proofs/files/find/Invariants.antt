@@ -1,7 +1,7 @@
 use Rattle.std.proofs.Common.{◌≡◌, ℕ, List, length, drop, map}
 use Rattle.std.specs.Borrow.{Bor}
-use Rattle.uca_page.specs.MemoryFiles.{file_of}
-use Rattle.uca_page.proofs.files.find.Given as goal
+use Rattle.uca_run.specs.MemoryFiles.{file_of}
+use Rattle.uca_run.proofs.files.find.Given as goal
 
 -- the bytes that each reference of a list points to
 abbrev pub texts : List (Bor (List ℕ)) → List (List ℕ)

@@ -2,9 +2,9 @@
 use Rattle.std.specs.Prelude.{◌≡◌, ◌++◌, [], ℕ, false, List, length, take, drop, Option, Some, None}
 use Rattle.uca_weights.specs.Streams.{SourceState, SinkState}
 use Rattle.uca_cli.specs.Command.{DoesCommand, streams}
-use Rattle.uca_page.specs.TextLists.{texts_in}
-use Rattle.uca_page.specs.MemoryFiles.{MemoryState, given_files, memory_files}
-use Rattle.uca_page.specs.declared.lengths.Lengths.{Lengths}
+use Rattle.uca_run.specs.TextLists.{texts_in}
+use Rattle.uca_run.specs.MemoryFiles.{MemoryState, given_files, memory_files}
+use Rattle.uca_run.specs.declared.lengths.Lengths.{Lengths}
 
 -- input that is these bytes, before it is read
 abbrev pub unread : List ℕ → SourceState

@@ -1,7 +1,7 @@
 use Rattle.std.proofs.Common.{[], ◌++◌, ℕ, List, length, refl, sym, ap, arith}
 use Rattle.std.proofs.lemmas.List.{take_all}
-use Rattle.uca_page.specs.Results.{Tells}
-use Rattle.uca_page.proofs.exports.copy_kept.Goals as goal
+use Rattle.uca_run.specs.Results.{Tells}
+use Rattle.uca_run.proofs.exports.copy_kept.Goals as goal
 
 -- no bytes are told by 0, and write nothing
 nothing-told : (room : List ℕ) → Tells [] room room 0

@@ -1,0 +1,136 @@
+//! Keys of texts of many lengths and of many code points, and collators that share a table. A body that says that memory
+//! ran out, where none did, meets its contract. So lengths around powers of two and of ten are here, and random ones.
+
+use std::alloc::Global;
+use std::cmp::Ordering;
+use std::test::Fail;
+use test_kit::{holds, repeated};
+use uca_owned::OwnedCollator;
+use uca_weights::{Asked, Depth, Weighting};
+
+const TABLE: &str = "@version 1\n\
+    0061 ; [.1C47.0020.0002]\n\
+    0062 ; [.1C60.0020.0002]\n";
+
+const DATA: &str = "@data 1\n";
+
+const MOST_LETTERS: usize = 140_000;
+
+/// Powers of two and of ten, and round numbers.
+const AROUND: [usize; 24] = [
+    1, 2, 4, 8, 10, 16, 32, 64, 100, 128, 256, 512, 1_000, 1_024, 2_048, 4_096, 8_192, 10_000,
+    16_384, 32_768, 65_536, 70_000, 100_000, 131_072,
+];
+
+/// How many random lengths there are, below 8,192.
+const RANDOM_LENGTHS: usize = 300;
+
+/// How many pages of 256 code points a text has. A collator keeps something of each.
+const PAGES: [u32; 7] = [1, 2, 255, 256, 257, 400, 504];
+
+fn opened(alloc: Global) -> Result<OwnedCollator, Fail> {
+    let asked = Asked::as_text(Some(Weighting::NonIgnorable), Depth::Weights);
+    Ok(OwnedCollator::open(alloc, TABLE.as_bytes(), DATA.as_bytes(), asked)?)
+}
+
+/// Each of so many parts of a text has some bytes of the key, and there are four bytes between the levels.
+fn check_length(
+    collator: &mut OwnedCollator,
+    text: &[u8],
+    count: usize,
+    bytes: usize,
+) -> Result<(), Fail> {
+    collator.make_key(text)?;
+    let wanted = count.saturating_mul(bytes).saturating_add(4);
+    holds(collator.key().len() == wanted, "the length of a key")
+}
+
+/// A letter has two bytes at each of three levels.
+fn check_letters(collator: &mut OwnedCollator, letters: &str, count: usize) -> Result<(), Fail> {
+    let text = letters.as_bytes().get(..count).ok_or("too few letters")?;
+    check_length(collator, text, count, 6)
+}
+
+#[test]
+fn lengths_around_powers(rt: HostRuntime) -> Result<(), Fail> {
+    let alloc = rt.alloc();
+    let letters = repeated(alloc, "a", MOST_LETTERS)?;
+    let mut collator = opened(alloc)?;
+    for power in AROUND {
+        check_letters(&mut collator, &letters, power.saturating_sub(1))?;
+        check_letters(&mut collator, &letters, power)?;
+        check_letters(&mut collator, &letters, power.saturating_add(1))?;
+    }
+    Ok(())
+}
+
+#[test]
+fn random_lengths(rt: HostRuntime) -> Result<(), Fail> {
+    let alloc = rt.alloc();
+    let letters = repeated(alloc, "b", MOST_LETTERS)?;
+    let mut collator = opened(alloc)?;
+    let mut random: u32 = 1;
+    for _ in 0..RANDOM_LENGTHS {
+        random = random.wrapping_mul(1_664_525).wrapping_add(1_013_904_223);
+        check_letters(&mut collator, &letters, (random >> 19) as usize)?;
+    }
+    Ok(())
+}
+
+/// The first code point of a page of planes 2 and 3. It is a starter, and has no decomposition and no row.
+fn first_of_page(page: u32) -> Result<char, Fail> {
+    let start: u32 = if page < 248 { 0x2_0000 } else { 0x2_0800 };
+    let code = page.saturating_mul(256).saturating_add(start);
+    Ok(char::from_u32(code).ok_or("no code point")?)
+}
+
+/// Two elements of a code point without a row have four bytes at level 1, and two each at levels 2 and 3.
+#[test]
+fn texts_of_many_pages(rt: HostRuntime) -> Result<(), Fail> {
+    let alloc = rt.alloc();
+    for pages in PAGES {
+        let mut text = String::new(alloc);
+        for page in 0..pages {
+            text.push(first_of_page(page)?)?;
+        }
+        check_length(&mut opened(alloc)?, text.as_bytes(), pages as usize, 8)?;
+    }
+    Ok(())
+}
+
+/// Each of two collators keeps the key that it made last.
+fn check_both(first: &mut OwnedCollator, other: &mut OwnedCollator) -> Result<(), Fail> {
+    holds(other.key().is_empty(), "no key was made yet")?;
+    first.make_key(b"a")?;
+    other.make_key(b"b")?;
+    let wanted = b"\x1C\x47\0\0\0\x20\0\0\0\x02".as_slice();
+    holds(first.key() == wanted, "the key of the first one")?;
+    let wanted = b"\x1C\x60\0\0\0\x20\0\0\0\x02".as_slice();
+    holds(other.key() == wanted, "the key of the other one")
+}
+
+fn compares_letters(collator: &mut OwnedCollator) -> Result<(), Fail> {
+    let found = collator.compare(b"a", b"b")?;
+    holds(found == (Ordering::Less, 1), "a comparison")
+}
+
+/// A collator that shares the table of one that is not there any more.
+fn shared(alloc: Global) -> Result<OwnedCollator, Fail> {
+    let first = opened(alloc)?;
+    Ok(first.share(alloc)?)
+}
+
+fn check_other(first: &mut OwnedCollator, alloc: Global) -> Result<(), Fail> {
+    let mut other = first.share(alloc)?;
+    check_both(first, &mut other)
+}
+
+#[test]
+fn collators_that_share_a_table(rt: HostRuntime) -> Result<(), Fail> {
+    check_other(&mut opened(rt.alloc())?, rt.alloc())
+}
+
+#[test]
+fn a_collator_that_is_left(rt: HostRuntime) -> Result<(), Fail> {
+    compares_letters(&mut shared(rt.alloc())?)
+}

@@ -1,0 +1,6 @@
+//! Tests of an owned collator: keys of texts of many lengths and of many pages of code points, and one more collator
+//! that shares the table of another.
+#![tactic(auto)]
+
+#[cfg(test)]
+mod collators;
