@@ -51,30 +51,33 @@ fn check_letters(collator: &mut OwnedCollator, letters: &str, count: usize) -> R
     check_length(collator, text, count, 6)
 }
 
-#[test]
-fn lengths_around_powers(rt: HostRuntime) -> Result<(), Fail> {
-    let alloc = rt.alloc();
-    let letters = repeated(alloc, "a", MOST_LETTERS)?;
-    let mut collator = opened(alloc)?;
+fn check_around(collator: &mut OwnedCollator, letters: &str) -> Result<(), Fail> {
     for power in AROUND {
-        check_letters(&mut collator, &letters, power.saturating_sub(1))?;
-        check_letters(&mut collator, &letters, power)?;
-        check_letters(&mut collator, &letters, power.saturating_add(1))?;
+        check_letters(collator, letters, power.saturating_sub(1))?;
+        check_letters(collator, letters, power)?;
+        check_letters(collator, letters, power.saturating_add(1))?;
     }
     Ok(())
 }
 
-#[test]
-fn random_lengths(rt: HostRuntime) -> Result<(), Fail> {
-    let alloc = rt.alloc();
-    let letters = repeated(alloc, "b", MOST_LETTERS)?;
-    let mut collator = opened(alloc)?;
+fn check_random(collator: &mut OwnedCollator, letters: &str) -> Result<(), Fail> {
     let mut random: u32 = 1;
     for _ in 0..RANDOM_LENGTHS {
         random = random.wrapping_mul(1_664_525).wrapping_add(1_013_904_223);
-        check_letters(&mut collator, &letters, (random >> 19) as usize)?;
+        check_letters(collator, letters, (random >> 19) as usize)?;
     }
     Ok(())
+}
+
+fn check_lengths(collator: &mut OwnedCollator, letters: &str) -> Result<(), Fail> {
+    check_around(collator, letters)?;
+    check_random(collator, letters)
+}
+
+#[test]
+fn keys_of_many_lengths(rt: HostRuntime) -> Result<(), Fail> {
+    let letters = repeated(rt.alloc(), "a", MOST_LETTERS)?;
+    check_lengths(&mut opened(rt.alloc())?, &letters)
 }
 
 /// The first code point of a page of planes 2 and 3. It is a starter, and has no decomposition and no row.
@@ -84,16 +87,24 @@ fn first_of_page(page: u32) -> Result<char, Fail> {
     Ok(char::from_u32(code).ok_or("no code point")?)
 }
 
+fn text_of_pages(alloc: Global, pages: u32) -> Result<String, Fail> {
+    let mut text = String::new(alloc);
+    for page in 0..pages {
+        text.push(first_of_page(page)?)?;
+    }
+    Ok(text)
+}
+
 /// Two elements of a code point without a row have four bytes at level 1, and two each at levels 2 and 3.
+fn check_pages(alloc: Global, pages: u32) -> Result<(), Fail> {
+    let text = text_of_pages(alloc, pages)?;
+    check_length(&mut opened(alloc)?, text.as_bytes(), pages as usize, 8)
+}
+
 #[test]
 fn texts_of_many_pages(rt: HostRuntime) -> Result<(), Fail> {
-    let alloc = rt.alloc();
     for pages in PAGES {
-        let mut text = String::new(alloc);
-        for page in 0..pages {
-            text.push(first_of_page(page)?)?;
-        }
-        check_length(&mut opened(alloc)?, text.as_bytes(), pages as usize, 8)?;
+        check_pages(rt.alloc(), pages)?;
     }
     Ok(())
 }
@@ -106,18 +117,9 @@ fn check_both(first: &mut OwnedCollator, other: &mut OwnedCollator) -> Result<()
     let wanted = b"\x1C\x47\0\0\0\x20\0\0\0\x02".as_slice();
     holds(first.key() == wanted, "the key of the first one")?;
     let wanted = b"\x1C\x60\0\0\0\x20\0\0\0\x02".as_slice();
-    holds(other.key() == wanted, "the key of the other one")
-}
-
-fn compares_letters(collator: &mut OwnedCollator) -> Result<(), Fail> {
-    let found = collator.compare(b"a", b"b")?;
+    holds(other.key() == wanted, "the key of the other one")?;
+    let found = other.compare(b"a", b"b")?;
     holds(found == (Ordering::Less, 1), "a comparison")
-}
-
-/// A collator that shares the table of one that is not there any more.
-fn shared(alloc: Global) -> Result<OwnedCollator, Fail> {
-    let first = opened(alloc)?;
-    Ok(first.share(alloc)?)
 }
 
 fn check_other(first: &mut OwnedCollator, alloc: Global) -> Result<(), Fail> {
@@ -128,9 +130,4 @@ fn check_other(first: &mut OwnedCollator, alloc: Global) -> Result<(), Fail> {
 #[test]
 fn collators_that_share_a_table(rt: HostRuntime) -> Result<(), Fail> {
     check_other(&mut opened(rt.alloc())?, rt.alloc())
-}
-
-#[test]
-fn a_collator_that_is_left(rt: HostRuntime) -> Result<(), Fail> {
-    compares_letters(&mut shared(rt.alloc())?)
 }
