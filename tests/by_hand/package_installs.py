@@ -3,7 +3,7 @@
 
     tests/by_hand/package_installs.py [--uca PATH] [--root FOLDER] [PART ..]
 
-First prove and build the program and the library: `tools/build.py uca uca_c`. The parts are
+First prove and build the program and the library: `tools/build.py uca uca_c uca_run`. The parts are
 
 - `release`: packaging/release.py makes the same bytes twice: here, and in a copy of the repository at another place, with other times, another umask and another user's
   settings. All versions are one. Debian's lintian finds nothing but what LINTIAN_KNOWN says.

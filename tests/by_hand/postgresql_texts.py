@@ -3,7 +3,7 @@
 
     tests/by_hand/postgresql_texts.py [--uca PATH] [NAME ..]        crates/uca/out/uca, unless another program is named; all checks, unless some are named
 
-First prove and build the program and the static library: `tools/build.py uca uca_c`. Then this script makes bindings/c/out and the extension. It installs that to a
+First prove and build the program and the static library: `tools/build.py uca uca_c uca_run`. Then this script makes bindings/c/out and the extension. It installs that to a
 copy of the server's programs in a temporary folder. Each server has a folder of its own, listens on a Unix socket there, and is stopped afterwards. The checks are
 
 - statements: order, NULL, the empty text, rejected texts, UNIQUE, joins, casts, aggregates, prefix search, and which plans PostgreSQL takes for them;
