@@ -1164,6 +1164,29 @@ static void check_changes(void)
           && wrote(&it, "refused 7 RowExtra new row 3\n", "", NULL));
 }
 
+/* Whether a command with room for so many bytes of its output says that it is too small, and how many there are. */
+static bool is_small(size_t out_room, size_t kept_room)
+{
+    written it = unwritten();
+    uca_room out = {it.out, out_room}, kept = {it.kept, kept_room};
+    uint32_t status = uca_tailor(file_of(LETTERS), file_of(ACCENT), file_of(RULES), out, kept, ERR_OF(it), &it.lengths);
+    bool is_told = it.lengths.out == strlen(TAILORED) && it.lengths.kept == strlen(PLAN);
+    return status == UCA_RUN_SMALL && is_told && it.out[out_room] == 0xEE && it.kept[kept_room] == 0xEE;
+}
+
+static void check_small_rooms(void)
+{
+    size_t out = strlen(TAILORED), kept = strlen(PLAN);
+    uca_bytes table = file_of(LETTERS), data = file_of(ACCENT);
+    written it = unwritten();
+    CHECK(is_small(0, kept) && is_small(out - 1, kept) && is_small(out, kept - 1) && is_small(out, 0) && !is_small(out, kept));
+    CHECK(uca_audit(table, data, file_of(RULES), file_of(TAILORED), file_of(PLAN), (uca_room){it.out, 8}, ERR_OF(it), &it.lengths) == UCA_RUN_SMALL
+          && it.lengths.out == 9);
+    CHECK(uca_find_changes(table, data, file_of(TAILORED), data, (uca_room){it.out, 8}, KEPT_OF(it), ERR_OF(it), &it.lengths) == UCA_RUN_SMALL);
+    CHECK(uca_audit_changes(table, data, table, data, file_of("@changes 1\n"), file_of(PLAN), (uca_room){it.out, 8}, ERR_OF(it), &it.lengths)
+          == UCA_RUN_SMALL);
+}
+
 /* A tailoring is an upgrade too: its target is affected, and no other text. */
 static void check_tailoring_upgrade(void)
 {
@@ -1184,6 +1207,51 @@ static void check_tailoring_upgrade(void)
     uca_close_upgrade(&upgrade);
     uca_close(&before);
     uca_close(&after);
+}
+
+static void *tailor_in_thread(void *holds)
+{
+    check_tailoring();
+    check_changes();
+    return holds;
+}
+
+static void *upgrade_in_thread(void *holds)
+{
+    uca_upgrade it = UCA_CLOSED_UPGRADE;
+    uca_upgrade_error error;
+    CHECK(opened_upgrade(&it, &SIX, UCA_NON_IGNORABLE, UCA_WEIGHTS, &error) == UCA_OK);
+    uca_close_upgrade(&it);
+    return holds;
+}
+
+static void *key_in_thread(void *collator)
+{
+    CHECK(IS_KEY(collator, "a", "\x1C\x47\0\0\0\x20\0\0\0\x02"));
+    CHECK(COMPARES(collator, "a\xCC\x81", "b", -1, 1) && is_range(collator, BYTES("a"), UCA_SAME_LETTERS, "\x1C\x47", 2, "\x1C\x47\0\x01", 4));
+    return collator;
+}
+
+/* Whether the work is done on a stack of so many bytes. The thread itself and the checks take some of it. */
+static bool has_room(size_t stack, void *work(void *), void *given)
+{
+    pthread_attr_t attributes;
+    pthread_t thread;
+    void *found = NULL;
+    bool is_set = pthread_attr_init(&attributes) == 0 && pthread_attr_setstacksize(&attributes, stack + 49152) == 0;
+    bool is_done = is_set && pthread_create(&thread, &attributes, work, given) == 0 && pthread_join(thread, &found) == 0;
+    pthread_attr_destroy(&attributes);
+    return is_done && found == given;
+}
+
+/* The room that uca.h says. */
+static void check_stacks(void)
+{
+    uca_collator it = UCA_CLOSED_COLLATOR;
+    uca_error error;
+    CHECK(opened(&it, TABLE, DATA, UCA_NON_IGNORABLE, UCA_WEIGHTS, &error) == UCA_OK);
+    CHECK(has_room(640 << 10, tailor_in_thread, &it) && has_room(320 << 10, upgrade_in_thread, &it) && has_room(16 << 10, key_in_thread, &it));
+    uca_close(&it);
 }
 
 #define NONE BYTES("")
@@ -1260,7 +1328,9 @@ int main(void)
     check_upgrades();
     check_tailoring();
     check_changes();
+    check_small_rooms();
     check_tailoring_upgrade();
+    check_stacks();
     check_runs();
     check_texts();
     printf("%d passed, %d failed\n", passed, failed);

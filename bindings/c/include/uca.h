@@ -14,6 +14,7 @@
      collator of its own: uca_share opens one of another, in little time and memory. uca_abi, uca_version, uca_collator_size,
      uca_upgrade_size, uca_compare_keys, uca_fingerprint, uca_compact_fingerprint and uca_run may be called from any thread at
      any time.
+   - The stack has room: 640 KB for uca_run, 320 KB for the calls that open, and 16 KB for all others.
    - malloc, realloc and free are one allocator, whose blocks are aligned to 16 bytes. No call is made in a signal handler, or in
      the forked child of a process with threads.
 
@@ -411,21 +412,24 @@ typedef struct uca_lengths {
 /* What a call of uca_run returns where no command ran. */
 typedef enum uca_run_status {
     UCA_RUN_ARGUMENT = 256, /* the arguments or the names are not UTF-8 */
-    UCA_RUN_MEMORY = 257    /* out of memory before the command began */
+    UCA_RUN_MEMORY = 257,   /* out of memory before the command began */
+    UCA_RUN_SMALL = 258     /* of the functions below: what is written has more bytes than there is room for */
 } uca_run_status;
 
 /* Runs the command `uca` over files in memory, and returns its status, which is 0 to 4 (docs/MESSAGES.md). It does what the
    program does with these arguments: all commands, with their output, their error lines and the file that they make. uca_tailor,
-   uca_audit, uca_find_changes and uca_audit_changes below are calls of it.
+   uca_audit, uca_find_changes and uca_audit_changes below are calls of it. uca_status_text is not for these statuses.
 
-   `arguments` are UTF-8, with a 0 between two of them. The first one is the name of the program, as in `uca\0check\0t\0d`.
-   `names` are those of the files, in the same form: the first name is that of `first`, and so on. A file that has no name
-   cannot be read, so give the others no bytes. `input` is what the command reads from its standard input. A file that it makes,
-   such as a certificate, may have any name.
+   `arguments` are UTF-8, with a 0 between two of them, and none at the end. The first one is the name of the program, as in
+   `uca\0check\0t\0d`. `names` are those of the files, in the same form: the first name is that of `first`, and so on. No bytes
+   are one empty name. Give a file without a name no bytes: it cannot be read. `input` is what the command reads from its
+   standard input. A file that it makes, such as a certificate, may have any name but that of a file that it reads.
+
+   It takes up to 640 KB of the stack, so give a thread that calls it one megabyte.
 
    The first bytes of the output are at the beginning of `out`, as many as there is room for, and so it is with the error lines
-   and `err`, and with the file and `kept`. The rest of each is as before. The lengths are those of all bytes: where one is more
-   than its room, call it again with that much room.
+   and `err`, and with the file and `kept`. The rest of each is as before. The lengths are those of all bytes. So compare each
+   with its room, also where the status is 0. Where one is more, call it again with that much room.
 
    UCA_RUN_ARGUMENT, UCA_RUN_MEMORY: no command ran. Nothing is written, and the lengths are 0. */
 uint32_t uca_run(const uint8_t *arguments, size_t arguments_length, const uint8_t *names, size_t names_length, const uint8_t *first,
@@ -435,8 +439,10 @@ uint32_t uca_run(const uint8_t *arguments, size_t arguments_length, const uint8_
                  size_t err_room, uint8_t *kept, size_t kept_room, uca_lengths *lengths);
 
 /* ---- Tables, certificates and their audits. These are calls of uca_run with the arguments of one command. They are in this header,
-   so nothing is proved of them. Each returns the status of uca_run: 0 where the command did its work, and 1 where an audit rejects.
-   The bytes at `err` are error lines as `uca` prints them, such as `rules: byte 12: Utf8`. The lengths are those of uca_run. */
+   so nothing is proved of them. Each returns 0 where the command did its work. It returns UCA_RUN_SMALL where the output or the
+   file has more bytes than its room: call it again, with the room that the lengths say. Else it returns the status of uca_run.
+   Then the bytes at `err` are error lines as `uca` prints them, such as `rules byte 12: Utf8`, as many as there is room for. An
+   audit that rejects returns 1 with a verdict, and without error lines. The lengths are those of uca_run. */
 
 /* Bytes of a file. */
 typedef struct uca_bytes {
@@ -450,6 +456,12 @@ typedef struct uca_room {
     size_t room;
 } uca_room;
 
+/* The status of a command: UCA_RUN_SMALL where it wrote more than there is room for. */
+static inline uint32_t uca_fitted(uint32_t status, const uca_lengths *lengths, size_t out_room, size_t kept_room)
+{
+    return lengths->out > out_room || lengths->kept > kept_room ? (uint32_t)UCA_RUN_SMALL : status;
+}
+
 #define UCA_BYTES_OF(text) (const uint8_t *)(text), sizeof(text) - 1
 #define UCA_FILE_OF(file) (file).bytes, (file).length
 #define UCA_ROOM_OF(to) (to).bytes, (to).room
@@ -459,21 +471,23 @@ static inline uint32_t uca_tailor(uca_bytes table, uca_bytes data, uca_bytes rul
                                   uca_room err, uca_lengths *lengths)
 {
     static const uint8_t none[1] = {0};
-    return uca_run(UCA_BYTES_OF("uca\0tailor\0table\0data\0rules\0certificate"), UCA_BYTES_OF("table\0data\0rules"),
-                   UCA_FILE_OF(table), UCA_FILE_OF(data), UCA_FILE_OF(rules), none, 0, none, 0, none, 0, none, 0,
-                   UCA_ROOM_OF(tailored), UCA_ROOM_OF(err), UCA_ROOM_OF(certificate), lengths);
+    uint32_t status = uca_run(UCA_BYTES_OF("uca\0tailor\0table\0data\0rules\0certificate"), UCA_BYTES_OF("table\0data\0rules"),
+                              UCA_FILE_OF(table), UCA_FILE_OF(data), UCA_FILE_OF(rules), none, 0, none, 0, none, 0, none, 0,
+                              UCA_ROOM_OF(tailored), UCA_ROOM_OF(err), UCA_ROOM_OF(certificate), lengths);
+    return uca_fitted(status, lengths, tailored.room, certificate.room);
 }
 
 /* Audits a tailored table. The verdict goes to `verdict`: a line that begins with `accepted`, or with `refused` and the condition
    that is not met. */
-static inline uint32_t uca_audit(uca_bytes table, uca_bytes data, uca_bytes rules, uca_bytes tailored, uca_bytes certificate,
+static inline uint32_t uca_audit(uca_bytes base, uca_bytes data, uca_bytes rules, uca_bytes tailored, uca_bytes certificate,
                                  uca_room verdict, uca_room err, uca_lengths *lengths)
 {
     static uint8_t none[1] = {0};
-    return uca_run(UCA_BYTES_OF("uca\0audit\0table\0data\0rules\0tailored\0certificate"),
-                   UCA_BYTES_OF("table\0data\0rules\0tailored\0certificate"), UCA_FILE_OF(table), UCA_FILE_OF(data),
-                   UCA_FILE_OF(rules), UCA_FILE_OF(tailored), UCA_FILE_OF(certificate), none, 0, none, 0, UCA_ROOM_OF(verdict),
-                   UCA_ROOM_OF(err), none, 0, lengths);
+    uint32_t status = uca_run(UCA_BYTES_OF("uca\0audit\0base\0data\0rules\0tailored\0certificate"),
+                              UCA_BYTES_OF("base\0data\0rules\0tailored\0certificate"), UCA_FILE_OF(base), UCA_FILE_OF(data),
+                              UCA_FILE_OF(rules), UCA_FILE_OF(tailored), UCA_FILE_OF(certificate), none, 0, none, 0,
+                              UCA_ROOM_OF(verdict), UCA_ROOM_OF(err), none, 0, lengths);
+    return uca_fitted(status, lengths, verdict.room, 0);
 }
 
 /* Finds what a new table and its data file change: the file of changes goes to `changes`, and the certificate to `certificate`.
@@ -482,10 +496,11 @@ static inline uint32_t uca_find_changes(uca_bytes old_table, uca_bytes old_data,
                                         uca_room changes, uca_room certificate, uca_room err, uca_lengths *lengths)
 {
     static const uint8_t none[1] = {0};
-    return uca_run(UCA_BYTES_OF("uca\0changes\0old\0old-data\0new\0new-data\0certificate"),
-                   UCA_BYTES_OF("old\0old-data\0new\0new-data"), UCA_FILE_OF(old_table), UCA_FILE_OF(old_data),
-                   UCA_FILE_OF(new_table), UCA_FILE_OF(new_data), none, 0, none, 0, none, 0, UCA_ROOM_OF(changes), UCA_ROOM_OF(err),
-                   UCA_ROOM_OF(certificate), lengths);
+    uint32_t status = uca_run(UCA_BYTES_OF("uca\0changes\0old\0old-data\0new\0new-data\0certificate"),
+                              UCA_BYTES_OF("old\0old-data\0new\0new-data"), UCA_FILE_OF(old_table), UCA_FILE_OF(old_data),
+                              UCA_FILE_OF(new_table), UCA_FILE_OF(new_data), none, 0, none, 0, none, 0, UCA_ROOM_OF(changes),
+                              UCA_ROOM_OF(err), UCA_ROOM_OF(certificate), lengths);
+    return uca_fitted(status, lengths, changes.room, certificate.room);
 }
 
 /* Audits a file of changes and its certificate. The verdict goes to `verdict`, as that of uca_audit does. */
@@ -493,10 +508,11 @@ static inline uint32_t uca_audit_changes(uca_bytes old_table, uca_bytes old_data
                                          uca_bytes changes, uca_bytes certificate, uca_room verdict, uca_room err, uca_lengths *lengths)
 {
     static uint8_t none[1] = {0};
-    return uca_run(UCA_BYTES_OF("uca\0audit-changes\0old\0old-data\0new\0new-data\0changes\0certificate"),
-                   UCA_BYTES_OF("old\0old-data\0new\0new-data\0changes\0certificate"), UCA_FILE_OF(old_table),
-                   UCA_FILE_OF(old_data), UCA_FILE_OF(new_table), UCA_FILE_OF(new_data), UCA_FILE_OF(changes),
-                   UCA_FILE_OF(certificate), none, 0, UCA_ROOM_OF(verdict), UCA_ROOM_OF(err), none, 0, lengths);
+    uint32_t status = uca_run(UCA_BYTES_OF("uca\0audit-changes\0old\0old-data\0new\0new-data\0changes\0certificate"),
+                              UCA_BYTES_OF("old\0old-data\0new\0new-data\0changes\0certificate"), UCA_FILE_OF(old_table),
+                              UCA_FILE_OF(old_data), UCA_FILE_OF(new_table), UCA_FILE_OF(new_data), UCA_FILE_OF(changes),
+                              UCA_FILE_OF(certificate), none, 0, UCA_ROOM_OF(verdict), UCA_ROOM_OF(err), none, 0, lengths);
+    return uca_fitted(status, lengths, verdict.room, 0);
 }
 
 /* ---- Texts of numbers. They are in this header, so nothing is proved of them. A number of another kind is "unknown". */

@@ -748,6 +748,11 @@ class Commands(unittest.TestCase):
     def test_audit(self):
         self.assertEqual(uca.audit(LETTERS, b"@data 1\n", RULES, TAILORED, PLAN), (True, "accepted"))
         self.assertEqual(uca.audit(LETTERS, b"@data 1\n", b"& b < c", TAILORED, PLAN), (False, "refused 9 NotPlaced relation 1"))
+        self.assertTrue(uca.audit(LETTERS, b"@data 1\n", RULES, TAILORED, PLAN))
+        self.assertFalse(uca.audit(LETTERS, b"@data 1\n", b"& b < c", TAILORED, PLAN))
+        with self.assertRaises(uca.CommandError) as caught:
+            uca.audit(b"?\n", b"@data 1\n", RULES, TAILORED, PLAN)
+        self.assertEqual(str(caught.exception), "base line 1: Order")
         with self.assertRaises(uca.CommandError) as caught:
             uca.audit(LETTERS, b"?\n", RULES, TAILORED, PLAN)
         self.assertEqual((caught.exception.status, str(caught.exception)), (1, "data line 1: Order"))
@@ -790,6 +795,7 @@ class Commands(unittest.TestCase):
             self.assertRaises(kind, uca.run, arguments, given)
         self.assertRaises(ValueError, uca.run, ["x"], {str(it): b"" for it in range(7)})
         self.assertRaises(TypeError, uca.run, ["x"], {}, "text")
+        self.assertRaises(TypeError, uca.run, "check", {})
 
     def test_threads(self):
         def sort(_):

@@ -146,8 +146,9 @@ class TextError(UcaError, ValueError):
     def __init__(self, kind: str, position: Optional[int] = None, side: str = "") -> None:
         #: why: "Utf8", "TooLong" or "LongRun"
         self.kind = kind
-        #: where, from 0 on. "Utf8": the first byte that is not UTF-8. "LongRun": the code point, in Normalization Form D of what is
-        #: read of the text, at which the run begins. Else, and where an Upgrade rejects it, None
+        #: where, from 0 on. "Utf8": the first byte that is not UTF-8; of a str, it is a byte of its UTF-8. "LongRun": the code
+        #: point, in Normalization Form D of what is read of the text, at which the run begins. Else, and where an Upgrade
+        #: rejects it, None
         self.position = position
         #: "left" or "right" if two texts were compared, else ""
         self.side = side
@@ -231,12 +232,15 @@ class Changes(NamedTuple):
 
 
 class Verdict(NamedTuple):
-    """What an audit says."""
+    """What an audit says. It is true exactly if the audit accepts."""
 
     #: whether it accepts
     accepted: bool
     #: "accepted", or "refused" and the first condition that is not met: "refused 9 NotPlaced relation 1"
     text: str
+
+    def __bool__(self) -> bool:
+        return self.accepted
 
 
 class Comparison(NamedTuple):
@@ -608,23 +612,30 @@ def run(arguments: Sequence[str], files: Mapping[str, File], lines: Bytes = b"")
     """Runs the command ``uca`` with these arguments, which is ``["sort", "table", "data"]`` without the program's name.
 
     It reads files by their names: ``files`` has at most six, which are bytes, or paths. ``lines`` is its standard input. It does
-    what the program does, and touches no other file. One that it makes is :attr:`Run.made`, whatever its name is. Other threads
-    run meanwhile.
+    what the program does, and touches no other file. One that it makes is :attr:`Run.made`, and may have any name but that of a
+    file that it reads. Other threads run meanwhile. It takes up to 640 KB of the stack. Where the output has more bytes than a
+    first guess, the command runs once more.
 
     Raises MemoryError where memory runs out before the command begins. Afterwards that is a status.
     """
-    if len(files) > 6:
+    if isinstance(arguments, str):
+        raise TypeError("arguments are a list of texts, and not one text")
+    named = list(files.items())
+    if len(named) > 6:
         raise ValueError("a command reads at most six files")
-    words, names, given = _list_of(["uca", *arguments], "arguments"), _list_of(list(files), "names of files"), _bytes_of(lines)
-    read = [_read(it)[0] for it in files.values()]
+    words, names, given = _list_of(["uca", *arguments], "arguments"), _list_of([name for name, _ in named], "names of files"), _bytes_of(lines)
+    read = [_read(it)[0] for _, it in named]
     size = sum(map(len, read)) + len(given)
     rooms = (2 * size + 65536, 65536, size + 65536)
-    status, lengths, made = _ran(words, names, read, given, rooms)
-    if lengths.out > rooms[0] or lengths.err > rooms[1] or lengths.kept > rooms[2]:
-        status, lengths, made = _ran(words, names, read, given, (lengths.out, lengths.err, lengths.kept))
+    while True:
+        status, lengths, made = _ran(words, names, read, given, rooms)
+        wanted = (lengths.out, lengths.err, lengths.kept)
+        if all(it <= room for it, room in zip(wanted, rooms)):
+            break
+        rooms = tuple(map(max, wanted, rooms))
     if status == _RUN_MEMORY:
         raise MemoryError
-    out, err, kept = (it[:length] for it, length in zip(made, (lengths.out, lengths.err, lengths.kept)))
+    out, err, kept = (it[:length] for it, length in zip(made, wanted))
     return Run(status, out, err.decode(), kept if lengths.files else None)
 
 
@@ -644,12 +655,12 @@ def tailor(table: File, data: File, rules: File) -> Tailoring:
     return Tailoring(ended.output, ended.made or b"")
 
 
-def audit(table: File, data: File, rules: File, tailored: File, certificate: File) -> Verdict:
+def audit(base: File, data: File, rules: File, tailored: File, certificate: File) -> Verdict:
     """Whether the audit of a tailored table accepts it. It does what ``uca audit`` does.
 
     The files are bytes, or paths. Raises :class:`CommandError` for a file that is rejected, and MemoryError.
     """
-    files = {"table": table, "data": data, "rules": rules, "tailored": tailored, "certificate": certificate}
+    files = {"base": base, "data": data, "rules": rules, "tailored": tailored, "certificate": certificate}
     ended = _done(run(["audit", *files], files), 1)
     return Verdict(ended.status == 0, ended.output.decode().rstrip("\n"))
 

@@ -59,7 +59,7 @@ pub enum CommandError {
     },
     /// No command ran: there are more than six files, or a name or an argument has a NUL.
     Argument,
-    /// No command ran: memory ran out.
+    /// Memory ran out before the command began, or there is none for what it wrote.
     Memory,
 }
 
@@ -104,6 +104,12 @@ impl Rooms {
 
     fn have_room_for(&self, lengths: &calls::Lengths) -> bool {
         lengths.out <= self.out.len() && lengths.err <= self.err.len() && lengths.kept <= self.kept.len()
+    }
+
+    /// Room for all of it, and for no less than before.
+    fn with_more(self, lengths: &calls::Lengths) -> Result<Self, CommandError> {
+        let (out, err, kept) = (self.out.len(), self.err.len(), self.kept.len());
+        Self::of(out.max(lengths.out), err.max(lengths.err), kept.max(lengths.kept))
     }
 
     /// What was written.
@@ -162,7 +168,9 @@ impl Given<'_> {
 }
 
 /// Runs the command `uca` with these arguments, which do not have the program's name. It reads files by their names,
-/// and `lines` is its standard input. It does what the program does, and touches no other file.
+/// and `lines` is its standard input. It does what the program does, and touches no other file. One that it makes may
+/// have any name but that of a file that it reads. It takes up to 640 KB of the stack. Where the output has more bytes
+/// than a first guess, the command runs once more.
 ///
 /// ```
 /// let table = b"@version 1\n0061 ; [.1C47.0020.0002]\n0062 ; [.1C60.0020.0002]\n";
@@ -173,7 +181,7 @@ impl Given<'_> {
 ///
 /// # Errors
 ///
-/// [`CommandError::Argument`] and [`CommandError::Memory`]: no command ran. Each error of a command is a status.
+/// [`CommandError::Argument`] and [`CommandError::Memory`]. Each error of a command is a status.
 pub fn run(arguments: &[&str], files: &[(&str, &[u8])], lines: &[u8]) -> Result<Run, CommandError> {
     if files.len() > MOST_FILES {
         return Err(CommandError::Argument);
@@ -191,8 +199,8 @@ pub fn run(arguments: &[&str], files: &[(&str, &[u8])], lines: &[u8]) -> Result<
     let size = contents.iter().map(|it| it.len()).sum::<usize>() + lines.len();
     let (mut rooms, mut lengths) = (Rooms::of(2 * size + 65536, 65536, size + 65536)?, calls::Lengths::default());
     let mut status = given.run(&mut rooms, &mut lengths);
-    if !rooms.have_room_for(&lengths) {
-        rooms = Rooms::of(lengths.out, lengths.err, lengths.kept)?;
+    while !rooms.have_room_for(&lengths) {
+        rooms = rooms.with_more(&lengths)?;
         status = given.run(&mut rooms, &mut lengths);
     }
     match status {
@@ -239,14 +247,14 @@ pub fn tailor(table: &[u8], data: &[u8], rules: &[u8]) -> Result<Tailoring, Comm
 ///
 /// [`CommandError::Ended`]: a file is rejected. [`CommandError::Memory`].
 pub fn audit(
-    table: &[u8],
+    base: &[u8],
     data: &[u8],
     rules: &[u8],
     tailored: &[u8],
     certificate: &[u8],
 ) -> Result<Verdict, CommandError> {
-    let names = ["audit", "table", "data", "rules", "tailored", "certificate"];
-    let files: Vec<_> = names[1..].iter().copied().zip([table, data, rules, tailored, certificate]).collect();
+    let names = ["audit", "base", "data", "rules", "tailored", "certificate"];
+    let files: Vec<_> = names[1..].iter().copied().zip([base, data, rules, tailored, certificate]).collect();
     verdict(&names, &files)
 }
 

@@ -24,6 +24,7 @@ fn tailoring() {
     assert_eq!(audit(TABLE, DATA, RULES, TAILORED, CERTIFICATE), Ok(accepted));
     let refused = Verdict { accepted: false, text: "refused 9 NotPlaced relation 1".into() };
     assert_eq!(audit(TABLE, DATA, b"& b < c", TAILORED, CERTIFICATE), Ok(refused));
+    assert_eq!(ended(audit(b"?\n", DATA, RULES, TAILORED, CERTIFICATE)), (1, "base line 1: Order".into()));
     assert_eq!(ended(audit(TABLE, b"?\n", RULES, TAILORED, CERTIFICATE)), (1, "data line 1: Order".into()));
 }
 
