@@ -1,5 +1,5 @@
 //! Tests of numbers by value: what is written of texts, which texts have digits, and keys and comparisons of texts with
-//! numbers. Beginnings of texts, too, which are ordered as their code points come.
+//! numbers. Beginnings of texts, too: they are ordered by what comes after a shared beginning.
 #![tactic(auto)]
 
 #[cfg(test)]
