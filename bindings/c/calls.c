@@ -1225,6 +1225,13 @@ static void *upgrade_in_thread(void *holds)
     return holds;
 }
 
+static void *open_in_thread(void *holds)
+{
+    check_open_compact();
+    CHECK(is_fingerprint(SET_TABLE, UCA_BY_TABLE, UCA_WEIGHTS, SET_SUM));
+    return holds;
+}
+
 static void *key_in_thread(void *collator)
 {
     CHECK(IS_KEY(collator, "a", "\x1C\x47\0\0\0\x20\0\0\0\x02"));
@@ -1250,7 +1257,8 @@ static void check_stacks(void)
     uca_collator it = UCA_CLOSED_COLLATOR;
     uca_error error;
     CHECK(opened(&it, TABLE, DATA, UCA_NON_IGNORABLE, UCA_WEIGHTS, &error) == UCA_OK);
-    CHECK(has_room(640 << 10, tailor_in_thread, &it) && has_room(320 << 10, upgrade_in_thread, &it) && has_room(16 << 10, key_in_thread, &it));
+    CHECK(has_room(640 << 10, tailor_in_thread, &it) && has_room(320 << 10, upgrade_in_thread, &it));
+    CHECK(has_room(64 << 10, open_in_thread, &it) && has_room(16 << 10, key_in_thread, &it));
     uca_close(&it);
 }
 

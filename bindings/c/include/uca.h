@@ -14,7 +14,8 @@
      collator of its own: uca_share opens one of another, in little time and memory. uca_abi, uca_version, uca_collator_size,
      uca_upgrade_size, uca_compare_keys, uca_fingerprint, uca_compact_fingerprint and uca_run may be called from any thread at
      any time.
-   - The stack has room: 640 KB for uca_run, 320 KB for the calls that open, and 16 KB for all others.
+   - The stack has room: 640 KB for uca_run, 320 KB for uca_open_upgrade, 64 KB for uca_open, uca_open_compact and
+     uca_fingerprint, and 16 KB for all other calls.
    - malloc, realloc and free are one allocator, whose blocks are aligned to 16 bytes. No call is made in a signal handler, or in
      the forked child of a process with threads.
 
