@@ -85,16 +85,15 @@ one_written f key before out new at count more w lead none so_far within is some
     }
 
 -- one that is no lead, after no lead
-pub known_written : (f : Form) (key out new : List ℕ) (at count next more w number : ℕ) (lead : Bool) → lead ≡ false → f.common ≡ 0
+pub known_written : (f : Form) (key out new : List ℕ) (at count next more w : ℕ) (lead : Bool) → lead ≡ false → f.common ≡ 0
     → IsWrittenTo f key [] out at count lead → at + 1 < length key → w ≡ weight_of key at → 0 < w → w < 0xFB00
-    → number ≡ first_cell f → new ≡ out ++ cell number 1 f.greater 65536 w → next ≡ at + 2 → more ≡ count + 1 → IsWrittenTo f key [] new next more lead
-known_written f key out new at count next more w number lead after_none none so_far within is some low first written after one =
+    → new ≡ out ++ cell (first_cell f) 1 f.greater 65536 w → next ≡ at + 2 → more ≡ count + 1 → IsWrittenTo f key [] new next more lead
+known_written f key out new at count next more w lead after_none none so_far within is some low written after one =
     let test : nat_lt w 0xFB00 ≡ true = grind (arith, nat_tests) in
     let same : (not lead && is_lead w) ≡ lead = ap (λ (t : Bool). not t && is_lead w) after_none ∙ ap (λ (t : Bool). not t && nat_lt w 0xFC00) test ∙ sym after_none in
     subst₂ (λ (n : ℕ) (t : Bool). IsWrittenTo f key [] new n more t) (sym after) same
     (one_written f key [] out new at count more w lead none so_far within is (λ zero_is. omega (arith, zero_is, some)) (omega (arith, low))
-    (written ∙ ap (λ (n : ℕ). out ++ cell n 1 f.greater 65536 w) first)
-    (one ∙ ap (λ (t : Bool). count + (if t then 0 else 1)) (sym after_none)))
+    written (one ∙ ap (λ (t : Bool). count + (if t then 0 else 1)) (sym after_none)))
 
 -- 00 00 ends the level
 ended_level : (a b : ℕ) (bytes : List ℕ) (w : ℕ) → w ≡ 256 * a + b → w ≡ 0 → stored_level (a ∷ b ∷ bytes) ≡ Some (record { weights = []; rest = Some bytes })

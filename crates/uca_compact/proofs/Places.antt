@@ -1,10 +1,10 @@
 -- The place of a weight among cells.
-use Rattle.std.proofs.Common.{◌≡◌, ℕ, zero, suc, ◌+◌, ◌-◌, ◌<◌, ◌≤◌, List, [], ◌∷◌, ◌++◌, Bool, true, false, cond, nat_lt, length, take, set, ap, sym, ◌∙◌, arith}
-use Rattle.std.proofs.lemmas.List.{take_more_set}
+use Rattle.std.proofs.Common.{◌≡◌, ℕ, zero, suc, ◌+◌, ◌-◌, ◌<◌, ◌≤◌, List, [], ◌∷◌, ◌++◌, Bool, true, false, cond, nat_lt, length, get_or, drop, take, set, ap, sym, ◌∙◌, ◌/◌, ◌%◌, arith}
+use Rattle.std.proofs.lemmas.List.{take_more, take_more_set, drop_at, length-take-le}
 use Rattle.std.proofs.lemmas.Bool.Decides.{nat_tests}
-use Rattle.uca_compact.specs.Forms.{AreRising}
+use Rattle.uca_compact.specs.Forms.{AreRising, Form, first_cell}
 use Rattle.uca_compact.specs.CompactKeys.{offset_bytes, cell}
-use Rattle.uca_compact.specs.inside.Places.{start_at, end_at, IsPlace, IsAlone}
+use Rattle.uca_compact.specs.inside.Places.{start_at, end_at, IsPlace, IsTrueEntry, AreTrueEntries}
 
 -- no cell starts before the first
 first_least : (start : ℕ) (later : List ℕ) (end i : ℕ) → AreRising start later end → i ≤ length later → start ≤ start_at start later i
@@ -45,28 +45,30 @@ place_written number start later end w i first last rising place starts ends =
     ∙ ap (λ (n : ℕ). (number + i) ∷ offset_bytes (n - start_at start later i) (w - start_at start later i)) ends
     ∙ sym (cell_is number start later end w i rising place)
 
--- what a weight is written as that is alone in its cell
-pub alone_written : (number : ℕ) (later : List ℕ) (w i : ℕ) → AreRising 1 later 65536 → IsAlone later w i → (number + i) ∷ [] ≡ cell number 1 later 65536 w
-alone_written number later w i rising alone =
-    let from = alone.from in
-    let under = alone.under in
-    let one : w + 1 - w ≡ 1 = omega arith in
-    ap (λ (n : ℕ). (number + i) ∷ offset_bytes n (w - w)) (sym one)
-    ∙ place_written number 1 later 65536 w i w (w + 1) rising
-    (record { within = alone.within; from = omega (arith, from); under = omega (arith, under) }) (sym from) (sym under)
+-- ---- A weight that is written as one byte
 
--- it is not 0
-pub alone_some : (later : List ℕ) (w i : ℕ) → AreRising 1 later 65536 → IsAlone later w i → 0 < w
-alone_some later w i rising alone =
-    let least = first_least 1 later 65536 i rising alone.within in
-    let from = alone.from in
-    omega (arith, least, from)
+-- what an entry says is true
+pub true_entry : (f : Form) (entries : List ℕ) (i : ℕ) → AreTrueEntries f entries → i < length entries → get_or entries i 0 < 16777216
+    → IsTrueEntry f (get_or entries i 0)
+unfolding AreTrueEntries
+true_entry f [] i all within low = absurd (omega (arith, within))
+true_entry f (entry ∷ entries) zero all within low = all.0 low
+true_entry f (entry ∷ entries) (suc i) all within low = true_entry f entries i all.1 (omega (arith, within)) low
 
--- it is put after others
-pub alone_put : (codes : List ℕ) (size known number : ℕ) (later : List ℕ) (w i : ℕ) → size + known < length codes → AreRising 1 later 65536 → IsAlone later w i
-    → take (size + (known + 1)) (set codes (size + known) (number + i)) ≡ take (size + known) codes ++ cell number 1 later 65536 w
-alone_put codes size known number later w i within rising alone =
+-- its byte is put after others
+pub entry_put : (f : Form) (codes : List ℕ) (size known w entry : ℕ) → size + known < length codes → IsTrueEntry f entry → entry / 256 ≡ w
+    → take (size + (known + 1)) (set codes (size + known) (entry % 256)) ≡ take (size + known) codes ++ cell (first_cell f) 1 f.greater 65536 w
+entry_put f codes size known w entry within here is =
     let next : size + (known + 1) ≡ size + known + 1 = omega arith in
-    ap (λ (n : ℕ). take n (set codes (size + known) (number + i))) next
-    ∙ take_more_set codes (size + known) (number + i) within
-    ∙ ap (λ (xs : List ℕ). take (size + known) codes ++ xs) (alone_written number later w i rising alone)
+    ap (λ (n : ℕ). take n (set codes (size + known) (entry % 256))) next
+    ∙ take_more_set codes (size + known) (entry % 256) within
+    ∙ ap (λ (xs : List ℕ). take (size + known) codes ++ xs) (sym here.code)
+    ∙ ap (λ (n : ℕ). take (size + known) codes ++ cell (first_cell f) 1 f.greater 65536 n) is
+
+-- if one byte was put, it is what was to be put
+pub one_put : (front new put : List ℕ) (at : ℕ) → at < length new → length front ≡ at → take (at + 1) new ≡ front ++ put → put ≡ get_or new at 0 ∷ []
+one_put front new put at within long whole =
+    sym (drop_at front put at long)
+    ∙ ap (drop at) (sym whole)
+    ∙ ap (drop at) (take_more new at 0 within)
+    ∙ drop_at (take at new) (get_or new at 0 ∷ []) at (length-take-le at new (omega (arith, within)))

@@ -7,7 +7,9 @@ ghost use Rattle.std.specs.List.{AllByRecursion};
 ghost use Rattle.uca_weights.specs.declared.Weighting.TheVariants.{NonIgnorable, Shifted};
 ghost use Rattle.uca_order.specs.Depths.{ReadText, key_at};
 ghost use Rattle.uca_compact.specs.CompactKeys.{compact_key, text_parts};
+ghost use Rattle.uca_compact.specs.Forms.{letters_form};
 ghost use Rattle.uca_compact.specs.StoredParts.{stored_parts, IsCompactOf, IsOfNoKey};
+ghost use Rattle.uca_compact.specs.inside.Places.{AreTrueEntries};
 
 use crate::book_forms::letters_form;
 use crate::buffers::Levels;
@@ -23,7 +25,7 @@ use uca_books::Book;
 use uca_weights::{Depth, Settings, Weighting};
 
 /// Makes compact keys of stored keys, and stored keys of these again. It needs no text and no table. With its first
-/// compact key it takes 4,096 bytes for the cells of weights that it found. It keeps room for level 1 of the longest
+/// compact key it takes 12,288 bytes for the cells of weights that it found. It keeps room for level 1 of the longest
 /// key: up to one and a half times its bytes.
 #[derive(Drop)]
 pub struct KeyCompacter<A: Allocator = Global> {
@@ -34,11 +36,17 @@ pub struct KeyCompacter<A: Allocator = Global> {
 }
 
 impl<A: Allocator> Model for KeyCompacter<A> {
+    ghost use Rattle.std.specs.Prelude.{◌-◌};
+    ghost use Rattle.uca_order.specs.Levels.{level_count};
+    ghost use Rattle.uca_compact.specs.Forms.{letters_form};
     ghost use Rattle.uca_compact.specs.Programs.{CompacterState};
+    ghost use Rattle.uca_compact.specs.inside.Places.{AreTrueEntries};
 
     ghost Value = { CompacterState };
 
     ghost view = { λ c. record { book = c.book; settings = c.settings } };
+
+    ghost invariant = { λ c. AreTrueEntries (letters_form c.book (level_count c.settings.weighting - 1)) c.letters.entries.items };
 }
 
 impl<A: Allocator + Copy> KeyCompacter<A> {
@@ -140,8 +148,10 @@ fn write_three<A: Allocator, B: Allocator>(
     letters: &mut LetterBuffers<A>,
     compact: &mut Vec<u8, B>,
 ) -> Result<bool, AllocError>
-    requires { compact.old.items ≡ [] }
-    ensures { IfOk result (λ found. option_map (compact_key depth NonIgnorable book.now) (stored_parts depth NonIgnorable key.now)
+    requires empty { compact.old.items ≡ [] }
+    requires entries { AreTrueEntries (letters_form book.now 2) letters.old.entries.items }
+    ensures entries { AreTrueEntries (letters_form book.now 2) letters.new.entries.items }
+    ensures key { IfOk result (λ found. option_map (compact_key depth NonIgnorable book.now) (stored_parts depth NonIgnorable key.now)
         ≡ (if found then Some compact.new.items else None)) }
 {
     let form = letters_form(book, 2);
@@ -167,8 +177,10 @@ fn write_four<A: Allocator, B: Allocator>(
     letters: &mut LetterBuffers<A>,
     compact: &mut Vec<u8, B>,
 ) -> Result<bool, AllocError>
-    requires { compact.old.items ≡ [] }
-    ensures { IfOk result (λ found. option_map (compact_key depth Shifted book.now) (stored_parts depth Shifted key.now)
+    requires empty { compact.old.items ≡ [] }
+    requires entries { AreTrueEntries (letters_form book.now 3) letters.old.entries.items }
+    ensures entries { AreTrueEntries (letters_form book.now 3) letters.new.entries.items }
+    ensures key { IfOk result (λ found. option_map (compact_key depth Shifted book.now) (stored_parts depth Shifted key.now)
         ≡ (if found then Some compact.new.items else None)) }
 {
     let form = letters_form(book, 3);

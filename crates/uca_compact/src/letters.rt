@@ -1,17 +1,17 @@
 //! Writes level 1 of a compact key while it is read from a stored key.
 
-ghost use Rattle.std.specs.Prelude.{◌≡◌, ℕ, ◌+◌, ◌-◌, ◌*◌, ◌/◌, ◌<◌, ◌≤◌, [], ◌∷◌, ◌++◌, None, false, length, take, IfNone, IfOk, IfSome};
+ghost use Rattle.std.specs.Prelude.{◌≡◌, ℕ, ◌+◌, ◌-◌, ◌*◌, ◌/◌, ◌<◌, ◌≤◌, [], ◌∷◌, ◌++◌, None, length, take, IfNone, IfOk, IfSome};
 ghost use Rattle.std.specs.Bool.{OnTrue};
 ghost use Rattle.uca_compact.specs.Forms as forms;
-ghost use Rattle.uca_compact.specs.Forms.{AreRising, IsForm};
+ghost use Rattle.uca_compact.specs.Forms.{AreRising, Form, IsForm};
 ghost use Rattle.uca_compact.specs.CompactKeys.{cell, offset_bytes};
 ghost use Rattle.uca_compact.specs.Programs.{form_of};
 ghost use Rattle.uca_compact.specs.StoredParts.{stored_level};
-ghost use Rattle.uca_compact.specs.inside.Places.{IsAlone, IsPlace};
+ghost use Rattle.uca_compact.specs.inside.Places.{IsPlace, AreTrueEntries};
 ghost use Rattle.uca_compact.specs.inside.StoredEnds.{next_of};
 ghost use Rattle.uca_compact.specs.inside.LevelsRead.{IsFirstLevel, IsWrittenTo};
 
-use crate::letter_buffers::{HINTS, LetterBuffers};
+use crate::letter_buffers::{ENTRIES, LetterBuffers};
 use crate::levels::{LevelForm, cell_end, cell_index, cell_start};
 use crate::plain::{leads, with_letter};
 use crate::stored::weight_at;
@@ -93,25 +93,27 @@ fn put_in_cell(
     put_offset(codes, at, number + index as u8, width, weight - first)
 }
 
-// Whether a weight is alone in the cell with this index, and this is neither the first cell nor the last.
-#[inline(always)]
-fn is_alone(starts: &[u16], weight: u32, index: usize) -> bool
-    requires { weight < 65536 }
-    ensures { OnTrue result (IsAlone starts.now weight index) }
+// Keeps that a weight is written as this byte, unless it is a lead or greater.
+#[tactic(auto, unfolding(crate::specs::inside::Places::AreTrueEntries))]
+fn keep(entries: &mut [u32], weight: u32, code: u8)
+    requires some { 0 < weight }
+    requires two_bytes { weight < 65536 }
+    requires entries { length entries.old ≡ 2048 }
+    ensures { (f : Form) → AreTrueEntries f entries.old → cell (forms.first_cell f) 1 f.greater 65536 weight ≡ code ∷ [] → AreTrueEntries f entries.new }
 {
-    0 < index
-        && index < starts.len()
-        && cell_start(1, starts, index) == weight
-        && cell_end(starts, 0x1_0000, index) == weight + 1
+    if weight < 0xFB00 {
+        entries[weight as usize % ENTRIES] = 256 * weight + u32::from(code);
+    }
 }
 
-// Puts a weight in its cell, which is found and whose index is kept.
+// Puts a weight in its cell, which is found. What was found is kept.
 #[inline(never)]
 fn put_found(
     codes: &mut [u8],
     at: usize,
     number: u8,
     starts: &[u16],
+    entries: &mut [u32],
     hints: &mut [u8],
     weight: u16,
 ) -> usize
@@ -119,49 +121,49 @@ fn put_found(
     requires bytes { number + length starts.now < 256 }
     requires weight { 0 < weight }
     requires room { at + 3 ≤ length codes.old }
+    requires entries { length entries.old ≡ 2048 }
     requires hints { length hints.old ≡ 4096 }
     ensures put { take result codes.new ≡ take at codes.old ++ cell number 1 starts.now 65536 weight }
     ensures few { result ≤ at + 3 }
+    ensures true_entries { (f : Form) → forms.first_cell f ≡ number → f.greater ≡ starts.now → AreTrueEntries f entries.old → AreTrueEntries f entries.new }
 {
     let letter = u32::from(weight);
-    let place = usize::from(weight) % HINTS;
+    let place = usize::from(weight) / 16;
     let index = cell_index(1, starts, 0x1_0000, letter, usize::from(hints[place]));
     hints[place] = index as u8;
-    put_in_cell(codes, at, number, starts, letter, index)
+    let next = put_in_cell(codes, at, number, starts, letter, index);
+    if next == at + 1 {
+        keep(entries, letter, codes[at]);
+    }
+    next
 }
 
-// Puts weights from a position of the key on, a byte each, as long as each is alone in the cell in which it was found
-// before. It returns how many these are. None of them is a lead, and after a lead there are none.
+// Puts weights from a position of the key on, a byte each, as long as there are entries of them. It returns how many
+// these are. None of them is a lead, and after a lead there are none.
 #[inline(always)]
 fn put_known(
     codes: &mut [u8],
     size: usize,
-    number: u8,
-    form: &LevelForm,
-    hints: &[u8],
+    entries: &[u32],
     key: &[u8],
     at: usize,
     after_lead: bool,
 ) -> usize
-    requires form { IsForm (form_of form.now) }
-    requires no_common { form.now.common ≡ 0 }
-    requires number { number ≡ forms.first_cell (form_of form.now) }
-    requires hints { length hints.now ≡ 4096 }
+    requires entries { length entries.now ≡ 2048 }
     requires within { at ≤ length key.now }
     requires room { size + (length key.now - at) / 2 ≤ length codes.old }
-    ensures put { (count : ℕ) → IsWrittenTo (form_of form.now) key.now [] (take size codes.old) at count after_lead
-        → IsWrittenTo (form_of form.now) key.now [] (take (size + result) codes.new) (at + 2 * result) (count + result) after_lead }
+    ensures put { (f : Form) (count : ℕ) → f.common ≡ 0 → AreTrueEntries f entries.now → IsWrittenTo f key.now [] (take size codes.old) at count after_lead
+        → IsWrittenTo f key.now [] (take (size + result) codes.new) (at + 2 * result) (count + result) after_lead }
     ensures few { result ≤ (length key.now - at) / 2 }
 {
-    let starts = form.greater;
     let mut known = 0;
     while !after_lead && at + 2 * known + 1 < key.len() {
         let weight = weight_at(key, at + 2 * known);
-        let index = usize::from(hints[weight as usize % HINTS]);
-        if weight >= 0xFB00 || !is_alone(starts, weight, index) {
+        let entry = entries[weight as usize % ENTRIES];
+        if entry / 256 != weight {
             return known;
         }
-        codes[size + known] = number + index as u8;
+        codes[size + known] = (entry % 256) as u8;
         known += 1;
     }
     known
@@ -171,13 +173,17 @@ fn put_known(
 fn put_letters<'a>(
     codes: &mut [u8],
     form: &LevelForm,
+    entries: &mut [u32],
     hints: &mut [u8],
     key: &'a [u8],
 ) -> Option<WrittenLetters<'a>>
     requires form { IsForm (form_of form.now) }
     requires no_common { form.now.common ≡ 0 }
     requires room { 3 * (length key.now / 2) ≤ length codes.old }
+    requires entries { length entries.old ≡ 2048 }
+    requires true_entries { AreTrueEntries (form_of form.now) entries.old }
     requires hints { length hints.old ≡ 4096 }
+    ensures true_entries { AreTrueEntries (form_of form.now) entries.new }
     ensures level { IfSome result (λ written. IsFirstLevel (form_of form.now) key.now [] (take written.size codes.new) written.letters) }
     ensures size { IfSome result (λ written. written.size ≤ length codes.new) }
     ensures none { IfNone result (next_of (stored_level key.now) ≡ None) }
@@ -188,7 +194,7 @@ fn put_letters<'a>(
     let mut after_lead = false;
     let mut at = 0;
     while at + 1 < key.len() {
-        let known = put_known(codes, size, number, form, hints, key, at, after_lead);
+        let known = put_known(codes, size, entries, key, at, after_lead);
         size += known;
         count += known;
         at += 2 * known;
@@ -204,7 +210,7 @@ fn put_letters<'a>(
             };
             return Some(WrittenLetters { letters, size });
         }
-        size = put_found(codes, size, number, form.greater, hints, weight);
+        size = put_found(codes, size, number, form.greater, entries, hints, weight);
         count = with_letter(count, after_lead);
         after_lead = leads(after_lead, weight);
         at += 2;
@@ -222,12 +228,16 @@ pub(crate) fn push_letters<'a, A: Allocator, B: Allocator>(
 ) -> Result<Option<Letters<'a>>, AllocError>
     requires form { IsForm (form_of form.now) }
     requires no_common { form.now.common ≡ 0 }
+    requires entries { AreTrueEntries (form_of form.now) buffers.old.entries.items }
+    ensures entries { AreTrueEntries (form_of form.now) buffers.new.entries.items }
     ensures level { IfOk result (λ letters. IfSome letters (IsFirstLevel (form_of form.now) key.now out.old.items out.new.items)) }
     ensures none { IfOk result (λ letters. IfNone letters (next_of (stored_level key.now) ≡ None)) }
 {
     buffers.open(key.len() / 2)?;
     let codes = buffers.codes.as_mut_slice();
-    let Some(written) = put_letters(codes, form, buffers.hints.as_mut_slice(), key) else {
+    let entries = buffers.entries.as_mut_slice();
+    let hints = buffers.hints.as_mut_slice();
+    let Some(written) = put_letters(codes, form, entries, hints, key) else {
         return Ok(None);
     };
     out.extend_from_slice(&buffers.codes.as_slice()[..written.size])?;

@@ -1,3 +1,4 @@
 pub mod InMemory
 mod OrderLemmas
 mod Rejected
+mod SharedBytes

@@ -1,8 +1,10 @@
 //! Comparing texts that are given as bytes.
 
-ghost use Rattle.std.specs.Prelude.{◌≡◌, chars, IfOk, IfErr, IfSome, OnOk};
+ghost use Rattle.std.specs.Prelude.{◌≡◌, ◌≤◌, chars, length, take, IfOk, IfErr, IfSome, MatchOption, OnOk};
+ghost use Rattle.std.specs.Str.{IsUtf8};
 ghost use Rattle.uca_values.specs.Content.{properties_of};
 ghost use Rattle.uca_text.specs.Limits.{IsAccepted};
+ghost use Rattle.uca_text.specs.Faults.{IsCause};
 ghost use Rattle.uca_order.specs.Depths.{written_text, texts_compared};
 ghost use Rattle.uca_order.specs.Keyings.{Keying, keying_by, bytes_compared};
 ghost use Rattle.uca_plain.specs.PointCache.{AreTrueEntries};
@@ -13,7 +15,8 @@ ghost use Rattle.uca_owned.specs.Causes.{IsAcceptedText, IsAcceptedBy, IsKeyCaus
 use crate::faults::{CompareFault, KeyFault};
 use std::cmp::Ordering;
 use uca_match::OwnedCollation;
-use uca_text_comparer::{PairFault, TextComparison};
+use uca_text::TextFault;
+use uca_text_comparer::{PairFault, TextComparison, shared_len};
 use uca_weights::Settings;
 
 /// A text of so many bytes is accepted: what is read of it has at most 64 code points in Normalization Form D.
@@ -60,20 +63,35 @@ pub(crate) fn compare_bytes(
     let Ok(left_text) = str::from_utf8(left) else {
         return Err(CompareFault::Left(KeyFault::Utf8));
     };
-    let Ok(right_text) = str::from_utf8(right) else {
-        return match judge(collation, comparison, settings, left) {
+    let shared = shared_len(left, right);
+    let Some(right_text) = read_after(left_text, shared, right) else {
+        return match judge_text(collation, comparison, settings, left_text) {
             Ok(()) => Err(CompareFault::Right(KeyFault::Utf8)),
-            Err(fault) => Err(CompareFault::Left(fault)),
+            Err(fault) => Err(CompareFault::Left(KeyFault::Text(fault))),
         };
     };
-    match compare_texts(collation, comparison, settings, left_text, right_text) {
+    match compare_texts(collation, comparison, settings, left_text, right_text, shared) {
         Ok(pair) => Ok(pair),
         Err(PairFault::Left(fault)) => Err(CompareFault::Left(KeyFault::Text(fault))),
         Err(PairFault::Right(fault)) => Err(CompareFault::Right(KeyFault::Text(fault))),
     }
 }
 
-/// Judges the text of these bytes: it is compared with itself.
+// The text of these bytes, if they are UTF-8. So many of the first ones are those of a text too, and are not read again.
+#[inline(always)]
+fn read_after<'t>(text: &str, shared: usize, bytes: &'t [u8]) -> Option<&'t str>
+    requires same { take shared text.now ≡ take shared bytes.now }
+    requires within { shared ≤ length bytes.now }
+    ensures { MatchOption result (¬ (IsUtf8 bytes.now)) (λ read. (read.now ≡ bytes.now) × IsUtf8 bytes.now) }
+{
+    let cut = text.floor_char_boundary(shared);
+    match str::from_utf8(&bytes[cut..]) {
+        Ok(_) => Some(unsafe { str::from_utf8_unchecked(bytes) }),
+        Err(_) => None,
+    }
+}
+
+/// Judges the text of these bytes.
 ///
 /// # Errors
 ///
@@ -93,22 +111,45 @@ pub(crate) fn judge(
     let Ok(text) = str::from_utf8(bytes) else {
         return Err(KeyFault::Utf8);
     };
-    match compare_texts(collation, comparison, settings, text, text) {
-        Ok(_) => Ok(()),
-        Err(PairFault::Left(fault)) => Err(KeyFault::Text(fault)),
-        Err(PairFault::Right(fault)) => Err(KeyFault::Text(fault)),
+    match judge_text(collation, comparison, settings, text) {
+        Ok(()) => Ok(()),
+        Err(fault) => Err(KeyFault::Text(fault)),
     }
 }
 
-// How two texts compare that are UTF-8.
+// Judges a text: it is compared with itself.
+fn judge_text(
+    collation: &OwnedCollation,
+    comparison: &mut TextComparison,
+    settings: Settings,
+    text: &str,
+) -> Result<(), TextFault>
+    requires { AreTrueEntries (owned_collation collation.now) comparison.old.plain.points.entries.items }
+    ensures known { AreTrueEntries (owned_collation collation.now) comparison.new.plain.points.entries.items }
+    ensures accepted { let properties = properties_of collation.now.properties in
+        OnOk result (IsAccepted (written_text settings.numbers properties (chars text.now))) }
+    ensures fault { let properties = properties_of collation.now.properties in
+        IfErr result (IsCause (written_text settings.numbers properties (chars text.now))) }
+{
+    let collator = collation.collator();
+    match comparison.compare(&collator, settings, text, text) {
+        Ok(_) => Ok(()),
+        Err(PairFault::Left(fault)) => Err(fault),
+        Err(PairFault::Right(fault)) => Err(fault),
+    }
+}
+
+// How two texts compare that are UTF-8, and whose first bytes are the same, so many of them.
 fn compare_texts(
     collation: &OwnedCollation,
     comparison: &mut TextComparison,
     settings: Settings,
     left: &str,
     right: &str,
+    shared: usize,
 ) -> Result<(Ordering, u8), PairFault>
-    requires { AreTrueEntries (owned_collation collation.now) comparison.old.plain.points.entries.items }
+    requires same { take shared left.now ≡ take shared right.now }
+    requires entries { AreTrueEntries (owned_collation collation.now) comparison.old.plain.points.entries.items }
     ensures known { AreTrueEntries (owned_collation collation.now) comparison.new.plain.points.entries.items }
     ensures compared { IfOk result (λ pair.
         let answer = texts_compared (owned_collation collation.now) settings (chars left.now) (chars right.now) in
@@ -120,7 +161,7 @@ fn compare_texts(
         (written_text settings.numbers properties (chars left.now))
         (written_text settings.numbers properties (chars right.now))) }
 {
-    if let Some(order) = comparison.order_beginnings(settings, left, right) {
+    if let Some(order) = comparison.order_after(settings, left, right, shared) {
         return Ok((order, 1));
     }
     let collator = collation.collator();

@@ -1,6 +1,8 @@
 -- Two texts that differ at level 1 right after what they have in common at their begin.
-use Rattle.std.proofs.Common.{◌≡◌, ℕ, Option, Some, None, List, [], ◌∷◌, ◌++◌, length, false, refl, sym, ap, subst, ◌∙◌, append-nil, append_assoc, arith}
-use Rattle.std.specs.Prelude.{IfSome}
+use Rattle.std.proofs.Common.{◌≡◌, ℕ, Option, Some, None, List, [], ◌∷◌, ◌++◌, length, take, drop, take-append-drop, take-take, false, refl, sym, ap, subst, ◌∙◌, append-nil, arith}
+use Rattle.std.specs.Prelude.{◌≤◌, IfSome}
+use Rattle.std.specs.Str.{chars, IsUtf8, IsCharBoundary}
+use Rattle.std.proofs.lemmas.Str.{chars-append, IsUtf8-take}
 use Rattle.std.specs.declared.cmp.Ordering.{Ordering}
 use Rattle.std.specs.declared.cmp.Ordering.TheVariants.{Less, Equal, Greater}
 use Rattle.unicode_normalization.specs.Forms.{nfd}
@@ -27,17 +29,19 @@ use Rattle.uca_text_comparer.proofs.PrimarySteps.{first_decides}
 
 -- ---- What both texts begin with
 
-pub rests_begun : (xs ys : List ℕ) → HaveRests xs ys xs ys
-rests_begun xs ys = record { shared = []; left_is = refl; right_is = refl }
-
-pub rests_on : (xs ys left right left1 right1 : List ℕ) (x : ℕ) → HaveRests xs ys left right → left ≡ x ∷ left1 → right ≡ x ∷ right1
-    → HaveRests xs ys left1 right1
-rests_on xs ys left right left1 right1 x so_far first other =
-    let shared = so_far.shared in
+-- their first bytes are the same, and are cut where a code point begins
+pub rests_cut : (left right left_rest right_rest : List ℕ) (shared at : ℕ) → IsUtf8 left → take shared left ≡ take shared right
+    → at ≤ shared → IsCharBoundary left at → left_rest ≡ drop at left → right_rest ≡ drop at right
+    → HaveRests (chars left) (chars right) (chars left_rest) (chars right_rest)
+rests_cut left right left_rest right_rest shared at text same within boundary left_is right_is =
+    let front = IsUtf8-take left at text boundary in
+    let other : take at right ≡ take at left = sym (take-take at shared right within) ∙ ap (take at) (sym same) ∙ take-take at shared left within in
     record {
-      shared = shared ++ x ∷ [];
-      left_is = so_far.left_is ∙ ap (λ l. shared ++ l) first ∙ sym (append_assoc shared (x ∷ []) left1);
-      right_is = so_far.right_is ∙ ap (λ l. shared ++ l) other ∙ sym (append_assoc shared (x ∷ []) right1);
+      shared = chars (take at left);
+      left_is = ap chars (sym (take-append-drop at left)) ∙ chars-append (take at left) (drop at left) front
+          ∙ ap (λ xs. chars (take at left) ++ chars xs) (sym left_is);
+      right_is = ap chars (sym (take-append-drop at right) ∙ ap (λ xs. xs ++ drop at right) other) ∙ chars-append (take at left) (drop at right) front
+          ∙ ap (λ xs. chars (take at left) ++ chars xs) (sym right_is);
     }
 
 -- a text reads as what comes before a plain code point, and what follows

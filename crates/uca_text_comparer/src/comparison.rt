@@ -1,6 +1,6 @@
 //! `TextComparison`: compares texts by any collator and under any settings, with memory that is used again.
 
-ghost use Rattle.std.specs.Prelude.{◌≡◌, ◌-◌, ◌^◌, chars, min, IfOk, OnOk, IfErr, IfSome};
+ghost use Rattle.std.specs.Prelude.{◌≡◌, ◌-◌, ◌^◌, chars, min, take, IfOk, OnOk, IfErr, IfSome};
 ghost use Rattle.uca_values.specs.Content.{Properties};
 ghost use Rattle.std.specs.Bool.{OnTrue};
 ghost use Rattle.uca_weights.specs.declared.Depth.TheVariants.{Weights};
@@ -14,7 +14,7 @@ ghost use Rattle.uca_text_comparer.specs.Causes.{IsPairCause};
 ghost use Rattle.uca_text_comparer.specs.inside.Beginnings.{AreReadAsText};
 ghost use Rattle.uca_text_comparer.specs.inside.Pairs.{ComparesPair, IsPairStop};
 
-use crate::beginnings::order_beginnings;
+use crate::beginnings::{order_rests, shared_len};
 use crate::decided::is_decided;
 use crate::faults::PairFault;
 use crate::normals::Normals;
@@ -119,13 +119,34 @@ impl<A: Allocator> TextComparison<A> {
             IsAccepted (written_text settings.numbers properties (chars left.now))
             × IsAccepted (written_text settings.numbers properties (chars right.now))) }
     {
+        let shared = shared_len(left.as_bytes(), right.as_bytes());
+        self.order_after(settings, left, right, shared)
+    }
+
+    /// The order of two texts whose first bytes are the same, so many of them, as
+    /// [`order_beginnings`](TextComparison::order_beginnings) tells it.
+    pub fn order_after(
+        &self,
+        settings: Settings,
+        left: &str,
+        right: &str,
+        shared: usize,
+    ) -> Option<Ordering>
+        requires { take shared left.now ≡ take shared right.now }
+        ensures compared { (c : Collation) → AreTrueEntries c self.now.plain.points.entries.items → IfSome result (λ order.
+            let answer = texts_compared c settings (chars left.now) (chars right.now) in
+            (answer.order ≡ order) × (answer.level ≡ 1)) }
+        ensures accepted { (properties : Properties) → IfSome result (λ _.
+            IsAccepted (written_text settings.numbers properties (chars left.now))
+            × IsAccepted (written_text settings.numbers properties (chars right.now))) }
+    {
         if left.len() > SHORT_TEXT || right.len() > SHORT_TEXT {
             return None;
         }
         if !are_read_as_text(settings.numbers, left, right) {
             return None;
         }
-        order_beginnings(&self.plain.points, settings.weighting, left, right)
+        order_rests(&self.plain.points, settings.weighting, left, right, shared)
     }
 
     // How two texts compare with numbers by value.

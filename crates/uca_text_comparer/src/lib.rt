@@ -20,7 +20,7 @@
 //! collator, or the command `uca compare`.
 //!
 //! Whoever needs no numbers of elements asks `order_beginnings` first. It looks up only the code points that come after
-//! what two short texts have in common (`beginnings`).
+//! what two short texts have in common (`beginnings`). Whoever knows how many bytes that are asks `order_after`.
 #![tactic(auto)]
 
 mod beginnings;
@@ -35,6 +35,7 @@ mod primaries;
 mod shared;
 pub mod text_comparer;
 
+pub use beginnings::shared_len;
 pub use comparison::TextComparison;
 pub use faults::PairFault;
 pub use plain_comparison::PlainComparison;

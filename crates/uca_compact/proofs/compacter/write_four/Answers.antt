@@ -12,8 +12,8 @@ use Rattle.uca_compact.proofs.LevelsWritten.{four_after, plain_same}
 use Rattle.uca_compact.proofs.StoredSteps.{if_some, four_parts}
 use Rattle.uca_compact.proofs.compacter.write_four.Goals as goal
 
-pub returns : goal.returns
-returns g c =
+pub returns-clause-key : goal.returns-clause-key
+returns-clause-key g c =
     let b = c.args.book.now in
     let key = c.args.key.now in
     let old = c.args.compact.now.items in
@@ -36,6 +36,6 @@ returns g c =
     four_parts c.args.depth b key letters.rest.now c.in-Next.rest.now c.in-Next-end.rest.now first.weights second.weights third.weights fourth.weights c.in_ok-fourth.fourth.end
     first.read (second.read ∙ ap (λ (e : StoredEnd). level_of e second.weights) c.in-Next.is)
     (third.read ∙ ap (λ (e : StoredEnd). level_of e third.weights) c.in-Next-end.is) fourth.read
-    ∙ ap (λ (xs : List ℕ). with_points (xs ++ code) (points_of c.args.depth c.in_ok-fourth.fourth.end)) (sym c.requires)
+    ∙ ap (λ (xs : List ℕ). with_points (xs ++ code) (points_of c.args.depth c.in_ok-fourth.fourth.end)) (sym c.requires.empty)
     ∙ ap (λ (xs : List ℕ). with_points xs (points_of c.args.depth c.in_ok-fourth.fourth.end)) (sym all)
     ∙ c.in_ok-found.ensures

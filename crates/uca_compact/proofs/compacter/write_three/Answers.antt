@@ -12,8 +12,8 @@ use Rattle.uca_compact.proofs.LevelsWritten.{three_after}
 use Rattle.uca_compact.proofs.StoredSteps.{if_some, three_parts}
 use Rattle.uca_compact.proofs.compacter.write_three.Goals as goal
 
-pub returns : goal.returns
-returns g c =
+pub returns-clause-key : goal.returns-clause-key
+returns-clause-key g c =
     let b = c.args.book.now in
     let key = c.args.key.now in
     let old = c.args.compact.now.items in
@@ -32,6 +32,6 @@ returns g c =
     second.same third.same first.code c.in_ok-push_three.ensures in
     three_parts c.args.depth b key c.in-Some.first.rest.now c.in-Next.rest.now first.weights second.weights third.weights c.in_ok-third.third.end
     first.read (second.read ∙ ap (λ (e : StoredEnd). level_of e second.weights) c.in-Next.is) third.read
-    ∙ ap (λ (xs : List ℕ). with_points (xs ++ code) (points_of c.args.depth c.in_ok-third.third.end)) (sym c.requires)
+    ∙ ap (λ (xs : List ℕ). with_points (xs ++ code) (points_of c.args.depth c.in_ok-third.third.end)) (sym c.requires.empty)
     ∙ ap (λ (xs : List ℕ). with_points xs (points_of c.args.depth c.in_ok-third.third.end)) (sym all)
     ∙ c.in_ok-found.ensures

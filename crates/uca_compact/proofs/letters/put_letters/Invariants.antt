@@ -1,6 +1,7 @@
 -- The weights so far were written, and there is room for the others.
 use Rattle.std.proofs.Common.{◌≡◌, ◌≤◌, ◌*◌, ◌-◌, ◌/◌, [], length, take}
 use Rattle.uca_compact.specs.Programs.{form_of}
+use Rattle.uca_compact.specs.inside.Places.{AreTrueEntries}
 use Rattle.uca_compact.specs.inside.LevelsRead.{IsWrittenTo}
 use Rattle.uca_compact.proofs.letters.put_letters.Given as goal
 
@@ -9,6 +10,8 @@ invariant-loop-at l = record {
   written : IsWrittenTo (form_of l.form) l.key [] (take l.size l.codes) l.at l.count l.after_lead;
   size : l.size ≤ 3 * (l.at / 2);
   codes : length l.codes ≡ length l.fn.codes;
+  entries : length l.entries ≡ 2048;
+  true_entries : AreTrueEntries (form_of l.form) l.entries;
   hints : length l.hints ≡ 4096;
 }
 

@@ -1,5 +1,5 @@
 -- The rows are those of the table, at each key.
-use Rattle.std.proofs.Common.{◌≡◌, ◌∙◌, subst}
+use Rattle.std.proofs.Common.{◌≡◌, subst}
 use Rattle.std.specs.Prelude.{IfOk}
 use Rattle.std.proofs.Math.Path.{fun_ext}
 use Rattle.uca_values.specs.Content.{properties_of}

@@ -12,7 +12,7 @@ returns-in-NonIgnorable-clause-key g c =
     subst (λ (s : CompacterState). IfOk c.write_three.result (λ found. option_map (compact_key s.settings.depth s.settings.weighting s.book)
     (stored_parts s.settings.depth s.settings.weighting c.args.key.now) ≡ (if found then Some c.write_three.new.compact.items else None))) c.self.view_is
     (subst (λ (w : Weighting). IfOk c.write_three.result (λ found. option_map (compact_key c.self.inside.settings.depth w c.self.inside.book)
-    (stored_parts c.self.inside.settings.depth w c.args.key.now) ≡ (if found then Some c.write_three.new.compact.items else None))) (sym c.in-NonIgnorable.is) c.write_three.ensures)
+    (stored_parts c.self.inside.settings.depth w c.args.key.now) ≡ (if found then Some c.write_three.new.compact.items else None))) (sym c.in-NonIgnorable.is) c.write_three.ensures.key)
 
 pub returns-in-NonIgnorable-clause-text : goal.returns-in-NonIgnorable-clause-text
 returns-in-NonIgnorable-clause-text g c =
@@ -25,7 +25,7 @@ returns-in-Shifted-clause-key g c =
     subst (λ (s : CompacterState). IfOk c.write_four.result (λ found. option_map (compact_key s.settings.depth s.settings.weighting s.book)
     (stored_parts s.settings.depth s.settings.weighting c.args.key.now) ≡ (if found then Some c.write_four.new.compact.items else None))) c.self.view_is
     (subst (λ (w : Weighting). IfOk c.write_four.result (λ found. option_map (compact_key c.self.inside.settings.depth w c.self.inside.book)
-    (stored_parts c.self.inside.settings.depth w c.args.key.now) ≡ (if found then Some c.write_four.new.compact.items else None))) (sym c.in-Shifted.is) c.write_four.ensures)
+    (stored_parts c.self.inside.settings.depth w c.args.key.now) ≡ (if found then Some c.write_four.new.compact.items else None))) (sym c.in-Shifted.is) c.write_four.ensures.key)
 
 pub returns-in-Shifted-clause-text : goal.returns-in-Shifted-clause-text
 returns-in-Shifted-clause-text g c =
