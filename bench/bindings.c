@@ -27,7 +27,7 @@ typedef struct text {
 typedef struct bench {
     uca_collator uca;
     UCollator *icu;
-    text *lines;
+    text *lines, *copies; /* the copies are elsewhere in memory */
     size_t count;
     uint8_t *key;
     UChar *wide;
@@ -61,14 +61,25 @@ static char *read_file(const char *path, size_t *length)
     return bytes;
 }
 
-static void read_lines(bench *it, const char *path)
+static text *lines_of(const char *path, size_t *count)
 {
     size_t length;
     char *bytes = read_file(path, &length), *end = bytes + length;
-    it->lines = malloc((length + 1) * sizeof *it->lines);
-    for (char *at = bytes, *next; at < end && (next = memchr(at, '\n', (size_t)(end - at))); at = next + 1) {
-        it->lines[it->count++] = (text){at, (size_t)(next - at)};
+    text *lines = malloc((length + 1) * sizeof *lines);
+    if (!lines) {
+        exit(1);
     }
+    *count = 0;
+    for (char *at = bytes, *next; at < end && (next = memchr(at, '\n', (size_t)(end - at))); at = next + 1) {
+        lines[(*count)++] = (text){at, (size_t)(next - at)};
+    }
+    return lines;
+}
+
+static void read_lines(bench *it, const char *path)
+{
+    it->lines = lines_of(path, &it->count);
+    it->copies = lines_of(path, &it->count);
 }
 
 static void open_both(bench *it, const char *table_path, const char *data_path)
@@ -120,24 +131,24 @@ static void icu_comparison_of(bench *it, const text *left, const text *right)
     it->sum += ucol_strcollUTF8(it->icu, left->bytes, (int32_t)left->length, right->bytes, (int32_t)right->length, &status);
 }
 
-/* The nanoseconds of a call, where the right text is so many lines after the left one. */
-static double time_of(bench *it, call make, size_t apart)
+/* The nanoseconds of a call, over so many pairs of a line and the right text beside it. */
+static double time_of(bench *it, call make, const text *rights, size_t pairs)
 {
     double best = 0;
     for (int round = 0; round < ROUNDS; round++) {
         double begun = now(CLOCK_PROCESS_CPUTIME_ID);
-        for (size_t i = 0; i + apart < it->count; i++) {
-            make(it, &it->lines[i], &it->lines[i + apart]);
+        for (size_t i = 0; i < pairs; i++) {
+            make(it, &it->lines[i], &rights[i]);
         }
-        double spent = (now(CLOCK_PROCESS_CPUTIME_ID) - begun) / (double)(it->count - apart);
+        double spent = (now(CLOCK_PROCESS_CPUTIME_ID) - begun) / (double)pairs;
         best = round == 0 || spent < best ? spent : best;
     }
     return best;
 }
 
-static void report(bench *it, const char *name, call uca, call icu, size_t apart)
+static void report(bench *it, const char *name, call uca, call icu, const text *rights, size_t pairs)
 {
-    printf("%s %.0f %.0f\n", name, time_of(it, uca, apart), time_of(it, icu, apart));
+    printf("%s %.1f %.1f\n", name, time_of(it, uca, rights, pairs), time_of(it, icu, rights, pairs));
 }
 
 enum { MOST_THREADS = 64 };
@@ -205,9 +216,10 @@ int main(int count, char **arguments)
     }
     open_both(&it, arguments[1], arguments[2]);
     read_lines(&it, arguments[3]);
-    report(&it, "keys", uca_keys, icu_keys, 0);
-    report(&it, "neighbours", uca_comparison_of, icu_comparison_of, 1);
-    report(&it, "equal", uca_comparison_of, icu_comparison_of, 0);
+    report(&it, "keys", uca_keys, icu_keys, it.lines, it.count);
+    report(&it, "neighbours", uca_comparison_of, icu_comparison_of, it.lines + 1, it.count - 1);
+    report(&it, "a line and itself", uca_comparison_of, icu_comparison_of, it.lines, it.count);
+    report(&it, "a line and a copy", uca_comparison_of, icu_comparison_of, it.copies, it.count);
     report_threads(&it);
     return 0;
 }

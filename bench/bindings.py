@@ -54,7 +54,7 @@ def calls(program, table, data, lines, work):
         file.writelines(ordered)
     for line in run([program, table, data, path]).splitlines():
         kind, own, icu = line.rsplit(maxsplit=2)
-        print(f"| {os.path.basename(lines)} | {kind} | {1e9 / int(own):,.0f} | {1e9 / int(icu):,.0f} | {int(own) / int(icu):.2f} |")
+        print(f"| {os.path.basename(lines)} | {kind} | {1e9 / float(own):,.0f} | {1e9 / float(icu):,.0f} | {float(own) / float(icu):.2f} |")
 
 
 def row(lines, kind, own, icu):

@@ -1,22 +1,25 @@
 -- Steps of reading the levels of a stored key while its compact key is written.
-use Rattle.std.proofs.Common.{◌≡◌, ◌≢◌, ℕ, zero, suc, ◌+◌, ◌*◌, ◌-◌, ◌/◌, ◌<◌, ◌≤◌, List, [], ◌∷◌, ◌++◌, Bool, true, false, cond, nat_eq, nat_lt, ◌&&◌, not, if◌then◌else◌, Option, Some, None, IfSome, length, length-append, length-drop, get_or, drop, refl, ap, sym, subst, subst₂, ⊎_elim, ◌∙◌, arith, append_assoc, append-nil}
+use Rattle.std.proofs.Common.{◌≡◌, ◌≢◌, ℕ, zero, suc, ◌+◌, ◌*◌, ◌-◌, ◌/◌, ◌<◌, ◌≤◌, List, [], ◌∷◌, ◌++◌, Bool, true, false, cond, nat_eq, nat_lt, ◌&&◌, not, if◌then◌else◌, Option, Some, None, IfSome, length, length-append, length-drop, get_or, drop, Bor, refl, ap, sym, subst, subst₂, ⊎_elim, ◌∙◌, arith, append_assoc, append-nil}
 use Rattle.std.specs.Bool.{OnTrue}
-use Rattle.std.specs.Ordering.{is_eq}
-use Rattle.std.specs.declared.cmp.Ordering.TheVariants.{Equal, Greater}
+use Rattle.std.specs.Ordering.{is_eq, nat_cmp, ordering_then}
+use Rattle.std.specs.declared.cmp.Ordering.{Ordering}
+use Rattle.std.specs.declared.cmp.Ordering.TheVariants.{Less, Equal, Greater}
 use Rattle.std.proofs.lemmas.Bool.Decides.{nat_tests}
-use Rattle.uca_order.proofs.KeyOrder.{cmp_greater, lexicographic_itself}
+use Rattle.std.proofs.lemmas.List.{drop_all}
+use Rattle.uca_order.specs.Levels.{lexicographic}
+use Rattle.uca_order.proofs.KeyOrder.{cmp_equal, cmp_greater, lexicographic_itself}
 use Rattle.uca_compact.specs.Forms.{AreRising, Form, IsForm, first_cell}
 use Rattle.uca_compact.specs.PlainLevels.{copies, is_lead, letters_after, letter_count}
-use Rattle.uca_compact.specs.CompactKeys.{cell, level_code}
+use Rattle.uca_compact.specs.CompactKeys.{cell, written, run_after, level_code}
 use Rattle.uca_compact.specs.StoredParts.{StoredLevel, weight_then, stored_level}
 use Rattle.uca_compact.specs.declared.letters.Letters.{Letters}
 use Rattle.uca_compact.specs.declared.later_level.LaterLevel.{LaterLevel}
 use Rattle.uca_compact.specs.declared.stored.StoredEnd.{StoredEnd}
 use Rattle.uca_compact.specs.declared.stored.StoredEnd.TheVariants.{Next, Key, Single}
 use Rattle.uca_compact.specs.inside.StoredEnds.{level_of, next_of, weights_before, weight_of}
-use Rattle.uca_compact.specs.inside.LevelsRead.{IsWrittenTo, IsFirstLevel, AreFour, GoesOn, IsLaterLevel}
+use Rattle.uca_compact.specs.inside.LevelsRead.{IsWrittenTo, IsFirstLevel, AreFour, GoesOn, order_on, IsCodedTo, IsLaterLevel}
 use Rattle.uca_compact.proofs.OnlyLevels.{weight_code}
-use Rattle.uca_compact.proofs.StoredSteps.{two_at, level_step, weights_step}
+use Rattle.uca_compact.proofs.StoredSteps.{two_at, level_step, weights_step, single_left}
 
 -- ---- Level 1
 
@@ -31,6 +34,10 @@ letter_code f end w ws none some =
 pub greater_rise : (f : Form) → IsForm f → f.common ≡ 0 → AreRising 1 f.greater 65536
 greater_rise f form none = ⊎_elim (λ few. absurd (omega (arith, few.0, none))) (λ rise. subst (λ (n : ℕ). AreRising (suc n) f.greater 65536) none rise) form.greater
 
+before_none : (o : Option StoredLevel) → weights_before [] o ≡ o
+before_none None = refl
+before_none (Some l) = refl
+
 -- nothing was written yet
 pub none_written : (f : Form) (key out : List ℕ) → IsWrittenTo f key out out 0 0 false
 none_written f key out = record {
@@ -43,10 +50,6 @@ none_written f key out = record {
   counted = λ more. omega arith;
   code = λ end more. refl;
 }
-  where
-    before_none : (o : Option StoredLevel) → weights_before [] o ≡ o
-    before_none None = refl
-    before_none (Some l) = refl
 
 -- a count with one weight more
 count_more : (lead : Bool) (w count more : ℕ) (rest : List ℕ) → more ≡ count + (if lead then 0 else 1)
@@ -248,15 +251,171 @@ same_ended bytes w count None so_far h = tt
 same_ended bytes w count (Some e) so_far h = so_far e h
 
 -- the level is the plain one
-pub plain_read : (bytes kept : List ℕ) (w n : ℕ) (found : LaterLevel) → stored_level bytes ≡ level_of found.end (copies w n) → found.order ≡ Equal → found.len ≡ n
-    → IsLaterLevel bytes (copies w n) kept found
-plain_read bytes kept w n found read order len = record {
-  weights = copies w n;
+pub plain_read : (f : Form) (bytes code : List ℕ) (n : ℕ) (found : LaterLevel) → stored_level bytes ≡ level_of found.end (copies f.common n) → found.order ≡ Equal
+    → found.len ≡ n → IsLaterLevel f bytes n code found
+plain_read f bytes code n found read order len = record {
+  weights = copies f.common n;
   read = read;
-  order = order ∙ sym (lexicographic_itself (copies w n));
-  len = len ∙ sym (copies_length w n);
-  same = λ other. absurd (true_not_false (ap is_eq (sym order) ∙ other));
+  order = order ∙ sym (lexicographic_itself (copies f.common n));
+  len = len ∙ sym (copies_length f.common n);
+  written = λ other. absurd (true_not_false (ap is_eq (sym order) ∙ other));
 }
   where
     true_not_false : true ≡ false → ⊥
     true_not_false h = cc
+
+-- ---- A later level that is coded
+
+-- how it compares after one weight more, by how that weight compares
+pub order_decided : (w c count len : ℕ) (o : Ordering) → w ≢ c → len < count → nat_cmp w c ≡ o
+    → (more : List ℕ) → order_on Equal c count len (w ∷ more) ≡ order_on o c count (len + 1) more
+order_decided w c count len o apart few is more = by_rest (count - len) refl
+  where
+    by_other : (p : Ordering) → nat_cmp w c ≡ p → (x y : Ordering) → ordering_then p x ≡ ordering_then p y
+    by_other Less e x y = refl
+    by_other Equal e x y = absurd (apart (grind (arith, nat_tests)))
+    by_other Greater e x y = refl
+
+    by_rest : (n : ℕ) → count - len ≡ n → order_on Equal c count len (w ∷ more) ≡ order_on o c count (len + 1) more
+    by_rest zero e = absurd (omega (arith, few))
+    by_rest (suc n) e =
+        let test : nat_lt count len ≡ false = grind (arith, nat_tests) in
+        ap (λ (t : Bool). if t then Greater else lexicographic (w ∷ more) (copies c (count - len))) test
+        ∙ ap (λ (k : ℕ). lexicographic (w ∷ more) (copies c k)) e
+        ∙ ap (λ (p : Ordering). ordering_then p (lexicographic more (copies c n))) is
+        ∙ by_other o is (lexicographic more (copies c n)) (if nat_lt count (len + 1) then Greater else lexicographic more (copies c (count - (len + 1))))
+
+-- no weight after so many does
+pub order_late : (w c count len : ℕ) → count ≤ len → (more : List ℕ) → order_on Equal c count len (w ∷ more) ≡ order_on Equal c count (len + 1) more
+order_late w c count len late more =
+    let none : count - len ≡ 0 = omega arith in
+    let over : nat_lt count (len + 1) ≡ true = grind (arith, nat_tests) in
+    ap (λ (k : ℕ). if nat_lt count len then Greater else lexicographic (w ∷ more) (copies c k)) none
+    ∙ both (nat_lt count len)
+    ∙ sym (ap (λ (t : Bool). if t then Greater else lexicographic more (copies c (count - (len + 1)))) over)
+  where
+    both : (t : Bool) → if t then Greater else Greater ≡ Greater
+    both true = refl
+    both false = refl
+
+-- the common weight decides nothing
+pub order_same : (w c count len : ℕ) → w ≡ c → (more : List ℕ) → order_on Equal c count len (w ∷ more) ≡ order_on Equal c count (len + 1) more
+order_same w c count len same more = by_rest (count - len) refl
+  where
+    by_rest : (n : ℕ) → count - len ≡ n → order_on Equal c count len (w ∷ more) ≡ order_on Equal c count (len + 1) more
+    by_rest zero e = order_late w c count len (omega (arith, e)) more
+    by_rest (suc n) e =
+        let test : nat_lt count len ≡ false = grind (arith, nat_tests) in
+        let next : nat_lt count (len + 1) ≡ false = grind (arith, nat_tests) in
+        let left : n ≡ count - (len + 1) = omega (arith, e) in
+        ap (λ (t : Bool). if t then Greater else lexicographic (w ∷ more) (copies c (count - len))) test
+        ∙ ap (λ (k : ℕ). lexicographic (w ∷ more) (copies c k)) e
+        ∙ ap (λ (o : Ordering). ordering_then o (lexicographic more (copies c n))) (cmp_equal w c same)
+        ∙ ap (λ (k : ℕ). lexicographic more (copies c k)) left
+        ∙ sym (ap (λ (t : Bool). if t then Greater else lexicographic more (copies c (count - (len + 1)))) next)
+
+-- nothing was coded yet
+pub none_coded : (f : Form) (bytes : List ℕ) (count : ℕ) → 0 < f.longest → IsCodedTo f bytes [] 0 0 count Equal
+none_coded f bytes count some = record {
+  weights = [];
+  size = refl;
+  within = omega arith;
+  are = tt;
+  read = before_none (stored_level bytes);
+  short = some;
+  written = λ end more. refl;
+  compared = λ more. from_start more;
+}
+  where
+    from_start : (more : List ℕ) → lexicographic more (copies f.common count) ≡ order_on Equal f.common count 0 more
+    from_start more =
+        let test : nat_lt count 0 ≡ false = grind (arith, nat_tests) in
+        let all : count ≡ count - 0 = omega arith in
+        ap (λ (k : ℕ). lexicographic more (copies f.common k)) all
+        ∙ sym (ap (λ (t : Bool). if t then Greater else lexicographic more (copies f.common (count - 0))) test)
+
+-- one weight more was coded
+pub one_coded : (f : Form) (bytes code new : List ℕ) (at run after count w : ℕ) (order next : Ordering) → IsCodedTo f bytes code at run count order
+    → at + 1 < length bytes → w ≡ 256 * get_or bytes at 0 + get_or bytes (at + 1) 0 → w ≢ 0 → w < 65536
+    → new ≡ code ++ written f run w (nat_cmp w f.common) → after ≡ run_after f run (nat_cmp w f.common) → after < f.longest
+    → ((more : List ℕ) → order_on order f.common count (at / 2) (w ∷ more) ≡ order_on next f.common count (at / 2 + 1) more)
+    → IsCodedTo f bytes new (at + 2) after count next
+one_coded f bytes code new at run after count w order next so_far within is some small added runs short orders =
+    let front = so_far.weights in
+    let size = so_far.size in
+    let longer : length (front ++ w ∷ []) ≡ length front + 1 = length-append front (w ∷ []) in
+    let half : length front ≡ at / 2 = omega (arith, size) in
+    let half_more : at / 2 + 1 ≡ length (front ++ w ∷ []) = omega (arith, size, longer) in
+    let step = weights_step front bytes (front ++ w ∷ []) at w (stored_level bytes) within is some small so_far.are refl so_far.read in
+    record {
+      weights = front ++ w ∷ [];
+      size = omega (arith, longer, size);
+      within = step.0;
+      are = step.1;
+      read = step.2;
+      short = short;
+      written = λ end more.
+          ap (λ (xs : List ℕ). xs ++ level_code f end after more) added
+          ∙ append_assoc code (written f run w (nat_cmp w f.common)) (level_code f end after more)
+          ∙ ap (λ (n : ℕ). code ++ (written f run w (nat_cmp w f.common) ++ level_code f end n more)) runs
+          ∙ so_far.written end (w ∷ more)
+          ∙ ap (level_code f end 0) (sym (append_assoc front (w ∷ []) more));
+      compared = λ more.
+          ap (λ (xs : List ℕ). lexicographic xs (copies f.common count)) (append_assoc front (w ∷ []) more)
+          ∙ so_far.compared (w ∷ more)
+          ∙ ap (λ (n : ℕ). order_on order f.common count n (w ∷ more)) half
+          ∙ orders more
+          ∙ ap (λ (n : ℕ). order_on next f.common count n more) half_more;
+    }
+
+-- the level ends there
+coded_ended : (f : Form) (bytes code : List ℕ) (at count : ℕ) (order : Ordering) (found : LaterLevel) (so_far : IsCodedTo f bytes code at found.run count order)
+    → found.order ≡ order_on order f.common count (at / 2) [] → found.len ≡ at / 2
+    → weights_before so_far.weights (stored_level (drop at bytes)) ≡ level_of found.end so_far.weights → IsLaterLevel f bytes count code found
+coded_ended f bytes code at count order found so_far is_order is_len end =
+    let front = so_far.weights in
+    let size = so_far.size in
+    let half : at / 2 ≡ length front = omega (arith, size) in
+    record {
+      weights = front;
+      read = sym so_far.read ∙ end;
+      order = is_order ∙ ap (λ (n : ℕ). order_on order f.common count n []) half ∙ sym (so_far.compared [])
+          ∙ ap (λ (xs : List ℕ). lexicographic xs (copies f.common count)) (append-nil front);
+      len = is_len ∙ half;
+      written = λ _ e. so_far.written e [] ∙ ap (level_code f e 0) (append-nil front);
+    }
+
+-- by 00 00
+pub coded_next : (f : Form) (bytes code : List ℕ) (at count w : ℕ) (order : Ordering) (rest : Bor (List ℕ)) (found : LaterLevel) → IsCodedTo f bytes code at found.run count order
+    → at + 1 < length bytes → w ≡ 256 * get_or bytes at 0 + get_or bytes (at + 1) 0 → w ≡ 0
+    → found.order ≡ order_on order f.common count (at / 2) [] → found.len ≡ at / 2 → found.end ≡ Next rest → rest.now ≡ drop (at + 2) bytes
+    → IsLaterLevel f bytes count code found
+coded_next f bytes code at count w order rest found so_far within is none is_order is_len is_end is_rest =
+    let front = so_far.weights in
+    let more = drop (at + 2) bytes in
+    coded_ended f bytes code at count order found so_far is_order is_len
+    (ap (λ (xs : List ℕ). weights_before front (stored_level xs)) (two_at bytes at within)
+    ∙ ap (weights_before front) (ended_level (get_or bytes at 0) (get_or bytes (at + 1) 0) more w is none)
+    ∙ ap (λ (ws : List ℕ). Some (record { weights = ws; rest = Some more })) (append-nil front)
+    ∙ ap (λ (xs : List ℕ). Some (record { weights = front; rest = Some xs })) (sym is_rest)
+    ∙ ap (λ (e : StoredEnd). level_of e front) (sym is_end))
+
+-- with the key
+pub coded_key : (f : Form) (bytes code : List ℕ) (at count : ℕ) (order : Ordering) (found : LaterLevel) → IsCodedTo f bytes code at found.run count order
+    → at ≡ length bytes → found.order ≡ order_on order f.common count (at / 2) [] → found.len ≡ at / 2 → found.end ≡ Key → IsLaterLevel f bytes count code found
+coded_key f bytes code at count order found so_far last is_order is_len is_end =
+    let front = so_far.weights in
+    coded_ended f bytes code at count order found so_far is_order is_len
+    (ap (λ (xs : List ℕ). weights_before front (stored_level xs)) (drop_all at bytes (omega (arith, last)))
+    ∙ ap (λ (ws : List ℕ). Some (record { weights = ws; rest = None })) (append-nil front)
+    ∙ ap (λ (e : StoredEnd). level_of e front) (sym is_end))
+
+-- in a single byte
+pub coded_single : (f : Form) (bytes code : List ℕ) (at count : ℕ) (order : Ordering) (found : LaterLevel) → IsCodedTo f bytes code at found.run count order
+    → length bytes ≤ at + 1 → at ≢ length bytes → found.order ≡ order_on order f.common count (at / 2) [] → found.len ≡ at / 2 → found.end ≡ Single
+    → IsLaterLevel f bytes count code found
+coded_single f bytes code at count order found so_far last apart is_order is_len is_end =
+    let front = so_far.weights in
+    coded_ended f bytes code at count order found so_far is_order is_len
+    (so_far.read ∙ single_left front bytes at (stored_level bytes) so_far.within last apart so_far.read
+    ∙ ap (λ (e : StoredEnd). level_of e front) (sym is_end))

@@ -11,14 +11,14 @@ ghost use Rattle.uca_compact.specs.Forms.{letters_form};
 ghost use Rattle.uca_compact.specs.StoredParts.{stored_parts, IsCompactOf, IsOfNoKey};
 ghost use Rattle.uca_compact.specs.inside.Places.{AreTrueEntries};
 
-use crate::book_forms::letters_form;
-use crate::buffers::Levels;
+use crate::book_forms::{accents_form, cases_form, letters_form, variables_form};
+use crate::buffers::{LevelCodes, Levels};
 use crate::expander::expand;
 use crate::later_level::read_later;
 use crate::letter_buffers::LetterBuffers;
 use crate::letters::push_letters;
 use crate::stored::{StoredEnd, push_points_after};
-use crate::written_levels::{Orders, push_four, push_three};
+use crate::written_levels::{push_four, push_three};
 use std::alloc::{AllocError, Allocator, Global};
 use std::marker::Model;
 use uca_books::Book;
@@ -31,8 +31,11 @@ use uca_weights::{Depth, Settings, Weighting};
 pub struct KeyCompacter<A: Allocator = Global> {
     book: Book<A>,
     settings: Settings,
+    // of a key that is expanded
     levels: Levels<A>,
+    // of a key that is made compact
     letters: LetterBuffers<A>,
+    codes: LevelCodes<A>,
 }
 
 impl<A: Allocator> Model for KeyCompacter<A> {
@@ -59,6 +62,7 @@ impl<A: Allocator + Copy> KeyCompacter<A> {
             settings,
             levels: Levels::new(alloc),
             letters: LetterBuffers::new(alloc),
+            codes: LevelCodes::new(alloc),
         }
     }
 }
@@ -101,16 +105,16 @@ impl<A: Allocator> KeyCompacter<A> {
                 key,
                 self.settings.depth,
                 &self.book,
-                &mut self.levels,
                 &mut self.letters,
+                &mut self.codes,
                 compact,
             ),
             Weighting::Shifted => write_four(
                 key,
                 self.settings.depth,
                 &self.book,
-                &mut self.levels,
                 &mut self.letters,
+                &mut self.codes,
                 compact,
             ),
         }
@@ -144,8 +148,8 @@ fn write_three<A: Allocator, B: Allocator>(
     key: &[u8],
     depth: Depth,
     book: &Book<A>,
-    levels: &mut Levels<A>,
     letters: &mut LetterBuffers<A>,
+    codes: &mut LevelCodes<A>,
     compact: &mut Vec<u8, B>,
 ) -> Result<bool, AllocError>
     requires empty { compact.old.items ≡ [] }
@@ -158,12 +162,17 @@ fn write_three<A: Allocator, B: Allocator>(
     let Some(first) = push_letters(compact, &form, letters, key)? else {
         return Ok(false);
     };
-    let second = read_later(first.rest, 0x20, first.count, &mut levels.accents)?;
+    let second = read_later(
+        first.rest,
+        &accents_form(1),
+        first.count,
+        &mut codes.accents,
+    )?;
     let StoredEnd::Next(rest) = second.end else {
         return Ok(false);
     };
-    let third = read_later(rest, 2, second.len, &mut levels.cases)?;
-    push_three(compact, second.order, third.order, levels)?;
+    let third = read_later(rest, &cases_form(0), second.len, &mut codes.cases)?;
+    push_three(compact, &second, &third, codes)?;
     let found = push_points_after(compact, depth, third.end)?;
     Ok(found)
 }
@@ -173,8 +182,8 @@ fn write_four<A: Allocator, B: Allocator>(
     key: &[u8],
     depth: Depth,
     book: &Book<A>,
-    levels: &mut Levels<A>,
     letters: &mut LetterBuffers<A>,
+    codes: &mut LevelCodes<A>,
     compact: &mut Vec<u8, B>,
 ) -> Result<bool, AllocError>
     requires empty { compact.old.items ≡ [] }
@@ -187,22 +196,22 @@ fn write_four<A: Allocator, B: Allocator>(
     let Some(first) = push_letters(compact, &form, letters, key)? else {
         return Ok(false);
     };
-    let second = read_later(first.rest, 0x20, first.count, &mut levels.accents)?;
+    let second = read_later(
+        first.rest,
+        &accents_form(2),
+        first.count,
+        &mut codes.accents,
+    )?;
     let StoredEnd::Next(rest) = second.end else {
         return Ok(false);
     };
-    let third = read_later(rest, 2, second.len, &mut levels.cases)?;
+    let third = read_later(rest, &cases_form(1), second.len, &mut codes.cases)?;
     let StoredEnd::Next(rest) = third.end else {
         return Ok(false);
     };
     let plain = third.len + (first.len - first.count);
-    let fourth = read_later(rest, 0xFFFF, plain, &mut levels.variables)?;
-    let orders = Orders {
-        second: second.order,
-        third: third.order,
-        fourth: fourth.order,
-    };
-    push_four(compact, book, orders, levels)?;
+    let fourth = read_later(rest, &variables_form(book), plain, &mut codes.variables)?;
+    push_four(compact, book, &second, &third, &fourth, codes)?;
     let found = push_points_after(compact, depth, fourth.end)?;
     Ok(found)
 }

@@ -1,25 +1,28 @@
-//! Reads a level of a stored key after others. Mostly it is plain, and then its weights are not kept.
+//! Codes a level of a stored key after others while it is read. Mostly it is plain, and then nothing is written.
 
-ghost use Rattle.std.specs.Prelude.{◌≡◌, ◌+◌, ◌*◌, ◌/◌, ◌^◌, ◌<◌, ◌≤◌, [], drop, length, slice_index, IfOk, IfSome};
+ghost use Rattle.std.specs.Prelude.{◌≡◌, ◌≢◌, ℕ, List, ◌+◌, ◌*◌, ◌/◌, ◌^◌, ◌<◌, ◌≤◌, [], ◌∷◌, drop, length, slice_index, IfOk, IfSome};
 ghost use Rattle.std.specs.Bool.{OnTrue};
-ghost use Rattle.uca_compact.specs.Forms.{AreWeights};
+ghost use Rattle.uca_compact.specs.Forms.{IsForm};
 ghost use Rattle.uca_compact.specs.PlainLevels.{copies};
+ghost use Rattle.uca_compact.specs.Programs.{form_of};
 ghost use Rattle.uca_compact.specs.StoredParts.{stored_level};
 ghost use Rattle.uca_compact.specs.inside.StoredEnds.{level_of};
-ghost use Rattle.uca_compact.specs.inside.LevelsRead.{AreFour, GoesOn, IsLaterLevel};
+ghost use Rattle.uca_compact.specs.inside.LevelsRead.{AreFour, GoesOn, order_on, IsLaterLevel};
 
-use crate::plain::compare_run;
-use crate::stored::{StoredEnd, read_weights, weight_at};
+use crate::levels::{LevelForm, push_weight};
+use crate::stored::{StoredEnd, weight_at};
 use std::alloc::{AllocError, Allocator};
 use std::cmp::Ordering;
 
-/// A level after others.
+/// A level after others, whose weights were coded but for the last run and the end.
 #[derive(Clone, Copy)]
 pub(crate) struct LaterLevel<'a> {
     /// How it compares to the plain one.
     pub(crate) order: Ordering,
     /// How many weights it has.
     pub(crate) len: usize,
+    /// How many common weights the last run has, which is not written yet.
+    pub(crate) run: u32,
     /// How it ends.
     pub(crate) end: StoredEnd<'a>,
 }
@@ -87,50 +90,100 @@ fn plain_end(bytes: &[u8], weight: u16, count: usize) -> Option<StoredEnd<'_>>
     end_at(bytes, 2 * count)
 }
 
-// Reads a level with its weights, and compares it to so many times one weight.
+// How a level compares to `count` times its common weight, after one weight more. So far it has `len` weights, and
+// `order` is how the first one among `count` that is another compares to the common one.
+#[inline(always)]
+fn order_with(order: Ordering, weight: u32, common: u32, len: usize, count: usize) -> Ordering
+    ensures { (more : List ℕ) → order_on order common count len (weight ∷ more) ≡ order_on result common count (len + 1) more }
+{
+    if weight != common && order == Ordering::Equal && len < count {
+        weight.cmp(&common)
+    } else {
+        order
+    }
+}
+
+// How a level compares to `count` times its common weight. It has `len` weights.
+#[inline]
+fn order_by_len(order: Ordering, len: usize, count: usize) -> Ordering
+    ensures { (common : ℕ) → result ≡ order_on order common count len [] }
+{
+    match order {
+        Ordering::Equal => len.cmp(&count),
+        Ordering::Less | Ordering::Greater => order,
+    }
+}
+
+// Codes a level, and compares it to `count` times its common weight.
 #[inline(never)]
-fn read_compared<'a, A: Allocator>(
+fn code_level<'a, A: Allocator>(
     bytes: &'a [u8],
-    weight: u16,
+    form: &LevelForm,
     count: usize,
-    weights: &mut Vec<u16, A>,
+    code: &mut Vec<u8, A>,
 ) -> Result<LaterLevel<'a>, AllocError>
-    ensures level { IfOk result (IsLaterLevel bytes.now (copies weight count) weights.new.items) }
-    ensures weights { IfOk result (λ level. AreWeights weights.new.items) }
+    requires { IsForm (form_of form.now) }
+    ensures level { IfOk result (IsLaterLevel (form_of form.now) bytes.now count code.new.items) }
+    ensures short { IfOk result (λ level. level.run < form.now.longest) }
     ensures few { IfOk result (λ level. level.len < 2 ^ 63) }
 {
-    let end = read_weights(bytes, weights)?;
-    let found = weights.as_slice();
+    code.clear();
+    let common = u32::from(form.common);
+    let mut order = Ordering::Equal;
+    let mut run = 0;
+    let mut at = 0;
+    while at + 1 < bytes.len() {
+        let weight = weight_at(bytes, at);
+        if weight == 0 {
+            return Ok(LaterLevel {
+                order: order_by_len(order, at / 2, count),
+                len: at / 2,
+                run,
+                end: StoredEnd::Next(&bytes[at + 2..]),
+            });
+        }
+        order = order_with(order, weight, common, at / 2, count);
+        run = push_weight(code, form, run, weight)?;
+        at += 2;
+    }
+    let end = if at == bytes.len() {
+        StoredEnd::Key
+    } else {
+        StoredEnd::Single
+    };
     Ok(LaterLevel {
-        order: compare_run(found, weight, count),
-        len: found.len(),
+        order: order_by_len(order, at / 2, count),
+        len: at / 2,
+        run,
         end,
     })
 }
 
-/// Reads a level, and compares it to the plain one: so many times one weight. Unless it is that one, its weights take
-/// the place of those that were there.
+/// Codes a level, over the bytes that were there, and compares it to the plain one: `count` times its common weight.
+/// Nothing is written if it is that one.
 #[inline(always)]
 pub(crate) fn read_later<'a, A: Allocator>(
     bytes: &'a [u8],
-    weight: u16,
+    form: &LevelForm,
     count: usize,
-    weights: &mut Vec<u16, A>,
+    code: &mut Vec<u8, A>,
 ) -> Result<LaterLevel<'a>, AllocError>
-    requires { 0 < weight }
-    ensures level { IfOk result (IsLaterLevel bytes.now (copies weight count) weights.new.items) }
-    ensures weights { IfOk result (λ level. AreWeights weights.new.items) }
+    requires form { IsForm (form_of form.now) }
+    requires common { 0 < form.now.common }
+    ensures level { IfOk result (IsLaterLevel (form_of form.now) bytes.now count code.new.items) }
+    ensures short { IfOk result (λ level. level.run < form.now.longest) }
     ensures few { IfOk result (λ level. level.len < 2 ^ 63) }
 {
-    match plain_end(bytes, weight, count) {
+    match plain_end(bytes, form.common, count) {
         Some(end) => {
-            weights.clear();
+            code.clear();
             Ok(LaterLevel {
                 order: Ordering::Equal,
                 len: count,
+                run: 0,
                 end,
             })
         }
-        None => read_compared(bytes, weight, count, weights),
+        None => code_level(bytes, form, count, code),
     }
 }

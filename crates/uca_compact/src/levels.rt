@@ -160,9 +160,9 @@ fn push_cell<A: Allocator>(
     push_in_cell(out, number, start, later, end, weight, index)
 }
 
-// Writes a weight after a run, and returns the length of the run after it. Mostly it is the common one.
+/// Writes a weight after a run, and returns the length of the run after it. Mostly it is the common one.
 #[inline(always)]
-fn push_weight<A: Allocator>(
+pub(crate) fn push_weight<A: Allocator>(
     out: &mut Vec<u8, A>,
     form: &LevelForm,
     run: u32,

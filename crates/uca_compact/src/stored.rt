@@ -30,31 +30,6 @@ pub(crate) fn weight_at(bytes: &[u8], at: usize) -> u32
     256 * u32::from(bytes[at]) + u32::from(bytes[at + 1])
 }
 
-/// Reads a level from the beginning of these bytes. Its weights take the place of those that were there.
-pub(crate) fn read_weights<'a, A: Allocator>(
-    bytes: &'a [u8],
-    weights: &mut Vec<u16, A>,
-) -> Result<StoredEnd<'a>, AllocError>
-    ensures level { IfOk result (λ end. stored_level bytes.now ≡ level_of end weights.new.items) }
-    ensures weights { IfOk result (λ end. AreWeights weights.new.items) }
-{
-    weights.clear();
-    let mut at = 0;
-    while at + 1 < bytes.len() {
-        let weight = 256 * u16::from(bytes[at]) + u16::from(bytes[at + 1]);
-        if weight == 0 {
-            return Ok(StoredEnd::Next(&bytes[at + 2..]));
-        }
-        weights.push(weight)?;
-        at += 2;
-    }
-    if at == bytes.len() {
-        Ok(StoredEnd::Key)
-    } else {
-        Ok(StoredEnd::Single)
-    }
-}
-
 // Writes a code point as UTF-8.
 fn push_point<A: Allocator>(out: &mut Vec<u8, A>, point: char) -> Result<(), AllocError>
     ensures { OnOk result (out.new.items ≡ out.old.items ++ encode_utf8 point) }

@@ -12,6 +12,7 @@ ghost use Rattle.uca_owned.specs.Causes.{IsAcceptedBy, IsAcceptedText, IsKeyCaus
 use crate::OwnedCollator;
 use crate::comparing::{compare_bytes, compare_same};
 use crate::faults::{CompareFault, KeyFault};
+use crate::reading::read_text;
 use std::cmp::Ordering;
 use uca_key_writer::KeyMemory;
 use uca_match::OwnedCollation;
@@ -26,7 +27,7 @@ fn write_key(collation: &OwnedCollation, keys: &mut KeyMemory, text: &[u8]) -> R
     ensures fault { IfErr result (IsKeyCause keys.old.numbers (properties_of collation.now.properties) text.now) }
     ensures settings { settings_in keys.new ≡ settings_in keys.old }
 {
-    let Ok(text) = str::from_utf8(text) else {
+    let Some(text) = read_text(text) else {
         return Err(KeyFault::Utf8);
     };
     let collator = collation.collator();

@@ -1,7 +1,6 @@
 //! Comparing texts that are given as bytes.
 
-ghost use Rattle.std.specs.Prelude.{◌≡◌, ◌≤◌, chars, length, take, IfOk, IfErr, IfSome, MatchOption, OnOk};
-ghost use Rattle.std.specs.Str.{IsUtf8};
+ghost use Rattle.std.specs.Prelude.{◌≡◌, chars, take, IfOk, IfErr, IfSome, OnOk};
 ghost use Rattle.uca_values.specs.Content.{properties_of};
 ghost use Rattle.uca_text.specs.Limits.{IsAccepted};
 ghost use Rattle.uca_text.specs.Faults.{IsCause};
@@ -13,6 +12,7 @@ ghost use Rattle.uca_text_comparer.specs.Causes.{IsPairCause};
 ghost use Rattle.uca_owned.specs.Causes.{IsAcceptedText, IsAcceptedBy, IsKeyCause, IsCompareCause};
 
 use crate::faults::{CompareFault, KeyFault};
+use crate::reading::{read_after, read_text};
 use std::cmp::Ordering;
 use uca_match::OwnedCollation;
 use uca_text::TextFault;
@@ -31,7 +31,7 @@ pub(crate) fn compare_same(left: &[u8], right: &[u8]) -> Option<(Ordering, u8)>
 {
     if left.len() <= SHORT_TEXT
         && left == right
-        && let Ok(_) = str::from_utf8(left)
+        && let Some(_) = read_text(left)
     {
         return Some((Ordering::Equal, 0));
     }
@@ -60,7 +60,7 @@ pub(crate) fn compare_bytes(
     ensures fault { let properties = properties_of collation.now.properties in
         IfErr result (IsCompareCause settings.numbers properties left.now right.now) }
 {
-    let Ok(left_text) = str::from_utf8(left) else {
+    let Some(left_text) = read_text(left) else {
         return Err(CompareFault::Left(KeyFault::Utf8));
     };
     let shared = shared_len(left, right);
@@ -70,24 +70,12 @@ pub(crate) fn compare_bytes(
             Err(fault) => Err(CompareFault::Left(KeyFault::Text(fault))),
         };
     };
-    match compare_texts(collation, comparison, settings, left_text, right_text, shared) {
+    match compare_texts(
+        collation, comparison, settings, left_text, right_text, shared,
+    ) {
         Ok(pair) => Ok(pair),
         Err(PairFault::Left(fault)) => Err(CompareFault::Left(KeyFault::Text(fault))),
         Err(PairFault::Right(fault)) => Err(CompareFault::Right(KeyFault::Text(fault))),
-    }
-}
-
-// The text of these bytes, if they are UTF-8. So many of the first ones are those of a text too, and are not read again.
-#[inline(always)]
-fn read_after<'t>(text: &str, shared: usize, bytes: &'t [u8]) -> Option<&'t str>
-    requires same { take shared text.now ≡ take shared bytes.now }
-    requires within { shared ≤ length bytes.now }
-    ensures { MatchOption result (¬ (IsUtf8 bytes.now)) (λ read. (read.now ≡ bytes.now) × IsUtf8 bytes.now) }
-{
-    let cut = text.floor_char_boundary(shared);
-    match str::from_utf8(&bytes[cut..]) {
-        Ok(_) => Some(unsafe { str::from_utf8_unchecked(bytes) }),
-        Err(_) => None,
     }
 }
 
@@ -108,7 +96,7 @@ pub(crate) fn judge(
         OnOk result (IsAcceptedText settings.numbers properties bytes.now) }
     ensures fault { IfErr result (IsKeyCause settings.numbers (properties_of collation.now.properties) bytes.now) }
 {
-    let Ok(text) = str::from_utf8(bytes) else {
+    let Some(text) = read_text(bytes) else {
         return Err(KeyFault::Utf8);
     };
     match judge_text(collation, comparison, settings, text) {

@@ -14,6 +14,7 @@ pub mod laws;
 mod opening;
 mod order;
 mod owned;
+mod reading;
 
 pub use faults::{CompareFault, KeyFault, OpenFault};
 pub use files::in_memory;

@@ -18,5 +18,5 @@ pub returns-clause-accepted : goal.returns-clause-accepted
 returns-clause-accepted c k =
     let left = c.args.left.now in
     let same = (bytes_eq-Decides left c.args.right.now).0 (sym c.if-eq.ensures) in
-    let accepted = short_accepted k left c.in-Ok.ensures.cases.1 (omega arith) in
+    let accepted = short_accepted k left c.in-Some.ensures.1 (omega arith) in
     subst (λ (right : List ℕ). IsAcceptedBy k left × IsAcceptedBy k right) same (accepted, accepted)

@@ -1,6 +1,6 @@
 -- The bytes are UTF-8 if and only if those after the cut are.
 use Rattle.uca_owned.proofs.SharedBytes.{whole_is, rest_is}
-use Rattle.uca_owned.proofs.comparing.read_after.Goals as goal
+use Rattle.uca_owned.proofs.reading.read_after.Goals as goal
 
 pub from_utf8_unchecked-requires : goal.from_utf8_unchecked-requires
 from_utf8_unchecked-requires c =
