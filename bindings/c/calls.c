@@ -122,6 +122,11 @@ static void check_compare(uca_collator *it)
     CHECK(COMPARES(it, "", "", 0, 0));
     CHECK(uca_compare(it, BYTES("\xFF"), BYTES("a"), &found) == UCA_UTF8 && found.order == 0 && found.level == 0);
     CHECK(uca_compare(it, BYTES("a"), BYTES("\xFF"), &found) == UCA_UTF8);
+    /* a shared beginning may end inside a code point: U+00E1 is C3 A1, and U+00E9 C3 A9. The table has no e, so it comes after a */
+    CHECK(COMPARES(it, "aaaaaaaa\xC3\xA1", "aaaaaaaa\xC3\xA9", -1, 1));
+    CHECK(uca_compare(it, BYTES("a\xC3\xA1"), BYTES("a\xC3"), &found) == UCA_UTF8 && found.order == 0);
+    CHECK(uca_compare(it, BYTES("a\xC3"), BYTES("a\xC3\xA1"), &found) == UCA_UTF8 && found.order == 0);
+    CHECK(uca_compare(it, BYTES("a\xC3\xA1"), BYTES("a\xC3\xC3\xA1"), &found) == UCA_UTF8 && found.order == 0);
 }
 
 static bool is_order(uca_collator *collator, const uint8_t *left, size_t left_length, const uint8_t *right, size_t right_length, int32_t order)

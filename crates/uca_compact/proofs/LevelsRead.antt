@@ -1,14 +1,16 @@
 -- Steps of reading the levels of a stored key while its compact key is written.
-use Rattle.std.proofs.Common.{◌≡◌, ◌≢◌, ℕ, zero, suc, ◌+◌, ◌*◌, ◌-◌, ◌/◌, ◌<◌, ◌≤◌, List, [], ◌∷◌, ◌++◌, Bool, true, false, cond, nat_eq, nat_lt, ◌&&◌, not, if◌then◌else◌, Option, Some, None, IfSome, length, length-append, length-drop, get_or, drop, Bor, refl, ap, sym, subst, subst₂, ⊎_elim, ◌∙◌, arith, append_assoc, append-nil}
+use Rattle.std.proofs.Common.{◌≡◌, ◌≢◌, ℕ, zero, suc, ◌+◌, ◌*◌, ◌-◌, ◌/◌, ◌<◌, ◌≤◌, min, List, [], ◌∷◌, ◌++◌, Bool, true, false, cond, nat_eq, nat_lt, ◌&&◌, not, if◌then◌else◌, Option, Some, None, IfSome, length, length-append, length-drop, get_or, drop, Bor, refl, ap, sym, subst, subst₂, ⊎_elim, ◌∙◌, arith, append_assoc, append-nil, ap₂}
 use Rattle.std.specs.Bool.{OnTrue}
 use Rattle.std.specs.Ordering.{is_eq, nat_cmp, ordering_then}
 use Rattle.std.specs.declared.cmp.Ordering.{Ordering}
 use Rattle.std.specs.declared.cmp.Ordering.TheVariants.{Less, Equal, Greater}
+use native.Mathlib.Nat.{min-eq_right}
 use Rattle.std.proofs.lemmas.Bool.Decides.{nat_tests}
 use Rattle.std.proofs.lemmas.List.{drop_all}
+use Rattle.uca_lanes.specs.Lanes.{IsSameRun}
 use Rattle.uca_order.specs.Levels.{lexicographic}
 use Rattle.uca_order.proofs.KeyOrder.{cmp_equal, cmp_greater, lexicographic_itself}
-use Rattle.uca_compact.specs.Forms.{AreRising, Form, IsForm, first_cell}
+use Rattle.uca_compact.specs.Forms.{AreRising, Form, IsForm, full, first_cell}
 use Rattle.uca_compact.specs.PlainLevels.{copies, is_lead, letters_after, letter_count}
 use Rattle.uca_compact.specs.CompactKeys.{cell, written, run_after, level_code}
 use Rattle.uca_compact.specs.StoredParts.{StoredLevel, weight_then, stored_level}
@@ -17,7 +19,7 @@ use Rattle.uca_compact.specs.declared.later_level.LaterLevel.{LaterLevel}
 use Rattle.uca_compact.specs.declared.stored.StoredEnd.{StoredEnd}
 use Rattle.uca_compact.specs.declared.stored.StoredEnd.TheVariants.{Next, Key, Single}
 use Rattle.uca_compact.specs.inside.StoredEnds.{level_of, next_of, weights_before, weight_of}
-use Rattle.uca_compact.specs.inside.LevelsRead.{IsWrittenTo, IsFirstLevel, AreFour, GoesOn, order_on, IsCodedTo, IsLaterLevel}
+use Rattle.uca_compact.specs.inside.LevelsRead.{IsWrittenTo, IsFirstLevel, AreFour, AreEight, GoesOn, order_on, IsCodedTo, IsLaterLevel}
 use Rattle.uca_compact.proofs.OnlyLevels.{weight_code}
 use Rattle.uca_compact.proofs.StoredSteps.{two_at, level_step, weights_step, single_left}
 
@@ -239,6 +241,66 @@ all_same bytes w count index end so_far =
     let left : count - index ≡ 0 = omega (arith, end) in
     subst₂ (λ (n m : ℕ). GoesOn bytes (drop n bytes) w count m) at left so_far
 
+-- weights that are all the same, from the first on
+pub all_plain : (bytes : List ℕ) (w count : ℕ) → 0 < w → count ≤ length bytes / 2 → ((i : ℕ) → i < count → weight_of bytes (2 * i) ≡ w)
+    → GoesOn bytes (drop (2 * count) bytes) w count 0
+all_plain bytes w count some fits all = all_same bytes w count count refl (so_far count (omega arith))
+  where
+    so_far : (n : ℕ) → n ≤ count → GoesOn bytes (drop (2 * n) bytes) w count (count - n)
+    so_far zero h = λ e is. let none : count - 0 ≡ count = omega arith in is ∙ ap (λ (n : ℕ). level_of e (copies w n)) none
+    so_far (suc n) h =
+        let next : n + 1 ≡ suc n = omega arith in
+        subst (λ (k : ℕ). GoesOn bytes (drop (2 * k) bytes) w count (count - k)) next
+        (same_again bytes w count n (weight_of bytes (2 * n)) some fits (omega (arith, h)) refl (all n (omega (arith, h))) (so_far n (omega (arith, h))))
+
+-- one of four weights
+four_at : (bytes : List ℕ) (w s i : ℕ) → AreFour bytes (2 * s) w → s ≤ i → i < s + 4 → weight_of bytes (2 * i) ≡ w
+four_at bytes w s i four from below = by_place (i - s) refl
+  where
+    by_place : (n : ℕ) → i - s ≡ n → weight_of bytes (2 * i) ≡ w
+    by_place zero e = let here : 2 * s ≡ 2 * i = omega (arith, e, from) in subst (λ (n : ℕ). weight_of bytes n ≡ w) here four.first
+    by_place (suc zero) e = let here : 2 * s + 2 ≡ 2 * i = omega (arith, e, from) in subst (λ (n : ℕ). weight_of bytes n ≡ w) here four.second
+    by_place (suc (suc zero)) e = let here : 2 * s + 4 ≡ 2 * i = omega (arith, e, from) in subst (λ (n : ℕ). weight_of bytes n ≡ w) here four.third
+    by_place (suc (suc (suc zero))) e = let here : 2 * s + 6 ≡ 2 * i = omega (arith, e, from) in subst (λ (n : ℕ). weight_of bytes n ≡ w) here four.fourth
+    by_place (suc (suc (suc (suc n)))) e = absurd (omega (arith, e, below))
+
+-- four times four weights, which may overlap, cover 4 to 16
+pub four_windows : (bytes : List ℕ) (w count last second third : ℕ) → 4 ≤ count → count ≤ 16 → last ≡ 2 * (count - 4)
+    → second ≡ min last 8 → third ≡ min last 16 → AreFour bytes 0 w → AreFour bytes second w → AreFour bytes third w → AreFour bytes last w
+    → (i : ℕ) → i < count → weight_of bytes (2 * i) ≡ w
+four_windows bytes w count last second third some few last_is second_is third_is first_four second_four third_four last_four i within =
+    by_first (nat_lt i 4) refl
+  where
+    in_third : 8 ≤ i → i + 4 < count → weight_of bytes (2 * i) ≡ w
+    in_third from before =
+        let here : third ≡ 2 * 8 = third_is ∙ min-eq_right (omega (arith, last_is, from, before)) in
+        four_at bytes w 8 i (subst (λ (n : ℕ). AreFour bytes n w) here third_four) from (omega (arith, few, before))
+
+    in_second : 4 ≤ i → i + 4 < count → (t : Bool) → nat_lt i 8 ≡ t → weight_of bytes (2 * i) ≡ w
+    in_second from before true test =
+        let here : second ≡ 2 * 4 = second_is ∙ min-eq_right (omega (arith, last_is, from, before)) in
+        four_at bytes w 4 i (subst (λ (n : ℕ). AreFour bytes n w) here second_four) from (grind (arith, nat_tests))
+    in_second from before false test = in_third (grind (arith, nat_tests)) before
+
+    by_last : 4 ≤ i → (t : Bool) → nat_lt (i + 4) count ≡ t → weight_of bytes (2 * i) ≡ w
+    by_last from true test = in_second from (grind (arith, nat_tests)) (nat_lt i 8) refl
+    by_last from false test =
+        let end : count ≤ i + 4 = grind (arith, nat_tests) in
+        four_at bytes w (count - 4) i (subst (λ (n : ℕ). AreFour bytes n w) last_is last_four) (omega (arith, end)) (omega (arith, within, some))
+
+    by_first : (t : Bool) → nat_lt i 4 ≡ t → weight_of bytes (2 * i) ≡ w
+    by_first true test = four_at bytes w 0 i first_four (omega arith) (grind (arith, nat_tests))
+    by_first false test = by_last (grind (arith, nat_tests)) (nat_lt (i + 4) count) refl
+
+-- what follows from four tests
+pub by_four : {A B C D P : Type 0} (a b c d : Bool) → OnTrue a A → OnTrue b B → OnTrue c C → OnTrue d D → (A → B → C → D → P)
+    → OnTrue (((a && b) && c) && d) P
+by_four true true true true x y z v h = h x y z v
+by_four true true true false x y z v h = tt
+by_four true true false d x y z v h = tt
+by_four true false c d x y z v h = tt
+by_four false b c d x y z v h = tt
+
 -- what follows from a test
 pub by_test : {P : Type 0} (t : Bool) → (t ≡ true → P) → OnTrue t P
 by_test true h = h refl
@@ -367,6 +429,68 @@ one_coded f bytes code new at run after count w order next so_far within is some
           ∙ orders more
           ∙ ap (λ (n : ℕ). order_on next f.common count n more) half_more;
     }
+
+-- one common weight more decides nothing, however the level compares so far
+same_on : (o : Ordering) (c count len : ℕ) (more : List ℕ) → order_on o c count len (c ∷ more) ≡ order_on o c count (len + 1) more
+same_on o c count len more = ap (ordering_then o) (order_same c c count len refl more)
+
+-- one common weight more makes a run longer
+common_coded : (f : Form) (bytes code : List ℕ) (at run count : ℕ) (order : Ordering) → IsCodedTo f bytes code at run count order → at + 1 < length bytes
+    → weight_of bytes at ≡ f.common → 0 < f.common → f.common < 65536 → run + 1 < f.longest → IsCodedTo f bytes code (at + 2) (run + 1) count order
+common_coded f bytes code at run count order so_far within is some small short =
+    let equal = cmp_equal f.common f.common refl in
+    let test : nat_eq (suc run) f.longest ≡ false = grind (arith, nat_tests) in
+    let next : suc run ≡ run + 1 = omega arith in
+    one_coded f bytes code code at run (run + 1) count f.common order order so_far within (sym is) (λ none. omega (arith, none, some)) small
+    (sym (ap (λ (o : Ordering). code ++ written f run f.common o) equal ∙ ap (λ (t : Bool). code ++ (if t then full f ∷ [] else [])) test ∙ append-nil code))
+    (sym (ap (run_after f run) equal ∙ ap (λ (t : Bool). if t then 0 else suc run) test ∙ next))
+    short (λ more. same_on order f.common count (at / 2) more)
+
+-- so many more do
+pub run_coded : (f : Form) (bytes code : List ℕ) (at run more place after count : ℕ) (order : Ordering) → IsCodedTo f bytes code at run count order
+    → ((k : ℕ) → k < more → weight_of bytes (at + 2 * k) ≡ f.common) → at + 2 * more ≤ length bytes → 0 < f.common → f.common < 65536 → run + more < f.longest
+    → place ≡ at + 2 * more → after ≡ run + more → IsCodedTo f bytes code place after count order
+run_coded f bytes code at run more place after count order so_far are within some small short place_is after_is =
+    subst₂ (λ (n m : ℕ). IsCodedTo f bytes code n m count order) (sym place_is) (sym after_is) (by_one more are within short)
+  where
+    by_one : (n : ℕ) → ((k : ℕ) → k < n → weight_of bytes (at + 2 * k) ≡ f.common) → at + 2 * n ≤ length bytes → run + n < f.longest
+        → IsCodedTo f bytes code (at + 2 * n) (run + n) count order
+    by_one zero all fits less =
+        let here : at ≡ at + 2 * 0 = omega arith in
+        let same : run ≡ run + 0 = omega arith in
+        subst₂ (λ (n m : ℕ). IsCodedTo f bytes code n m count order) here same so_far
+    by_one (suc n) all fits less =
+        let next : at + 2 * n + 2 ≡ at + 2 * suc n = omega arith in
+        let longer : run + n + 1 ≡ run + suc n = omega arith in
+        subst₂ (λ (k m : ℕ). IsCodedTo f bytes code k m count order) next longer
+        (common_coded f bytes code (at + 2 * n) (run + n) count order (by_one n (λ k h. all k (omega (arith, h))) (omega (arith, fits)) (omega (arith, less)))
+        (omega (arith, fits)) (all n (omega arith)) some small (omega (arith, less)))
+
+-- a weight of two bytes, eight times
+pub eight_are : (h l w : ℕ) → 256 * h + l ≡ w
+    → AreEight (h ∷ l ∷ h ∷ l ∷ h ∷ l ∷ h ∷ l ∷ h ∷ l ∷ h ∷ l ∷ h ∷ l ∷ h ∷ l ∷ []) w
+eight_are h l w is zero below = is
+eight_are h l w is (suc zero) below = is
+eight_are h l w is (suc (suc zero)) below = is
+eight_are h l w is (suc (suc (suc zero))) below = is
+eight_are h l w is (suc (suc (suc (suc zero)))) below = is
+eight_are h l w is (suc (suc (suc (suc (suc zero))))) below = is
+eight_are h l w is (suc (suc (suc (suc (suc (suc zero)))))) below = is
+eight_are h l w is (suc (suc (suc (suc (suc (suc (suc zero))))))) below = is
+eight_are h l w is (suc (suc (suc (suc (suc (suc (suc (suc k)))))))) below = absurd (omega arith)
+
+-- the weights that have the same bytes are this one
+pub run_are : (bytes eight : List ℕ) (at same w k : ℕ) → IsSameRun bytes eight at 0 16 same → AreEight eight w → k < same / 2
+    → weight_of bytes (at + 2 * k) ≡ w
+run_are bytes eight at same w k run are below =
+    let here : 0 + 2 * k ≡ 2 * k = omega arith in
+    let beside : 0 + (2 * k + 1) ≡ 2 * k + 1 = omega arith in
+    let first = run.are (2 * k) (omega (arith, below)) ∙ ap (λ (n : ℕ). get_or eight n 0) here in
+    let second = run.are (2 * k + 1) (omega (arith, below)) ∙ ap (λ (n : ℕ). get_or eight n 0) beside in
+    let within = run.within in
+    let next : at + (2 * k + 1) ≡ at + 2 * k + 1 = omega arith in
+    ap₂ (λ (a b : ℕ). 256 * a + b) first (subst (λ (n : ℕ). get_or bytes n 0 ≡ get_or eight (2 * k + 1) 0) next second)
+    ∙ are k (omega (arith, below, within))
 
 -- the level ends there
 coded_ended : (f : Form) (bytes code : List ℕ) (at count : ℕ) (order : Ordering) (found : LaterLevel) (so_far : IsCodedTo f bytes code at found.run count order)

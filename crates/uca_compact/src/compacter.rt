@@ -25,8 +25,8 @@ use uca_books::Book;
 use uca_weights::{Depth, Settings, Weighting};
 
 /// Makes compact keys of stored keys, and stored keys of these again. It needs no text and no table. With its first
-/// compact key it takes 12,288 bytes for the cells of weights that it found. It keeps room for level 1 of the longest
-/// key: up to one and a half times its bytes.
+/// compact key it takes 12,288 bytes for what it found of weights. It keeps room for what the levels of the longest key
+/// were written as: for level 1 that is up to three times the bytes of the key.
 #[derive(Drop)]
 pub struct KeyCompacter<A: Allocator = Global> {
     book: Book<A>,

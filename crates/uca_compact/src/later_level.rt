@@ -6,13 +6,14 @@ ghost use Rattle.uca_compact.specs.Forms.{IsForm};
 ghost use Rattle.uca_compact.specs.PlainLevels.{copies};
 ghost use Rattle.uca_compact.specs.Programs.{form_of};
 ghost use Rattle.uca_compact.specs.StoredParts.{stored_level};
-ghost use Rattle.uca_compact.specs.inside.StoredEnds.{level_of};
-ghost use Rattle.uca_compact.specs.inside.LevelsRead.{AreFour, GoesOn, order_on, IsLaterLevel};
+ghost use Rattle.uca_compact.specs.inside.StoredEnds.{level_of, weight_of};
+ghost use Rattle.uca_compact.specs.inside.LevelsRead.{AreFour, AreEight, GoesOn, order_on, IsLaterLevel};
 
 use crate::levels::{LevelForm, push_weight};
 use crate::stored::{StoredEnd, weight_at};
 use std::alloc::{AllocError, Allocator};
 use std::cmp::Ordering;
+use uca_lanes::same_of_sixteen;
 
 /// A level after others, whose weights were coded but for the last run and the end.
 #[derive(Clone, Copy)]
@@ -21,7 +22,7 @@ pub(crate) struct LaterLevel<'a> {
     pub(crate) order: Ordering,
     /// How many weights it has.
     pub(crate) len: usize,
-    /// How many common weights the last run has, which is not written yet.
+    /// How many common weights the last run has, which is not written yet; 0 if the level is plain.
     pub(crate) run: u32,
     /// How it ends.
     pub(crate) end: StoredEnd<'a>,
@@ -56,9 +57,37 @@ fn are_four(bytes: &[u8], at: usize, weight: u32) -> bool
     found == 0x1_0001_0001_0001 * u64::from(weight)
 }
 
-// Whether these bytes begin with so many times one weight. Four weights are compared at a time.
+// A weight, eight times.
+fn eight_of(weight: u32) -> [u8; 16]
+    requires { weight < 65536 }
+    ensures { AreEight result weight }
+{
+    let high = (weight / 256) as u8;
+    let low = (weight % 256) as u8;
+    [
+        high, low, high, low, high, low, high, low, high, low, high, low, high, low, high, low,
+    ]
+}
+
+// How many weights from this position on are the one that is there eight times: at most eight and at most `most`, and
+// none if fewer than eight are left.
 #[inline(always)]
-fn begins_plain(bytes: &[u8], weight: u32, count: usize) -> bool
+fn run_of(bytes: &[u8], at: usize, eight: &[u8; 16], most: u32) -> u32
+    requires { at ≤ length bytes.now }
+    ensures few { result ≤ most }
+    ensures within { at + 2 * result ≤ length bytes.now }
+    ensures are { (w k : ℕ) → AreEight eight.now w → k < result → weight_of bytes.now (at + 2 * k) ≡ w }
+{
+    if bytes.len() - at < 16 {
+        return 0;
+    }
+    let same = same_of_sixteen(bytes, at, eight);
+    most.min((same / 2) as u32)
+}
+
+// Whether these bytes begin with so many times one weight. Four weights are compared at a time.
+#[inline(never)]
+fn begins_by_fours(bytes: &[u8], weight: u32, count: usize) -> bool
     requires some { 0 < weight }
     requires small { weight < 65536 }
     requires within { count ≤ length bytes.now / 2 }
@@ -75,6 +104,25 @@ fn begins_plain(bytes: &[u8], weight: u32, count: usize) -> bool
         }
     }
     true
+}
+
+// Whether these bytes begin with so many times one weight. 4 to 16 weights are compared as four numbers of four weights,
+// which may overlap: a loop would end elsewhere for each text, and no processor foretells that.
+#[inline(always)]
+fn begins_plain(bytes: &[u8], weight: u32, count: usize) -> bool
+    requires some { 0 < weight }
+    requires small { weight < 65536 }
+    requires within { count ≤ length bytes.now / 2 }
+    ensures { OnTrue result (GoesOn bytes.now (drop (2 * count) bytes.now) weight count 0) }
+{
+    if count < 4 || count > 16 {
+        return begins_by_fours(bytes, weight, count);
+    }
+    let last = 2 * (count - 4);
+    are_four(bytes, 0, weight)
+        & are_four(bytes, last.min(8), weight)
+        & are_four(bytes, last.min(16), weight)
+        & are_four(bytes, last, weight)
 }
 
 // How a level ends that is so many times one weight; `None` if these bytes begin another one.
@@ -114,7 +162,7 @@ fn order_by_len(order: Ordering, len: usize, count: usize) -> Ordering
     }
 }
 
-// Codes a level, and compares it to `count` times its common weight.
+// Codes a level, and compares it to `count` times its common weight. Eight of these are looked at a time.
 #[inline(never)]
 fn code_level<'a, A: Allocator>(
     bytes: &'a [u8],
@@ -122,17 +170,26 @@ fn code_level<'a, A: Allocator>(
     count: usize,
     code: &mut Vec<u8, A>,
 ) -> Result<LaterLevel<'a>, AllocError>
-    requires { IsForm (form_of form.now) }
+    requires form { IsForm (form_of form.now) }
+    requires common { 0 < form.now.common }
     ensures level { IfOk result (IsLaterLevel (form_of form.now) bytes.now count code.new.items) }
     ensures short { IfOk result (λ level. level.run < form.now.longest) }
     ensures few { IfOk result (λ level. level.len < 2 ^ 63) }
 {
     code.clear();
     let common = u32::from(form.common);
+    let longest = u32::from(form.longest);
+    let eight = eight_of(common);
     let mut order = Ordering::Equal;
     let mut run = 0;
     let mut at = 0;
     while at + 1 < bytes.len() {
+        let more = run_of(bytes, at, &eight, longest - 1 - run);
+        if more > 0 {
+            run += more;
+            at += 2 * more as usize;
+            continue;
+        }
         let weight = weight_at(bytes, at);
         if weight == 0 {
             return Ok(LaterLevel {
@@ -160,7 +217,7 @@ fn code_level<'a, A: Allocator>(
 }
 
 /// Codes a level, over the bytes that were there, and compares it to the plain one: `count` times its common weight.
-/// Nothing is written if it is that one.
+/// If it is that one, nothing need be written.
 #[inline(always)]
 pub(crate) fn read_later<'a, A: Allocator>(
     bytes: &'a [u8],

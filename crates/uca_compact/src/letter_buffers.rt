@@ -9,7 +9,7 @@ use std::alloc::{AllocError, Allocator};
 /// How many weights have entries of their own. Two weights that are a multiple of so many apart share one.
 pub(crate) const ENTRIES: usize = 2048;
 
-/// An entry that says nothing. No weight is so great.
+/// An entry that says nothing: its weight would be 65,536.
 const NO_ENTRY: u32 = 0x0100_0000;
 
 /// How many hints there are: each is for 16 weights.

@@ -14,9 +14,10 @@ ghost use Rattle.uca_owned.specs.Causes.{IsAcceptedText, IsAcceptedBy, IsKeyCaus
 use crate::faults::{CompareFault, KeyFault};
 use crate::reading::{read_after, read_text};
 use std::cmp::Ordering;
+use uca_lanes::shared_len;
 use uca_match::OwnedCollation;
 use uca_text::TextFault;
-use uca_text_comparer::{PairFault, TextComparison, shared_len};
+use uca_text_comparer::{PairFault, TextComparison};
 use uca_weights::Settings;
 
 /// A text of so many bytes is accepted: what is read of it has at most 64 code points in Normalization Form D.

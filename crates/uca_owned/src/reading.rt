@@ -1,14 +1,16 @@
-//! Texts that are given as bytes. Most are ASCII, which is tested eight bytes at a time.
+//! Texts that are given as bytes. Most are ASCII, which is found out many bytes at a time.
 
 ghost use Rattle.std.specs.Prelude.{◌≡◌, ◌≤◌, length, take, IfSome, MatchOption};
 ghost use Rattle.std.specs.Str.{IsUtf8};
+
+use uca_lanes::are_ascii;
 
 // The text of these bytes, if they are ASCII.
 #[inline(always)]
 fn read_ascii(bytes: &[u8]) -> Option<&str>
     ensures { IfSome result (λ text. (text.now ≡ bytes.now) × IsUtf8 bytes.now) }
 {
-    if bytes.is_ascii() {
+    if are_ascii(bytes) {
         Some(unsafe { str::from_utf8_unchecked(bytes) })
     } else {
         None
@@ -29,8 +31,8 @@ pub(crate) fn read_text(bytes: &[u8]) -> Option<&str>
     }
 }
 
-/// The text of these bytes, if they are UTF-8. So many of the first ones are those of another text too, and are not read
-/// again.
+/// The text of these bytes, if they are UTF-8. So many of the first ones are those of another text too. Unless all bytes
+/// are ASCII, these are not checked again.
 #[inline(always)]
 pub(crate) fn read_after<'t>(text: &str, shared: usize, bytes: &'t [u8]) -> Option<&'t str>
     requires same { take shared text.now ≡ take shared bytes.now }

@@ -3,7 +3,7 @@
 //! For example, `cart` and `cast` both begin with `ca`, and `r` and `s` differ at level 1. No code point of `ca` is looked
 //! up: a text may be cut before a plain code point, whatever comes before it. How many elements that is stays unknown.
 
-ghost use Rattle.std.specs.Prelude.{◌≡◌, ◌≢◌, ◌<◌, ◌≤◌, chars, length, get_or, take, IfSome};
+ghost use Rattle.std.specs.Prelude.{◌≡◌, chars, take, IfSome};
 ghost use Rattle.uca_elements.specs.Collations.{Collation};
 ghost use Rattle.uca_plain.specs.PointCache.{AreTrueEntries};
 ghost use Rattle.uca_text_comparer.specs.inside.Beginnings.{HaveRests, DifferFirst};
@@ -15,23 +15,8 @@ use uca_comparison::walk::{LevelStep, look_at};
 use uca_plain::plain::PointCache;
 use uca_weights::Weighting;
 
-/// How many bytes two byte strings have in common at their beginning.
-#[inline]
-pub fn shared_len(left: &[u8], right: &[u8]) -> usize
-    ensures same { take result left.now ≡ take result right.now }
-    ensures left { result ≤ length left.now }
-    ensures right { result ≤ length right.now }
-    ensures apart { result < length left.now → result < length right.now → get_or left.now result 0 ≢ get_or right.now result 0 }
-{
-    let most = left.len().min(right.len());
-    let mut shared = 0;
-    while shared < most && left[shared] == right[shared] {
-        shared += 1;
-    }
-    shared
-}
-
-// What follows the code points with which two texts begin. Their first bytes are the same, so many of them.
+// What follows the code points with which two texts begin. Their first bytes are the same, so many of them. There is always
+// a result, but no clause says so.
 #[inline(always)]
 fn skip_same<'t>(left: &'t str, right: &'t str, shared: usize) -> Option<(&'t str, &'t str)>
     requires { take shared left.now ≡ take shared right.now }

@@ -14,7 +14,7 @@ ghost use Rattle.uca_text_comparer.specs.Causes.{IsPairCause};
 ghost use Rattle.uca_text_comparer.specs.inside.Beginnings.{AreReadAsText};
 ghost use Rattle.uca_text_comparer.specs.inside.Pairs.{ComparesPair, IsPairStop};
 
-use crate::beginnings::{order_rests, shared_len};
+use crate::beginnings::order_rests;
 use crate::decided::is_decided;
 use crate::faults::PairFault;
 use crate::normals::Normals;
@@ -24,6 +24,7 @@ use std::alloc::{Allocator, Global};
 use std::cmp::Ordering;
 use uca_comparison::Compared;
 use uca_elements::{Collator, Lookup};
+use uca_lanes::shared_len;
 use uca_numbers::{WrittenText, has_no_digit};
 use uca_weights::{Depth, Numbers, Settings, Weighting};
 
@@ -124,7 +125,7 @@ impl<A: Allocator> TextComparison<A> {
     }
 
     /// The order of two texts whose first bytes are the same, so many of them, as
-    /// [`order_beginnings`](TextComparison::order_beginnings) tells it.
+    /// [`order_beginnings`](TextComparison::order_beginnings) tells it. There is no result if they share a code point more.
     pub fn order_after(
         &self,
         settings: Settings,

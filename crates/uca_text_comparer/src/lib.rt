@@ -20,7 +20,8 @@
 //! collator, or the command `uca compare`.
 //!
 //! Whoever needs no numbers of elements asks `order_beginnings` first. It looks up only the code points that come after
-//! what two short texts have in common (`beginnings`). Whoever knows how many bytes that are asks `order_after`.
+//! what two short texts have in common (`beginnings`). Whoever knows how many bytes they share asks
+//! `order_after`.
 #![tactic(auto)]
 
 mod beginnings;
@@ -35,7 +36,6 @@ mod primaries;
 mod shared;
 pub mod text_comparer;
 
-pub use beginnings::shared_len;
 pub use comparison::TextComparison;
 pub use faults::PairFault;
 pub use plain_comparison::PlainComparison;

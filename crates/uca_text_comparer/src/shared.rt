@@ -23,9 +23,9 @@ pub(crate) struct Rest<'t> {
     pub(crate) passed: u64,
 }
 
-/// The code point with which two texts begin, and what follows it in each.
+// The code point with which two texts begin, and what follows it in each.
 #[inline(always)]
-pub(crate) fn split_shared<'t>(left: &'t str, right: &'t str) -> Option<(char, &'t str, &'t str)>
+fn split_shared<'t>(left: &'t str, right: &'t str) -> Option<(char, &'t str, &'t str)>
     ensures { IfSome result (λ parts. (chars left.now ≡ parts.0 ∷ chars parts.1.now) × (chars right.now ≡ parts.0 ∷ chars parts.2.now)) }
 {
     let (point, left) = split_first(left)?;

@@ -41,6 +41,10 @@ pub record AreFour (bytes : List ℕ) (at w : ℕ) : Type 0 where
   pub third : weight_of bytes (at + 4) ≡ w
   pub fourth : weight_of bytes (at + 6) ≡ w
 
+-- eight weights are all this one
+abbrev pub AreEight : (bytes : List ℕ) → (w : ℕ) → Type 0
+AreEight bytes w = (k : ℕ) → k < 8 → weight_of bytes (2 * k) ≡ w
+
 -- These bytes begin a level that is so many times one weight, if the rest of them begins one that is it so many times
 -- less.
 abbrev pub GoesOn : (bytes rest : List ℕ) → (w count left : ℕ) → Type 0

@@ -1,23 +1,14 @@
--- No weight yet, four more, the weights after all fours, one more, and all of them.
-use Rattle.std.proofs.Common.{arith}
-use Rattle.uca_compact.proofs.LevelsRead.{goes_on_from_start, same_four, after_fours, same_again, all_same}
+-- All weights are the same, since those of four windows are.
+use Rattle.std.proofs.Common.{◌*◌, ◌-◌, refl, arith}
+use Rattle.uca_compact.proofs.LevelsRead.{all_plain, by_four, four_windows}
 use Rattle.uca_compact.proofs.later_level.begins_plain.Goals as goal
 
-pub loop-four-init : goal.loop-four-init
-loop-four-init c = goes_on_from_start c.args.bytes.now c.args.weight c.args.count
-
-pub loop-four-preserved : goal.loop-four-preserved
-loop-four-preserved c =
-    same_four c.args.bytes.now c.args.weight c.args.count c.loop-four.four c.requires.some c.requires.within c.loop-four-test.true
-    c.if-not-are_four.ensures c.loop-four.invariant
-
-pub loop-index-init : goal.loop-index-init
-loop-index-init c = after_fours c.args.bytes.now c.args.weight c.args.count c.loop-four.four _ (omega arith) c.loop-four.invariant
-
-pub loop-index-preserved : goal.loop-index-preserved
-loop-index-preserved c =
-    same_again c.args.bytes.now c.args.weight c.args.count c.loop-index.index c.weight_at.result c.requires.some c.requires.within c.loop-index-test.true
-    c.weight_at.ensures.is c.if-weight_at-weight.false c.loop-index.invariant
-
 pub returns : goal.returns
-returns c = all_same c.args.bytes.now c.args.weight c.args.count c.loop-index.index (omega arith) c.loop-index.invariant
+returns c =
+    let bytes = c.args.bytes.now in
+    let w = c.args.weight in
+    let count = c.args.count in
+    by_four c.are_four.result c.are_four-2.result c.are_four-3.result c.are_four-4.result c.are_four.ensures c.are_four-2.ensures c.are_four-3.ensures c.are_four-4.ensures
+    (λ first second third last. all_plain bytes w count c.requires.some c.requires.within
+    (four_windows bytes w count (2 * (count - 4)) c.min.result c.min-2.result (omega (arith, c.if-count-lt4.false)) (omega (arith, c.if-count-gt16.false)) refl
+    c.min.ensures c.min-2.ensures first second third last))

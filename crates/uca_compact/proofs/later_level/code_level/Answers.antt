@@ -2,10 +2,20 @@
 use Rattle.std.proofs.Common.{◌≡◌, ℕ, ◌+◌, ◌-◌, ◌/◌, ◌∷◌, length, length-drop, drop, refl, subst, arith}
 use Rattle.std.proofs.lemmas.List.{take_all}
 use Rattle.uca_compact.specs.Programs.{form_of}
-use Rattle.uca_compact.specs.inside.LevelsRead.{order_on}
-use Rattle.uca_compact.proofs.LevelsRead.{one_coded, coded_next, coded_key, coded_single}
+use Rattle.uca_compact.specs.inside.LevelsRead.{AreEight, order_on}
+use Rattle.uca_compact.proofs.LevelsRead.{one_coded, run_coded, coded_next, coded_key, coded_single}
 use Rattle.uca_compact.proofs.later_level.code_level.Goals as goal
 use Rattle.uca_compact.proofs.later_level.code_level.Goals.{then-at-bytes, else-at-bytes}
+
+pub loop-at-preserved-then-more-gt0 : goal.loop-at-preserved-then-more-gt0
+loop-at-preserved-then-more-gt0 g c =
+    let f = form_of c.args.form.now in
+    let common = c.from-common.ensures in
+    let few = c.run_of-more.ensures.few in
+    let short = c.loop-at.invariant.short in
+    run_coded f c.args.bytes.now c.loop-at.code.items c.loop-at.at c.loop-at.run c.run_of-more.result _ _ c.args.count c.loop-at.order c.loop-at.invariant
+    (λ k below. c.run_of-more.ensures.are f.common k (subst (λ (n : ℕ). AreEight c.eight_of-eight.result n) common c.eight_of-eight.ensures) below)
+    c.run_of-more.ensures.within c.requires.common c.requires.form.common (omega (arith, few, short, c.from-longest.ensures)) refl refl
 
 pub loop-at-preserved : goal.loop-at-preserved
 loop-at-preserved g c =

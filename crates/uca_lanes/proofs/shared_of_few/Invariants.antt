@@ -1,6 +1,6 @@
 -- the bytes so far are the same
 use Rattle.std.proofs.Common.{◌≡◌, ◌≤◌, ◌-◌, take}
-use Rattle.uca_text_comparer.proofs.beginnings.shared_len.Given as goal
+use Rattle.uca_lanes.proofs.shared_of_few.Given as goal
 
 abbrev pub invariant-loop-shared : goal.invariant-loop-shared
 invariant-loop-shared l = record {

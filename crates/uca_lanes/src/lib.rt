@@ -1,0 +1,122 @@
+//! Bytes, eight or sixteen at a time: whether they are ASCII, and how many of them two texts have in common.
+//!
+//! A loop over single bytes would end elsewhere for each text, and no processor foretells that. Fewer than eight bytes are
+//! taken one by one.
+#![tactic(auto)]
+
+ghost use Rattle.std.specs.Prelude.{◌≡◌, ◌≢◌, ℕ, ◌+◌, ◌<◌, ◌≤◌, length, get_or, take};
+ghost use Rattle.std.specs.Bool.{OnTrue};
+ghost use Rattle.std.specs.Str.{IsAscii};
+ghost use Rattle.uca_lanes.specs.Lanes.{AreAscii, IsSameRun, first_set};
+
+use std::simd::prelude::*;
+
+// Whether the eight bytes from this position on are ASCII.
+#[inline(always)]
+fn are_eight_ascii(bytes: &[u8], at: usize) -> bool
+    requires { at + 8 ≤ length bytes.now }
+    ensures { OnTrue result (AreAscii bytes.now at 8) }
+{
+    let lanes = u8x8::from_slice(&bytes[at..]);
+    lanes.simd_ge(u8x8::splat(0x80)).to_bitmask() == 0
+}
+
+// Whether the sixteen bytes from this position on are ASCII.
+#[inline(always)]
+fn are_sixteen_ascii(bytes: &[u8], at: usize) -> bool
+    requires { at + 16 ≤ length bytes.now }
+    ensures { OnTrue result (AreAscii bytes.now at 16) }
+{
+    let lanes = u8x16::from_slice(&bytes[at..]);
+    lanes.simd_ge(u8x16::splat(0x80)).to_bitmask() == 0
+}
+
+/// Whether all bytes are ASCII. Of 8 to 32 bytes it is found out with no loop. `false` says nothing.
+#[inline(always)]
+pub fn are_ascii(bytes: &[u8]) -> bool
+    ensures { OnTrue result (IsAscii bytes.now) }
+{
+    let len = bytes.len();
+    if len < 8 || len > 32 {
+        return bytes.is_ascii();
+    }
+    if len < 16 {
+        are_eight_ascii(bytes, 0) & are_eight_ascii(bytes, len - 8)
+    } else {
+        are_sixteen_ascii(bytes, 0) & are_sixteen_ascii(bytes, len - 16)
+    }
+}
+
+// The place of the lowest bit that is set, or the number of lanes if none is.
+#[inline(always)]
+fn first_set(mask: u64, lanes: usize) -> usize
+    ensures { result ≡ first_set mask lanes }
+{
+    if mask == 0 {
+        lanes
+    } else {
+        mask.trailing_zeros() as usize
+    }
+}
+
+/// How many of sixteen bytes are the same in both, before the first that is not: those of the left ones from a position
+/// on, and the right ones. So many have to be left there.
+#[inline(always)]
+pub fn same_of_sixteen(left: &[u8], at: usize, right: &[u8; 16]) -> usize
+    requires { at + 16 ≤ length left.now }
+    ensures { IsSameRun left.now right.now at 0 16 result }
+{
+    let one = u8x16::from_slice(&left[at..]);
+    first_set(one.simd_ne(u8x16::from_array(*right)).to_bitmask(), 16)
+}
+
+// How many of the eight bytes from this position on are the same in both, before the first that is not.
+#[inline(always)]
+fn same_of_eight(left: &[u8], right: &[u8], at: usize) -> usize
+    requires left { at + 8 ≤ length left.now }
+    requires right { at + 8 ≤ length right.now }
+    ensures { IsSameRun left.now right.now at at 8 result }
+{
+    let one = u8x8::from_slice(&left[at..]);
+    let other = u8x8::from_slice(&right[at..]);
+    first_set(one.simd_ne(other).to_bitmask(), 8)
+}
+
+// How many bytes two strings of bytes have in common at their beginning, one byte at a time.
+#[inline(always)]
+fn shared_of_few(left: &[u8], right: &[u8]) -> usize
+    ensures same { take result left.now ≡ take result right.now }
+    ensures left { result ≤ length left.now }
+    ensures right { result ≤ length right.now }
+    ensures apart { result < length left.now → result < length right.now → get_or left.now result 0 ≢ get_or right.now result 0 }
+{
+    let most = left.len().min(right.len());
+    let mut shared = 0;
+    while shared < most && left[shared] == right[shared] {
+        shared += 1;
+    }
+    shared
+}
+
+/// How many bytes two strings of bytes have in common at their beginning.
+#[inline]
+pub fn shared_len(left: &[u8], right: &[u8]) -> usize
+    ensures same { take result left.now ≡ take result right.now }
+    ensures left { result ≤ length left.now }
+    ensures right { result ≤ length right.now }
+    ensures apart { result < length left.now → result < length right.now → get_or left.now result 0 ≢ get_or right.now result 0 }
+{
+    let most = left.len().min(right.len());
+    if most < 8 {
+        return shared_of_few(left, right);
+    }
+    let mut shared = 0;
+    while most - shared >= 8 {
+        let same = same_of_eight(left, right, shared);
+        if same < 8 {
+            return shared + same;
+        }
+        shared += 8;
+    }
+    most - 8 + same_of_eight(left, right, most - 8)
+}
