@@ -7,7 +7,8 @@
 
 With no arguments the table, the data file and the lines are those of key_bytes.py. The book is examples/books/general.book. Keys are as `keys --lines`
 prints them. MB of key bytes are half of the digits of the whole keys: the tab and the line are not counted, though they are read and written. Times are processor
-time, user and system, the least of the runs, without the start: the same command over an empty input. Each compact key is expanded once, and has to be the key.
+time, user and system, the least of the runs, without the start: the same command over an empty input. So that a run takes longer than a start, the lines of a
+file are repeated until they have 4 MB. Each compact key is expanded once, and has to be the key.
 
 Where the program has no option `--compact` of `uca keys`, this is left out, and a line says so. It needs what key_bytes.py needs, but no ICU4C. Run it where
 nothing else runs, and compare figures of one output alone.
@@ -31,6 +32,7 @@ import key_bytes  # noqa: E402
 
 BOOK = f"{key_bytes.BOOKS}/general.book"
 COUNTED = 20_000
+ENOUGH = 4_000_000  # bytes of lines for a time
 
 
 class Runs:
@@ -64,6 +66,15 @@ def same(one, other):
     return subprocess.run(["cmp", "-s", one, other], check=False).returncode == 0
 
 
+def repeated(lines, work):
+    """A file with the lines of a file, again and again, until they have enough bytes."""
+    path = f"{work}/repeated"
+    with open(lines, "rb") as source, open(path, "wb") as out:
+        given = source.read()
+        out.writelines(given for _ in range(-(-ENOUGH // len(given))))
+    return path
+
+
 def digits(path):
     """How many digits the keys of a file have."""
     with open(path, "rb") as file:
@@ -72,6 +83,7 @@ def digits(path):
 
 def measure(runs, weighting, table, data, lines, work):
     """A row of the table: the lines of a file under a weighting."""
+    name, lines = os.path.basename(lines), repeated(lines, work)
     keys, compact, again = (f"{work}/{it}" for it in ("keys", "compact", "again"))
     make = ["keys", "--lines", "--weighting", weighting]
     compacting, expanding = ([it, "--weighting", weighting, BOOK] for it in ("compact", "expand"))
@@ -79,12 +91,12 @@ def measure(runs, weighting, table, data, lines, work):
     runs.printed(compacting, keys, compact)
     runs.printed(expanding, compact, again)
     if not same(keys, again):
-        sys.exit(f"{lines}: the keys of the compact keys are others")
+        sys.exit(f"{name}: the keys of the compact keys are others")
     megabytes = digits(keys) / 2e6
     making = runs.seconds([*make, table, data], lines)
     both = [megabytes / runs.seconds(words, given) for words, given in ((compacting, keys), (expanding, compact))]
     direct = beside_keys(runs, [*make, "--compact", BOOK, table, data], lines, compact, again, making)
-    print(f"| {os.path.basename(lines)} | {weighting} | {megabytes:.1f} | {making:.3f} | {both[0]:.0f} | {both[1]:.0f} | {direct} |", flush=True)
+    print(f"| {name} | {weighting} | {megabytes:.1f} | {making:.3f} | {both[0]:.0f} | {both[1]:.0f} | {direct} |", flush=True)
 
 
 def beside_keys(runs, words, lines, compact, out, making):
