@@ -1,5 +1,7 @@
-//! Tests of ranges of keys: both ends of those of one key.
+//! Tests of ranges of keys: both ends of those of one key. And of compact keys of levels.
 #![tactic(auto)]
 
+#[cfg(test)]
+mod levels;
 #[cfg(test)]
 mod ranges;

@@ -8,7 +8,7 @@ use std::cmp::Ordering;
 use std::cmp::Ordering::{Greater, Less};
 use std::test::Fail;
 use test_kit::{DATA, NUMBER_TABLE, data_of, holds, repeated, table_of};
-use uca_lanes::{are_ascii, shared_len};
+use uca_lanes::{is_utf8, shared_len};
 use uca_match::{Collator, Lookup, Trie};
 use uca_text_comparer::TextComparison;
 use uca_weights::{Depth, Numbers, Settings, Source, Weighting};
@@ -58,8 +58,81 @@ const BEGINNINGS: [(&str, &str, usize, Option<Ordering>); 17] = [
     ("aaaaaaaa\u{4e01}", "aaaaaaaa\u{4e02}", 10, None),
 ];
 
-/// Numbers of bytes. Fewer than 8 are tested in one way, 8 to 15, 16 to 32 and more in others.
-const COUNTS: [usize; 10] = [0, 1, 7, 8, 9, 15, 16, 31, 32, 33];
+/// Each row of table 3-7 of the Unicode Standard, by its first and its last code point.
+const WELL_FORMED: [&[u8]; 18] = [
+    &[0x00],
+    &[0x7F],
+    &[0xC2, 0x80],
+    &[0xDF, 0xBF],
+    &[0xE0, 0xA0, 0x80],
+    &[0xE0, 0xBF, 0xBF],
+    &[0xE1, 0x80, 0x80],
+    &[0xEC, 0xBF, 0xBF],
+    &[0xED, 0x80, 0x80],
+    &[0xED, 0x9F, 0xBF],
+    &[0xEE, 0x80, 0x80],
+    &[0xEF, 0xBF, 0xBF],
+    &[0xF0, 0x90, 0x80, 0x80],
+    &[0xF0, 0xBF, 0xBF, 0xBF],
+    &[0xF1, 0x80, 0x80, 0x80],
+    &[0xF3, 0xBF, 0xBF, 0xBF],
+    &[0xF4, 0x80, 0x80, 0x80],
+    &[0xF4, 0x8F, 0xBF, 0xBF],
+];
+
+/// Bytes that this table does not have. The first five have a byte 80 to BF too many, and the next five begin with a
+/// byte that begins nothing. Then come second and later bytes just outside of their range, and last code points that
+/// are cut.
+const MALFORMED: [&[u8]; 45] = [
+    &[0x80],
+    &[0xBF],
+    &[0xC2, 0x80, 0x80],
+    &[0xE1, 0x80, 0x80, 0x80],
+    &[0xF1, 0x80, 0x80, 0x80, 0x80],
+    &[0xC0, 0x80],
+    &[0xC1, 0xBF],
+    &[0xF5, 0x80, 0x80, 0x80],
+    &[0xF8, 0x80, 0x80, 0x80],
+    &[0xFF],
+    &[0xC2, 0x7F],
+    &[0xC2, 0xC0],
+    &[0xDF, 0x7F],
+    &[0xDF, 0xC2, 0x80],
+    &[0xE0, 0x80, 0x80],
+    &[0xE0, 0x9F, 0xBF],
+    &[0xE0, 0xC0, 0x80],
+    &[0xE1, 0x7F, 0x80],
+    &[0xE1, 0xC0, 0x80],
+    &[0xE1, 0x80, 0x7F],
+    &[0xE1, 0x80, 0xC0],
+    &[0xED, 0xA0, 0x80],
+    &[0xED, 0xBF, 0xBF],
+    &[0xEF, 0xBF, 0xC2, 0x80],
+    &[0xF0, 0x80, 0x80, 0x80],
+    &[0xF0, 0x8F, 0xBF, 0xBF],
+    &[0xF0, 0xC0, 0x80, 0x80],
+    &[0xF1, 0x7F, 0x80, 0x80],
+    &[0xF1, 0x80, 0x7F, 0x80],
+    &[0xF1, 0x80, 0xC0, 0x80],
+    &[0xF1, 0x80, 0x80, 0x7F],
+    &[0xF1, 0x80, 0x80, 0xC0],
+    &[0xF4, 0x90, 0x80, 0x80],
+    &[0xF4, 0xBF, 0xBF, 0xBF],
+    &[0xC2],
+    &[0xE0],
+    &[0xE1],
+    &[0xE1, 0x80],
+    &[0xE0, 0xA0],
+    &[0xED, 0x9F],
+    &[0xF0, 0x90],
+    &[0xF1],
+    &[0xF1, 0x80],
+    &[0xF1, 0x80, 0x80],
+    &[0xF4, 0x8F, 0xBF],
+];
+
+/// How many ASCII bytes come before those of the two lists above.
+const BEFORE: [usize; 16] = [0, 1, 2, 3, 4, 5, 7, 8, 12, 13, 15, 16, 17, 29, 31, 32];
 
 fn settings_by(numbers: Numbers) -> Settings {
     Settings {
@@ -106,22 +179,37 @@ fn check_known_beginnings(comparison: &TextComparison) -> Result<(), Fail> {
     )
 }
 
-fn set_byte(bytes: &mut [u8], place: usize, byte: u8) {
-    if let Some(here) = bytes.get_mut(place) {
-        *here = byte;
+/// Bytes after ASCII ones, and the same before an ASCII one too.
+fn check_utf8_of(alloc: Global, part: &[u8], wanted: bool) -> Result<(), Fail> {
+    for count in BEFORE {
+        let mut bytes = Vec::new(alloc);
+        bytes.resize(count, b'a')?;
+        bytes.extend_from_slice(part)?;
+        holds(is_utf8(bytes.as_slice()) == wanted, "at the end")?;
+        bytes.push(b'a')?;
+        holds(is_utf8(bytes.as_slice()) == wanted, "before ASCII")?;
     }
+    Ok(())
 }
 
-/// No byte is taken for ASCII that is not: 80 in each place.
-fn check_ascii(alloc: Global) -> Result<(), Fail> {
-    for count in COUNTS {
-        let mut bytes = Vec::new(alloc);
-        bytes.resize(count, 0x7F)?;
-        holds(are_ascii(bytes.as_slice()), "ASCII")?;
-        for place in 0..count {
-            set_byte(bytes.as_mut_slice(), place, 0x80);
-            holds(!are_ascii(bytes.as_slice()), "a byte 80")?;
-            set_byte(bytes.as_mut_slice(), place, 0x7F);
+/// Each length from 0 to 36 is reached: some are judged in ways of their own.
+fn check_utf8(alloc: Global) -> Result<(), Fail> {
+    holds(is_utf8(&[]), "no bytes")?;
+    for part in WELL_FORMED {
+        check_utf8_of(alloc, part, true)?;
+    }
+    for part in MALFORMED {
+        check_utf8_of(alloc, part, false)?;
+    }
+    for count in 1..20usize {
+        let text = repeated(alloc, "\u{e1}", count)?;
+        let bytes = text.as_bytes();
+        holds(is_utf8(bytes), "code points of two bytes")?;
+        if let Some((_, rest)) = bytes.split_first() {
+            holds(!is_utf8(rest), "without the first byte")?;
+        }
+        if let Some((_, rest)) = bytes.split_last() {
+            holds(!is_utf8(rest), "without the last byte")?;
         }
     }
     Ok(())
@@ -172,7 +260,7 @@ fn check_all<L: Lookup>(alloc: Global, collator: &Collator<L>) -> Result<(), Fai
     learn(&mut comparison, collator, KNOWN)?;
     check_pairs(&comparison)?;
     check_known_beginnings(&comparison)?;
-    check_ascii(alloc)?;
+    check_utf8(alloc)?;
     check_lengths(alloc, &comparison)?;
     check_by_value(&comparison)
 }

@@ -64,6 +64,7 @@ nobody = record {
     data_file = record { classes = []; core = []; other = [] };
     settings = record { weighting = Shifted; depth = Weights; numbers = AsText };
     key = [];
+    levels = [];
   };
   book = None;
 }

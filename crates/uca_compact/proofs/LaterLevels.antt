@@ -24,9 +24,6 @@ later_levels_is plain f forms earlier level later =
     (later_levels plain forms (earlier ++ level ∷ []) later) (is_eq-slice_cmp level (plain earlier))
 
 -- bytes that are added in turn
-pub two_added : (out a b : List ℕ) → (out ++ a) ++ b ≡ out ++ (a ++ (b ++ []))
-two_added out a b = append_assoc out a b ∙ ap (λ (xs : List ℕ). out ++ (a ++ xs)) (sym (append-nil b))
-
 pub three_added : (out a b c : List ℕ) → ((out ++ a) ++ b) ++ c ≡ out ++ (a ++ (b ++ (c ++ [])))
 three_added out a b c = append_assoc (out ++ a) b c ∙ append_assoc out a (b ++ c) ∙ ap (λ (xs : List ℕ). out ++ (a ++ (b ++ xs))) (sym (append-nil c))
 

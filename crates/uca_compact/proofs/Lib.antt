@@ -24,5 +24,5 @@ pub mod ExpandedKeys
 pub mod TwoBytes
 pub mod KeyBytes
 pub mod Lengths
-pub mod LevelsRead
-pub mod LevelsWritten
+pub mod LevelsPut
+pub mod WeightBytes

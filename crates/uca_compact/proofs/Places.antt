@@ -1,8 +1,9 @@
 -- The place of a weight among cells.
-use Rattle.std.proofs.Common.{◌≡◌, ℕ, zero, suc, ◌+◌, ◌-◌, ◌<◌, ◌≤◌, List, [], ◌∷◌, ◌++◌, Bool, true, false, cond, nat_lt, length, get_or, drop, take, set, ap, sym, ◌∙◌, ◌/◌, ◌%◌, arith}
-use Rattle.std.proofs.lemmas.List.{take_more, take_more_set, drop_at, length-take-le}
+use Rattle.std.proofs.Common.{◌≡◌, ℕ, zero, suc, ◌+◌, ◌-◌, ◌<◌, ◌≤◌, List, [], ◌∷◌, ◌++◌, Bool, true, false, cond, nat_lt, length, length-drop, get_or, drop, take, set, refl, ap, sym, ◌∙◌, arith}
+use Rattle.std.proofs.lemmas.List.{drop_at, drop-take, get_or-drop}
 use Rattle.std.proofs.lemmas.Bool.Decides.{nat_tests}
-use Rattle.uca_compact.specs.Forms.{AreRising, Form, first_cell}
+use Rattle.uca_compact.specs.declared.key_buffers.Entry.{Entry}
+use Rattle.uca_compact.specs.Forms.{AreRising, Form}
 use Rattle.uca_compact.specs.CompactKeys.{offset_bytes, cell}
 use Rattle.uca_compact.specs.inside.Places.{start_at, end_at, IsPlace, IsTrueEntry, AreTrueEntries}
 
@@ -45,30 +46,53 @@ place_written number start later end w i first last rising place starts ends =
     ∙ ap (λ (n : ℕ). (number + i) ∷ offset_bytes (n - start_at start later i) (w - start_at start later i)) ends
     ∙ sym (cell_is number start later end w i rising place)
 
--- ---- A weight that is written as one byte
+-- ---- What weights were written as
 
 -- what an entry says is true
-pub true_entry : (f : Form) (entries : List ℕ) (i : ℕ) → AreTrueEntries f entries → i < length entries → get_or entries i 0 < 16777216
-    → IsTrueEntry f (get_or entries i 0)
+pub true_entry : (f : Form) (entries : List Entry) (i : ℕ) (none : Entry) → AreTrueEntries f entries → i < length entries → IsTrueEntry f (get_or entries i none)
 unfolding AreTrueEntries
-true_entry f [] i all within low = absurd (omega (arith, within))
-true_entry f (entry ∷ entries) zero all within low = all.0 low
-true_entry f (entry ∷ entries) (suc i) all within low = true_entry f entries i all.1 (omega (arith, within)) low
+true_entry f [] i none all within = absurd (omega (arith, within))
+true_entry f (entry ∷ entries) zero none all within = all.0
+true_entry f (entry ∷ entries) (suc i) none all within = true_entry f entries i none all.1 (omega (arith, within))
 
--- its byte is put after others
-pub entry_put : (f : Form) (codes : List ℕ) (size known w entry : ℕ) → size + known < length codes → IsTrueEntry f entry → entry / 256 ≡ w
-    → take (size + (known + 1)) (set codes (size + known) (entry % 256)) ≡ take (size + known) codes ++ cell (first_cell f) 1 f.greater 65536 w
-entry_put f codes size known w entry within here is =
-    let next : size + (known + 1) ≡ size + known + 1 = omega arith in
-    ap (λ (n : ℕ). take n (set codes (size + known) (entry % 256))) next
-    ∙ take_more_set codes (size + known) (entry % 256) within
-    ∙ ap (λ (xs : List ℕ). take (size + known) codes ++ xs) (sym here.code)
-    ∙ ap (λ (n : ℕ). take (size + known) codes ++ cell (first_cell f) 1 f.greater 65536 n) is
+-- an entry in the place of another
+pub entry_kept : (f : Form) (entries : List Entry) (i : ℕ) (entry : Entry) → AreTrueEntries f entries → IsTrueEntry f entry → AreTrueEntries f (set entries i entry)
+unfolding AreTrueEntries
+entry_kept f [] i entry all here = all
+entry_kept f (e ∷ entries) zero entry all here = (here, all.1)
+entry_kept f (e ∷ entries) (suc i) entry all here = (all.0, entry_kept f entries i entry all.1 here)
 
--- if one byte was put, it is what was to be put
-pub one_put : (front new put : List ℕ) (at : ℕ) → at < length new → length front ≡ at → take (at + 1) new ≡ front ++ put → put ≡ get_or new at 0 ∷ []
-one_put front new put at within long whole =
+-- the next three of a list
+three_next : (xs : List ℕ) (n : ℕ) → n ≤ 3 → 3 ≤ length xs → take n (get_or xs 0 0 ∷ get_or xs 1 0 ∷ get_or xs 2 0 ∷ []) ≡ take n xs
+three_next xs zero few long = refl
+three_next [] (suc n) few long = absurd (omega (arith, long))
+three_next (a ∷ xs) (suc n) few long = ap (λ (l : List ℕ). a ∷ l) (two_next xs n (omega (arith, few)) (omega (arith, long)))
+  where
+    one_next : (ys : List ℕ) (m : ℕ) → m ≤ 1 → 1 ≤ length ys → take m (get_or ys 0 0 ∷ []) ≡ take m ys
+    one_next ys zero le ge = refl
+    one_next [] (suc m) le ge = absurd (omega (arith, ge))
+    one_next (b ∷ ys) (suc zero) le ge = refl
+    one_next (b ∷ ys) (suc (suc m)) le ge = absurd (omega (arith, le))
+
+    two_next : (ys : List ℕ) (m : ℕ) → m ≤ 2 → 2 ≤ length ys → take m (get_or ys 0 0 ∷ get_or ys 1 0 ∷ []) ≡ take m ys
+    two_next ys zero le ge = refl
+    two_next [] (suc m) le ge = absurd (omega (arith, ge))
+    two_next (b ∷ ys) (suc m) le ge = ap (λ (l : List ℕ). b ∷ l) (one_next ys m (omega (arith, le)) (omega (arith, ge)))
+
+-- what was put after others is what stands from there on
+pub put_there : (codes front put : List ℕ) (at next : ℕ) → at ≤ next → next ≤ at + 3 → at + 3 ≤ length codes → length front ≡ at → take next codes ≡ front ++ put
+    → put ≡ take (next - at) (get_or codes at 0 ∷ get_or codes (at + 1) 0 ∷ get_or codes (at + 2) 0 ∷ [])
+put_there codes front put at next from few room long whole =
+    let rest = drop at codes in
+    let sum : at + (next - at) ≡ next = omega (arith, from) in
+    let zeroth : get_or rest 0 0 ≡ get_or codes at 0 = get_or-drop at codes 0 0 ∙ (let e : at + 0 ≡ at = omega arith in ap (λ (n : ℕ). get_or codes n 0) e) in
+    let first : get_or rest 1 0 ≡ get_or codes (at + 1) 0 = get_or-drop at codes 1 0 in
+    let second : get_or rest 2 0 ≡ get_or codes (at + 2) 0 = get_or-drop at codes 2 0 in
     sym (drop_at front put at long)
     ∙ ap (drop at) (sym whole)
-    ∙ ap (drop at) (take_more new at 0 within)
-    ∙ drop_at (take at new) (get_or new at 0 ∷ []) at (length-take-le at new (omega (arith, within)))
+    ∙ ap (λ (n : ℕ). drop at (take n codes)) (sym sum)
+    ∙ drop-take at (next - at) codes
+    ∙ sym (three_next rest (next - at) (omega (arith, few)) (omega (arith, length-drop at codes, room)))
+    ∙ ap (λ (x : ℕ). take (next - at) (x ∷ get_or rest 1 0 ∷ get_or rest 2 0 ∷ [])) zeroth
+    ∙ ap (λ (x : ℕ). take (next - at) (get_or codes at 0 ∷ x ∷ get_or rest 2 0 ∷ [])) first
+    ∙ ap (λ (x : ℕ). take (next - at) (get_or codes at 0 ∷ get_or codes (at + 1) 0 ∷ x ∷ [])) second

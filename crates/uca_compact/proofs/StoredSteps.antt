@@ -1,20 +1,21 @@
 -- Steps of reading a stored key.
-use Rattle.std.proofs.Common.{◌≡◌, ◌≢◌, ℕ, zero, suc, ◌+◌, ◌*◌, ◌-◌, ◌<◌, ◌≤◌, List, [], ◌∷◌, ◌++◌, Bool, true, false, cond, Option, Some, None, option_map, IfSome, nat_eq, length, get_or, drop, drop-cons, refl, ap, sym, subst, ◌∙◌, arith, append_assoc, append-nil, encode_utf8, encode_utf8_all}
+use Rattle.std.proofs.Common.{◌≡◌, ◌≢◌, ℕ, zero, suc, ◌+◌, ◌*◌, ◌-◌, ◌<◌, ◌≤◌, List, [], ◌∷◌, ◌++◌, Bool, true, false, cond, Option, Some, None, option_map, nat_eq, length, length-append, get_or, take, drop, drop-cons, Bor, refl, ap, sym, subst, ◌∙◌, arith, append_assoc, append-nil, encode_utf8, encode_utf8_all}
+use Rattle.std.specs.List.{AllByRecursion}
 use Rattle.std.proofs.lemmas.List.{drop_all}
 use Rattle.std.proofs.lemmas.Bool.Decides.{nat_tests}
 use lib.Utf8.{scalar}
 use Rattle.uca_weights.specs.declared.Depth.{Depth}
 use Rattle.uca_weights.specs.declared.Depth.TheVariants.{Weights, Identical}
 use Rattle.uca_weights.specs.declared.Weighting.{Weighting}
-use Rattle.uca_weights.specs.declared.Weighting.TheVariants.{NonIgnorable, Shifted}
 use Rattle.uca_books.specs.Books.{BookContent}
 use Rattle.uca_compact.specs.Forms.{AreWeights, forms_of}
 use Rattle.uca_compact.specs.PlainLevels.{plain_level}
 use Rattle.uca_compact.specs.CompactKeys.{compact, compact_key}
-use Rattle.uca_compact.specs.StoredParts.{StoredLevel, weight_then, stored_level, stored_points, points_after, level_before, parts_from, stored_parts}
+use Rattle.uca_compact.specs.StoredParts.{StoredLevel, weight_then, stored_level, stored_points}
 use Rattle.uca_compact.specs.declared.stored.StoredEnd.{StoredEnd}
 use Rattle.uca_compact.specs.declared.stored.StoredEnd.TheVariants.{Next, Key, Single}
-use Rattle.uca_compact.specs.inside.StoredEnds.{level_of, weights_before, points_of, with_points}
+use Rattle.uca_compact.specs.LevelBytes.{weights_in}
+use Rattle.uca_compact.specs.inside.StoredEnds.{level_of, weights_before, IsSplitTo, points_of, with_points}
 use Rattle.uca_compact.proofs.OnlyLevels.{weights_append}
 
 -- ---- The next bytes
@@ -66,12 +67,102 @@ weights_step front bytes items at w all within is some small weights added h =
           ∙ h,
     )
 
+-- the weights of one more pair of bytes
+taken_more : (bytes : List ℕ) (n : ℕ) → 2 * n + 1 < length bytes
+    → weights_in (take (suc (suc (2 * n))) bytes) ≡ weights_in (take (2 * n) bytes) ++ (256 * get_or bytes (2 * n) 0 + get_or bytes (suc (2 * n)) 0) ∷ []
+taken_more [] n within = absurd (omega arith)
+taken_more (a ∷ []) n within = absurd (omega (arith, within))
+taken_more (a ∷ b ∷ bytes) zero within = refl
+taken_more (a ∷ b ∷ bytes) (suc n) within =
+    let twice : suc (suc (2 * n)) ≡ 2 * suc n = omega arith in
+    subst (λ (m : ℕ). weights_in (take (suc (suc m)) (a ∷ b ∷ bytes))
+    ≡ weights_in (take m (a ∷ b ∷ bytes)) ++ (256 * get_or (a ∷ b ∷ bytes) m 0 + get_or (a ∷ b ∷ bytes) (suc m) 0) ∷ []) twice
+    (ap (λ (ws : List ℕ). (256 * a + b) ∷ ws) (taken_more bytes n (omega (arith, within))))
+
+all_more : (ws : List ℕ) (w : ℕ) → AllByRecursion (λ (v : ℕ). 0 < v) ws → 0 < w → AllByRecursion (λ (v : ℕ). 0 < v) (ws ++ w ∷ [])
+all_more [] w all some = (some, tt)
+all_more (v ∷ ws) w all some = (all.0, all_more ws w all.1 some)
+
+before_none : (o : Option StoredLevel) → weights_before [] o ≡ o
+before_none None = refl
+before_none (Some l) = refl
+
+-- nothing was read yet
+pub none_split : (bytes : List ℕ) → IsSplitTo bytes 0
+none_split bytes = record { number = 0; size = refl; within = omega arith; len = refl; some = tt; read = before_none (stored_level bytes) }
+
+-- one more weight is read
+pub more_split : (bytes : List ℕ) (at : ℕ) → IsSplitTo bytes at → at + 1 < length bytes → 0 < 256 * get_or bytes at 0 + get_or bytes (at + 1) 0 → IsSplitTo bytes (at + 2)
+more_split bytes at so_far within some =
+    let n = so_far.number in
+    let size = so_far.size in
+    let len = so_far.len in
+    let w = 256 * get_or bytes at 0 + get_or bytes (at + 1) 0 in
+    let front = weights_in (take at bytes) in
+    let next : suc (suc at) ≡ at + 2 = omega arith in
+    let beside : suc at ≡ at + 1 = omega arith in
+    let more : weights_in (take (at + 2) bytes) ≡ front ++ w ∷ [] =
+    ap (λ (m : ℕ). weights_in (take m bytes)) (sym next)
+    ∙ subst (λ (m : ℕ). weights_in (take (suc (suc m)) bytes) ≡ weights_in (take m bytes) ++ (256 * get_or bytes m 0 + get_or bytes (suc m) 0) ∷ []) size
+    (taken_more bytes n (omega (arith, within, size)))
+    ∙ ap (λ (m : ℕ). front ++ (256 * get_or bytes at 0 + get_or bytes m 0) ∷ []) beside in
+    let longer : length (front ++ w ∷ []) ≡ length front + 1 = length-append front (w ∷ []) in
+    let rest = drop (at + 2) bytes in
+    record {
+      number = n + 1;
+      size = omega (arith, size);
+      within = omega arith;
+      len = ap length more ∙ omega (arith, longer, len);
+      some = subst (AllByRecursion (λ (v : ℕ). 0 < v)) (sym more) (all_more front w so_far.some some);
+      read = ap (λ (ws : List ℕ). weights_before ws (stored_level rest)) more
+          ∙ sym (before_then front w (stored_level rest))
+          ∙ ap (weights_before front) (sym (ap stored_level (two_at bytes at within) ∙ level_step (get_or bytes at 0) (get_or bytes (at + 1) 0) rest w refl (λ none. omega (arith, none, some))))
+          ∙ so_far.read;
+    }
+
+-- 00 00 ends the level
+ended_level : (a b : ℕ) (bytes : List ℕ) → a ≡ 0 → b ≡ 0 → stored_level (a ∷ b ∷ bytes) ≡ Some (record { weights = []; rest = Some bytes })
+ended_level a b bytes first second =
+    let zero_is : 256 * a + b ≡ 0 = omega (arith, first, second) in
+    ap (λ (n : ℕ). cond (nat_eq n 0) (Some (record { weights = []; rest = Some bytes })) (weight_then n (stored_level bytes))) zero_is
+
+pub split_next : (bytes level : List ℕ) (at : ℕ) (e : StoredEnd) (rest : Bor (List ℕ)) → IsSplitTo bytes at → level ≡ take at bytes → at + 1 < length bytes
+    → get_or bytes at 0 ≡ 0 → get_or bytes (at + 1) 0 ≡ 0 → e ≡ Next rest → rest.now ≡ drop (at + 2) bytes → stored_level bytes ≡ level_of e (weights_in level)
+split_next bytes level at e rest so_far is within first second is_end is_rest =
+    let front = weights_in (take at bytes) in
+    let more = drop (at + 2) bytes in
+    sym so_far.read
+    ∙ ap (λ (xs : List ℕ). weights_before front (stored_level xs)) (two_at bytes at within)
+    ∙ ap (weights_before front) (ended_level (get_or bytes at 0) (get_or bytes (at + 1) 0) more first second)
+    ∙ ap (λ (ws : List ℕ). Some (record { weights = ws; rest = Some more })) (append-nil front)
+    ∙ ap (λ (xs : List ℕ). Some (record { weights = front; rest = Some xs })) (sym is_rest)
+    ∙ ap (λ (x : StoredEnd). level_of x front) (sym is_end)
+    ∙ ap (λ (xs : List ℕ). level_of e (weights_in xs)) (sym is)
+
+-- the key does
+pub split_key_end : (bytes level : List ℕ) (at : ℕ) (e : StoredEnd) → IsSplitTo bytes at → level ≡ take at bytes → at ≡ length bytes → e ≡ Key
+    → stored_level bytes ≡ level_of e (weights_in level)
+split_key_end bytes level at e so_far is last is_end =
+    let front = weights_in (take at bytes) in
+    sym so_far.read
+    ∙ ap (λ (xs : List ℕ). weights_before front (stored_level xs)) (drop_all at bytes (omega (arith, last)))
+    ∙ ap (λ (ws : List ℕ). Some (record { weights = ws; rest = None })) (append-nil front)
+    ∙ ap (λ (x : StoredEnd). level_of x front) (sym is_end)
+    ∙ ap (λ (xs : List ℕ). level_of e (weights_in xs)) (sym is)
+
 -- a single byte is left
 pub single_left : (front bytes : List ℕ) (at : ℕ) (all : Option StoredLevel) → at ≤ length bytes → length bytes ≤ at + 1 → at ≢ length bytes
     → weights_before front (stored_level (drop at bytes)) ≡ all → all ≡ None
 single_left front bytes at all within end apart h =
     let one : drop at bytes ≡ get_or bytes at 0 ∷ [] = one_at bytes at (omega (arith, apart)) ∙ ap (λ (xs : List ℕ). get_or bytes at 0 ∷ xs) (drop_all (at + 1) bytes end) in
     sym h ∙ ap (λ (xs : List ℕ). weights_before front (stored_level xs)) one
+
+-- a single byte does
+pub split_single : (bytes level : List ℕ) (at : ℕ) (e : StoredEnd) → IsSplitTo bytes at → length bytes ≤ at + 1 → at ≢ length bytes → e ≡ Single
+    → stored_level bytes ≡ level_of e (weights_in level)
+split_single bytes level at e so_far last apart is_end =
+    single_left (weights_in (take at bytes)) bytes at (stored_level bytes) so_far.within last apart so_far.read
+    ∙ ap (λ (x : StoredEnd). level_of x (weights_in level)) (sym is_end)
 
 -- ---- Code points
 
@@ -127,36 +218,6 @@ points_end out bytes at all within end h = ends_by out bytes at all (nat_eq at (
 
 -- ---- Levels of a key
 
--- what holds of something that is there
-pub if_some : {S : Type 0} (P : S → Type 0) {x : S} {o : Option S} → o ≡ Some x → IfSome o P → P x
-if_some {S} P {x} {o} is h = subst (λ (y : Option S). IfSome y P) is h
-
--- a level that leads to another
-pub next_parts : (depth : Depth) (later : ℕ) (bytes ws rest : List ℕ) → stored_level bytes ≡ Some (record { weights = ws; rest = Some rest })
-    → parts_from depth (suc later) (stored_level bytes) ≡ level_before ws (parts_from depth later (stored_level rest))
-next_parts depth later bytes ws rest h = ap (parts_from depth (suc later)) h
-
--- the last level
-pub last_parts : (depth : Depth) (bytes ws : List ℕ) (e : StoredEnd) → stored_level bytes ≡ level_of e ws
-    → parts_from depth 0 (stored_level bytes) ≡ option_map (λ points. record { levels = ws ∷ []; points = points }) (points_of depth e)
-last_parts depth bytes ws e h = ap (parts_from depth 0) h ∙ by_end e
-  where
-    points_by : (o : Option (List ℕ)) → level_before ws (option_map (λ points. record { levels = []; points = points }) o)
-        ≡ option_map (λ points. record { levels = ws ∷ []; points = points }) o
-    points_by None = refl
-    points_by (Some ps) = refl
-
-    by_end : (x : StoredEnd) → parts_from depth 0 (level_of x ws) ≡ option_map (λ points. record { levels = ws ∷ []; points = points }) (points_of depth x)
-    by_end (Next rest) = points_by (points_after depth (Some rest.now))
-    by_end Key = points_by (points_after depth None)
-    by_end Single = refl
-
--- a level before levels and code points
-pub before_parts : (ws : List ℕ) (levels : List (List ℕ)) (o : Option (List ℕ)) → level_before ws (option_map (λ points. record { levels = levels; points = points }) o)
-    ≡ option_map (λ points. record { levels = ws ∷ levels; points = points }) o
-before_parts ws levels None = refl
-before_parts ws levels (Some ps) = refl
-
 -- the compact key is the levels and what is written for the code points
 pub written_parts : (depth : Depth) (weighting : Weighting) (b : BookContent) (levels : List (List ℕ)) (e : StoredEnd)
     → option_map (compact_key depth weighting b) (option_map (λ points. record { levels = levels; points = points }) (points_of depth e))
@@ -172,33 +233,3 @@ written_parts Identical weighting b levels (Next rest) = by_points (stored_point
     by_points (Some ps) = refl
 written_parts Identical weighting b levels Key = refl
 written_parts Identical weighting b levels Single = refl
-
--- three levels
-pub three_parts : (depth : Depth) (b : BookContent) (key second third letters accents cases : List ℕ) (e : StoredEnd)
-    → stored_level key ≡ Some (record { weights = letters; rest = Some second }) → stored_level second ≡ Some (record { weights = accents; rest = Some third })
-    → stored_level third ≡ level_of e cases
-    → option_map (compact_key depth NonIgnorable b) (stored_parts depth NonIgnorable key)
-    ≡ with_points (compact plain_level (forms_of NonIgnorable b) (letters ∷ accents ∷ cases ∷ [])) (points_of depth e)
-three_parts depth b key second third letters accents cases e one two last =
-    let parts = next_parts depth 1 key letters second one
-    ∙ ap (level_before letters) (next_parts depth 0 second accents third two
-    ∙ ap (level_before accents) (last_parts depth third cases e last)
-    ∙ before_parts accents (cases ∷ []) (points_of depth e))
-    ∙ before_parts letters (accents ∷ cases ∷ []) (points_of depth e) in
-    ap (option_map (compact_key depth NonIgnorable b)) parts ∙ written_parts depth NonIgnorable b (letters ∷ accents ∷ cases ∷ []) e
-
--- four levels
-pub four_parts : (depth : Depth) (b : BookContent) (key second third fourth letters accents cases variables : List ℕ) (e : StoredEnd)
-    → stored_level key ≡ Some (record { weights = letters; rest = Some second }) → stored_level second ≡ Some (record { weights = accents; rest = Some third })
-    → stored_level third ≡ Some (record { weights = cases; rest = Some fourth }) → stored_level fourth ≡ level_of e variables
-    → option_map (compact_key depth Shifted b) (stored_parts depth Shifted key)
-    ≡ with_points (compact plain_level (forms_of Shifted b) (letters ∷ accents ∷ cases ∷ variables ∷ [])) (points_of depth e)
-four_parts depth b key second third fourth letters accents cases variables e one two three last =
-    let parts = next_parts depth 2 key letters second one
-    ∙ ap (level_before letters) (next_parts depth 1 second accents third two
-    ∙ ap (level_before accents) (next_parts depth 0 third cases fourth three
-    ∙ ap (level_before cases) (last_parts depth fourth variables e last)
-    ∙ before_parts cases (variables ∷ []) (points_of depth e))
-    ∙ before_parts accents (cases ∷ variables ∷ []) (points_of depth e))
-    ∙ before_parts letters (accents ∷ cases ∷ variables ∷ []) (points_of depth e) in
-    ap (option_map (compact_key depth Shifted b)) parts ∙ written_parts depth Shifted b (letters ∷ accents ∷ cases ∷ variables ∷ []) e

@@ -6,4 +6,5 @@ pub mod StoredParts
 pub mod WorkedKeys
 pub mod WorkedReadings
 pub mod Laws
+pub mod LevelBytes
 pub mod inside

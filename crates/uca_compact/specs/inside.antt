@@ -2,5 +2,4 @@ pub mod StoredEnds
 pub mod Places
 pub mod Reading
 pub mod LevelSteps
-pub mod LevelsRead
-pub mod LevelsWritten
+pub mod LevelsPut

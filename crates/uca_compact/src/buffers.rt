@@ -1,4 +1,4 @@
-//! The weights of a key, and what they are written as, level by level.
+//! The weights of a key, level by level.
 
 use std::alloc::Allocator;
 
@@ -16,25 +16,6 @@ impl<A: Allocator + Copy> Levels<A> {
     pub(crate) fn new(alloc: A) -> Levels<A> {
         Levels {
             letters: Vec::new(alloc),
-            accents: Vec::new(alloc),
-            cases: Vec::new(alloc),
-            variables: Vec::new(alloc),
-        }
-    }
-}
-
-/// What each level of a key after the first is written as, without its last run and its end. The memory is used again.
-#[derive(Drop)]
-pub(crate) struct LevelCodes<A: Allocator> {
-    pub(crate) accents: Vec<u8, A>,
-    pub(crate) cases: Vec<u8, A>,
-    pub(crate) variables: Vec<u8, A>,
-}
-
-impl<A: Allocator + Copy> LevelCodes<A> {
-    /// Codes that take no memory yet.
-    pub(crate) fn new(alloc: A) -> LevelCodes<A> {
-        LevelCodes {
             accents: Vec::new(alloc),
             cases: Vec::new(alloc),
             variables: Vec::new(alloc),

@@ -1,32 +1,33 @@
 //! `KeyCompacter`: stored keys become compact keys.
 
-ghost use Rattle.std.specs.Prelude.{◌≡◌, IfOk, [], if◌then◌else◌, true, None, Some, option_map};
+ghost use Rattle.std.specs.Prelude.{◌≡◌, ◌-◌, ◌++◌, IfOk, OnOk, if◌then◌else◌, true, map, None, Some, option_map};
 ghost use Rattle.std.specs.Bool.{MatchBool};
 ghost use Rattle.std.specs.Char.{IsScalar};
 ghost use Rattle.std.specs.List.{AllByRecursion};
 ghost use Rattle.uca_weights.specs.declared.Weighting.TheVariants.{NonIgnorable, Shifted};
+ghost use Rattle.uca_order.specs.Levels.{level_count};
 ghost use Rattle.uca_order.specs.Depths.{ReadText, key_at};
-ghost use Rattle.uca_compact.specs.CompactKeys.{compact_key, text_parts};
-ghost use Rattle.uca_compact.specs.Forms.{letters_form};
+ghost use Rattle.uca_compact.specs.CompactKeys.{compact as compact_levels, compact_key, text_parts};
+ghost use Rattle.uca_compact.specs.Forms.{forms_of, letters_form};
+ghost use Rattle.uca_compact.specs.LevelBytes.{AreWeightBytes, level_bytes_in, weights_in};
+ghost use Rattle.uca_compact.specs.PlainLevels.{plain_level};
 ghost use Rattle.uca_compact.specs.StoredParts.{stored_parts, IsCompactOf, IsOfNoKey};
 ghost use Rattle.uca_compact.specs.inside.Places.{AreTrueEntries};
 
-use crate::book_forms::{accents_form, cases_form, letters_form, variables_form};
-use crate::buffers::{LevelCodes, Levels};
+use crate::buffers::Levels;
 use crate::expander::expand;
-use crate::later_level::read_later;
-use crate::letter_buffers::LetterBuffers;
-use crate::letters::push_letters;
-use crate::stored::{StoredEnd, push_points_after};
-use crate::written_levels::{push_four, push_three};
+use crate::key_buffers::KeyBuffers;
+use crate::level_bytes::LevelBytes;
+use crate::stored::{push_points_after, split_key};
+use crate::written_levels::{put_four, put_three};
 use std::alloc::{AllocError, Allocator, Global};
 use std::marker::Model;
 use uca_books::Book;
 use uca_weights::{Depth, Settings, Weighting};
 
 /// Makes compact keys of stored keys, and stored keys of these again. It needs no text and no table. With its first
-/// compact key it takes 12,288 bytes for what it found of weights. It keeps room for what the levels of the longest key
-/// were written as: for level 1 that is up to three times the bytes of the key.
+/// compact key it takes 16,384 bytes for what it found of weights. It keeps room for the longest compact key that its
+/// keys could have: twice the bytes of the longest key.
 #[derive(Drop)]
 pub struct KeyCompacter<A: Allocator = Global> {
     book: Book<A>,
@@ -34,8 +35,7 @@ pub struct KeyCompacter<A: Allocator = Global> {
     // of a key that is expanded
     levels: Levels<A>,
     // of a key that is made compact
-    letters: LetterBuffers<A>,
-    codes: LevelCodes<A>,
+    buffers: KeyBuffers<A>,
 }
 
 impl<A: Allocator> Model for KeyCompacter<A> {
@@ -49,7 +49,7 @@ impl<A: Allocator> Model for KeyCompacter<A> {
 
     ghost view = { λ c. record { book = c.book; settings = c.settings } };
 
-    ghost invariant = { λ c. AreTrueEntries (letters_form c.book (level_count c.settings.weighting - 1)) c.letters.entries.items };
+    ghost invariant = { λ c. AreTrueEntries (letters_form c.book (level_count c.settings.weighting - 1)) c.buffers.entries.items };
 }
 
 impl<A: Allocator + Copy> KeyCompacter<A> {
@@ -61,8 +61,7 @@ impl<A: Allocator + Copy> KeyCompacter<A> {
             book,
             settings,
             levels: Levels::new(alloc),
-            letters: LetterBuffers::new(alloc),
-            codes: LevelCodes::new(alloc),
+            buffers: KeyBuffers::new(alloc),
         }
     }
 }
@@ -100,24 +99,44 @@ impl<A: Allocator> KeyCompacter<A> {
             (text_parts self.old.settings.depth self.old.settings.weighting t))) }
     {
         compact.clear();
-        match self.settings.weighting {
-            Weighting::NonIgnorable => write_three(
-                key,
-                self.settings.depth,
-                &self.book,
-                &mut self.letters,
-                &mut self.codes,
-                compact,
-            ),
-            Weighting::Shifted => write_four(
-                key,
-                self.settings.depth,
-                &self.book,
-                &mut self.letters,
-                &mut self.codes,
-                compact,
-            ),
-        }
+        let weighting = self.settings.weighting;
+        let Some(split) = split_key(key, weighting) else {
+            return Ok(false);
+        };
+        push_levels(
+            weighting,
+            &self.book,
+            &mut self.buffers,
+            &split.levels,
+            compact,
+        )?;
+        push_points_after(compact, self.settings.depth, split.end)
+    }
+
+    /// Writes the compact key of these levels over the bytes that were there: what [`write_compact`](Self::write_compact)
+    /// makes of a key of them, without code points. So a key need not be joined to be made compact.
+    ///
+    /// # Errors
+    ///
+    /// An allocation failed. The bytes are then unspecified.
+    pub fn write_levels<B: Allocator>(
+        &mut self,
+        levels: &LevelBytes<'_>,
+        compact: &mut Vec<u8, B>,
+    ) -> Result<(), AllocError>
+        requires levels { AllByRecursion AreWeightBytes (level_bytes_in self.old.settings.weighting levels.now) }
+        ensures same { self.new ≡ self.old }
+        ensures compact { OnOk result (compact.new.items ≡ compact_levels plain_level (forms_of self.old.settings.weighting self.old.book)
+            (map weights_in (level_bytes_in self.old.settings.weighting levels.now))) }
+    {
+        compact.clear();
+        push_levels(
+            self.settings.weighting,
+            &self.book,
+            &mut self.buffers,
+            levels,
+            compact,
+        )
     }
 
     /// Writes the stored key of a compact key over the bytes that were there, and returns `true`, as
@@ -143,75 +162,67 @@ impl<A: Allocator> KeyCompacter<A> {
     }
 }
 
-// Writes the compact key of a key of three levels after no bytes.
-fn write_three<A: Allocator, B: Allocator>(
-    key: &[u8],
-    depth: Depth,
+// Writes the compact key of these levels after the bytes.
+fn push_levels<A: Allocator, B: Allocator>(
+    weighting: Weighting,
     book: &Book<A>,
-    letters: &mut LetterBuffers<A>,
-    codes: &mut LevelCodes<A>,
-    compact: &mut Vec<u8, B>,
-) -> Result<bool, AllocError>
-    requires empty { compact.old.items ≡ [] }
-    requires entries { AreTrueEntries (letters_form book.now 2) letters.old.entries.items }
-    ensures entries { AreTrueEntries (letters_form book.now 2) letters.new.entries.items }
-    ensures key { IfOk result (λ found. option_map (compact_key depth NonIgnorable book.now) (stored_parts depth NonIgnorable key.now)
-        ≡ (if found then Some compact.new.items else None)) }
+    buffers: &mut KeyBuffers<A>,
+    levels: &LevelBytes,
+    out: &mut Vec<u8, B>,
+) -> Result<(), AllocError>
+    requires levels { AllByRecursion AreWeightBytes (level_bytes_in weighting levels.now) }
+    requires entries { AreTrueEntries (letters_form book.now (level_count weighting - 1)) buffers.old.entries.items }
+    ensures entries { AreTrueEntries (letters_form book.now (level_count weighting - 1)) buffers.new.entries.items }
+    ensures levels { OnOk result (out.new.items ≡ out.old.items ++ compact_levels plain_level (forms_of weighting book.now)
+        (map weights_in (level_bytes_in weighting levels.now))) }
 {
-    let form = letters_form(book, 2);
-    let Some(first) = push_letters(compact, &form, letters, key)? else {
-        return Ok(false);
-    };
-    let second = read_later(
-        first.rest,
-        &accents_form(1),
-        first.count,
-        &mut codes.accents,
-    )?;
-    let StoredEnd::Next(rest) = second.end else {
-        return Ok(false);
-    };
-    let third = read_later(rest, &cases_form(0), second.len, &mut codes.cases)?;
-    push_three(compact, &second, &third, codes)?;
-    let found = push_points_after(compact, depth, third.end)?;
-    Ok(found)
+    match weighting {
+        Weighting::NonIgnorable => push_three(book, buffers, levels, out),
+        Weighting::Shifted => push_four(book, buffers, levels, out),
+    }
 }
 
-// Writes the compact key of a key of four levels after no bytes.
-fn write_four<A: Allocator, B: Allocator>(
-    key: &[u8],
-    depth: Depth,
+// Writes the compact key of three levels after the bytes.
+fn push_three<A: Allocator, B: Allocator>(
     book: &Book<A>,
-    letters: &mut LetterBuffers<A>,
-    codes: &mut LevelCodes<A>,
-    compact: &mut Vec<u8, B>,
-) -> Result<bool, AllocError>
-    requires empty { compact.old.items ≡ [] }
-    requires entries { AreTrueEntries (letters_form book.now 3) letters.old.entries.items }
-    ensures entries { AreTrueEntries (letters_form book.now 3) letters.new.entries.items }
-    ensures key { IfOk result (λ found. option_map (compact_key depth Shifted book.now) (stored_parts depth Shifted key.now)
-        ≡ (if found then Some compact.new.items else None)) }
+    buffers: &mut KeyBuffers<A>,
+    levels: &LevelBytes,
+    out: &mut Vec<u8, B>,
+) -> Result<(), AllocError>
+    requires levels { AllByRecursion AreWeightBytes (level_bytes_in NonIgnorable levels.now) }
+    requires entries { AreTrueEntries (letters_form book.now 2) buffers.old.entries.items }
+    ensures entries { AreTrueEntries (letters_form book.now 2) buffers.new.entries.items }
+    ensures levels { OnOk result (out.new.items ≡ out.old.items ++ compact_levels plain_level (forms_of NonIgnorable book.now)
+        (map weights_in (level_bytes_in NonIgnorable levels.now))) }
 {
-    let form = letters_form(book, 3);
-    let Some(first) = push_letters(compact, &form, letters, key)? else {
-        return Ok(false);
-    };
-    let second = read_later(
-        first.rest,
-        &accents_form(2),
-        first.count,
-        &mut codes.accents,
-    )?;
-    let StoredEnd::Next(rest) = second.end else {
-        return Ok(false);
-    };
-    let third = read_later(rest, &cases_form(1), second.len, &mut codes.cases)?;
-    let StoredEnd::Next(rest) = third.end else {
-        return Ok(false);
-    };
-    let plain = third.len + (first.len - first.count);
-    let fourth = read_later(rest, &variables_form(book), plain, &mut codes.variables)?;
-    push_four(compact, book, &second, &third, &fourth, codes)?;
-    let found = push_points_after(compact, depth, fourth.end)?;
-    Ok(found)
+    let later = levels.accents.len().saturating_add(levels.cases.len());
+    let len = levels.letters.len().saturating_add(later);
+    buffers.open(len.saturating_mul(2).saturating_add(3))?;
+    let codes = buffers.codes.as_mut_slice();
+    let entries = buffers.entries.as_mut_slice();
+    let size = put_three(codes, book, entries, &mut buffers.hints, levels);
+    out.extend_from_slice(&buffers.codes.as_slice()[..size])
+}
+
+// Writes the compact key of four levels after the bytes.
+fn push_four<A: Allocator, B: Allocator>(
+    book: &Book<A>,
+    buffers: &mut KeyBuffers<A>,
+    levels: &LevelBytes,
+    out: &mut Vec<u8, B>,
+) -> Result<(), AllocError>
+    requires levels { AllByRecursion AreWeightBytes (level_bytes_in Shifted levels.now) }
+    requires entries { AreTrueEntries (letters_form book.now 3) buffers.old.entries.items }
+    ensures entries { AreTrueEntries (letters_form book.now 3) buffers.new.entries.items }
+    ensures levels { OnOk result (out.new.items ≡ out.old.items ++ compact_levels plain_level (forms_of Shifted book.now)
+        (map weights_in (level_bytes_in Shifted levels.now))) }
+{
+    let last = levels.cases.len().saturating_add(levels.variables.len());
+    let later = levels.accents.len().saturating_add(last);
+    let len = levels.letters.len().saturating_add(later);
+    buffers.open(len.saturating_mul(2).saturating_add(4))?;
+    let codes = buffers.codes.as_mut_slice();
+    let entries = buffers.entries.as_mut_slice();
+    let size = put_four(codes, book, entries, &mut buffers.hints, levels);
+    out.extend_from_slice(&buffers.codes.as_slice()[..size])
 }

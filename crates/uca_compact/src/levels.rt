@@ -1,13 +1,14 @@
 //! Writes the levels of compact keys.
 
-ghost use Rattle.std.specs.Prelude.{◌≡◌, ℕ, ◌+◌, ◌<◌, ◌≤◌, ◌∷◌, ◌++◌, length, OnOk, IfOk};
+ghost use Rattle.std.specs.Prelude.{◌≡◌, ℕ, suc, ◌+◌, ◌<◌, ◌≤◌, ◌∷◌, ◌++◌, length, take, OnOk};
 ghost use Rattle.std.specs.Bool.{OnTrue};
 ghost use Rattle.std.specs.Ordering.{nat_cmp};
-ghost use Rattle.uca_compact.specs.Forms.{AreRising, IsForm, AreWeights};
+ghost use Rattle.uca_compact.specs.Forms.{AreRising, IsForm, AreWeights, first_cell};
 ghost use Rattle.uca_compact.specs.CompactKeys.{offset_bytes, cell, written, run_after, level_code};
 ghost use Rattle.uca_compact.specs.Programs.{form_of};
 ghost use Rattle.uca_compact.specs.inside.Places.{start_at, end_at, IsPlace};
 
+use crate::key_buffers::HINTS;
 use std::alloc::{AllocError, Allocator};
 
 /// How a level is written.
@@ -23,31 +24,6 @@ pub struct LevelForm<'a> {
     pub lesser: &'a [u16],
     /// The starts of the cells of greater weights, after the first cell.
     pub greater: &'a [u16],
-}
-
-// Writes the number of a cell, and an offset in it.
-#[inline(always)]
-fn push_offset<A: Allocator>(
-    out: &mut Vec<u8, A>,
-    number: u8,
-    width: u32,
-    offset: u32,
-) -> Result<(), AllocError>
-    requires two_bytes { offset < 65536 }
-    requires inside { offset < width }
-    ensures { OnOk result (out.new.items ≡ out.old.items ++ (number ∷ offset_bytes width offset)) }
-{
-    out.push(number)?;
-    if width < 2 {
-        return Ok(());
-    }
-    if width < 257 {
-        out.push(offset as u8)?;
-        return Ok(());
-    }
-    out.push((offset / 256) as u8)?;
-    out.push((offset % 256) as u8)?;
-    Ok(())
 }
 
 // Whether a weight is in the cell with this index.
@@ -117,115 +93,139 @@ pub(crate) fn cell_end(later: &[u16], end: u32, index: usize) -> u32
     u32::from(later[index])
 }
 
-// Writes a weight in its cell, which has this index.
+// Puts the number of a cell at this position, and an offset in it after that. It returns the position after both.
 #[inline(always)]
-fn push_in_cell<A: Allocator>(
-    out: &mut Vec<u8, A>,
+fn put_offset(codes: &mut [u8], at: usize, number: u8, width: u32, offset: u32) -> usize
+    requires two_bytes { offset < 65536 }
+    requires inside { offset < width }
+    requires room { at + 3 ≤ length codes.old }
+    ensures put { take result codes.new ≡ take at codes.old ++ (number ∷ offset_bytes width offset) }
+    ensures from { at ≤ result }
+    ensures few { result ≤ at + 3 }
+{
+    codes[at] = number;
+    if width < 2 {
+        return at + 1;
+    }
+    if width < 257 {
+        codes[at + 1] = offset as u8;
+        return at + 2;
+    }
+    codes[at + 1] = (offset / 256) as u8;
+    codes[at + 2] = (offset % 256) as u8;
+    at + 3
+}
+
+/// Puts a weight in its cell, which has this index, at this position. It returns the position after it.
+#[inline(always)]
+pub(crate) fn put_in_cell(
+    codes: &mut [u8],
+    at: usize,
     number: u8,
     start: u32,
     later: &[u16],
     end: u32,
     weight: u32,
     index: usize,
-) -> Result<(), AllocError>
+) -> usize
     requires rising { AreRising start later.now end }
     requires bytes { number + length later.now < 256 }
     requires two_bytes { weight < 65536 }
     requires place { IsPlace start later.now end weight index }
-    ensures { OnOk result (out.new.items ≡ out.old.items ++ cell number start later.now end weight) }
+    requires room { at + 3 ≤ length codes.old }
+    ensures put { take result codes.new ≡ take at codes.old ++ cell number start later.now end weight }
+    ensures from { at ≤ result }
+    ensures few { result ≤ at + 3 }
 {
     let first = cell_start(start, later, index);
     let width = cell_end(later, end, index) - first;
-    push_offset(out, number + index as u8, width, weight - first)?;
-    Ok(())
+    put_offset(codes, at, number + index as u8, width, weight - first)
 }
 
-// Writes a weight in its cell. Where each cell has one weight, it is the first that is tried.
-fn push_cell<A: Allocator>(
-    out: &mut Vec<u8, A>,
-    number: u8,
-    start: u32,
-    later: &[u16],
-    end: u32,
-    weight: u32,
-) -> Result<(), AllocError>
-    requires rising { AreRising start later.now end }
-    requires bytes { number + length later.now < 256 }
-    requires two_bytes { weight < 65536 }
-    requires from { start ≤ weight }
-    requires below { weight < end }
-    ensures { OnOk result (out.new.items ≡ out.old.items ++ cell number start later.now end weight) }
+// Puts a lesser weight. The cell where a weight with this hint was found is tried first.
+fn put_lesser(codes: &mut [u8], at: usize, form: &LevelForm, hints: &mut [u8], weight: u32) -> usize
+    requires form { IsForm (form_of form.now) }
+    requires some { 0 < weight }
+    requires lesser { weight < form.now.common }
+    requires hints { length hints.old ≡ 4096 }
+    requires room { at + 3 ≤ length codes.old }
+    ensures put { take result codes.new ≡ take at codes.old ++ cell 0 1 form.now.lesser.now form.now.common weight }
+    ensures few { result ≤ at + 3 }
 {
-    let index = cell_index(start, later, end, weight, (weight - start) as usize);
-    push_in_cell(out, number, start, later, end, weight, index)
+    let common = u32::from(form.common);
+    let place = weight as usize % HINTS;
+    let index = cell_index(1, form.lesser, common, weight, usize::from(hints[place]));
+    hints[place] = index as u8;
+    put_in_cell(codes, at, 0, 1, form.lesser, common, weight, index)
 }
 
-/// Writes a weight after a run, and returns the length of the run after it. Mostly it is the common one.
+// Puts a greater weight. Where each cell has one weight, it is the first that is tried.
 #[inline(always)]
-pub(crate) fn push_weight<A: Allocator>(
-    out: &mut Vec<u8, A>,
-    form: &LevelForm,
-    run: u32,
-    weight: u32,
-) -> Result<u32, AllocError>
+fn put_greater(codes: &mut [u8], at: usize, form: &LevelForm, weight: u32) -> usize
     requires form { IsForm (form_of form.now) }
-    requires short { run < form.now.longest }
-    requires weight { 0 < weight }
     requires two_bytes { weight < 65536 }
-    ensures run { IfOk result (λ after. after ≡ run_after (form_of form.now) run (nat_cmp weight form.now.common)) }
-    ensures short { IfOk result (λ after. after < form.now.longest) }
-    ensures bytes { OnOk result (out.new.items ≡ out.old.items ++ written (form_of form.now) run weight (nat_cmp weight form.now.common)) }
+    requires greater { form.now.common < weight }
+    requires room { at + 3 ≤ length codes.old }
+    ensures put { take result codes.new ≡ take at codes.old ++
+        cell (first_cell (form_of form.now)) (suc form.now.common) form.now.greater.now 65536 weight }
+    ensures few { result ≤ at + 3 }
 {
-    if weight == u32::from(form.common) && run + 1 < u32::from(form.longest) {
-        return Ok(run + 1);
-    }
-    push_other(out, form, run, weight)
+    let longest = u32::from(form.longest);
+    let number = longest * (u32::from(form.ends) + 1) + longest;
+    let start = u32::from(form.common) + 1;
+    let hint = (weight - start) as usize;
+    let index = cell_index(start, form.greater, 0x1_0000, weight, hint);
+    put_in_cell(
+        codes,
+        at,
+        number as u8,
+        start,
+        form.greater,
+        0x1_0000,
+        weight,
+        index,
+    )
 }
 
-// Writes a weight after a run, and returns the length of the run after it.
-#[inline(never)]
-fn push_other<A: Allocator>(
-    out: &mut Vec<u8, A>,
+/// Puts a weight after a run at this position. It returns the position after it, and the length of the run after it.
+/// Mostly it is the common one.
+#[inline(always)]
+pub(crate) fn put_weight(
+    codes: &mut [u8],
+    at: usize,
     form: &LevelForm,
+    hints: &mut [u8],
     run: u32,
     weight: u32,
-) -> Result<u32, AllocError>
+) -> (usize, u32)
     requires form { IsForm (form_of form.now) }
     requires short { run < form.now.longest }
     requires weight { 0 < weight }
     requires two_bytes { weight < 65536 }
-    ensures run { IfOk result (λ after. after ≡ run_after (form_of form.now) run (nat_cmp weight form.now.common)) }
-    ensures short { IfOk result (λ after. after < form.now.longest) }
-    ensures bytes { OnOk result (out.new.items ≡ out.old.items ++ written (form_of form.now) run weight (nat_cmp weight form.now.common)) }
+    requires hints { length hints.old ≡ 4096 }
+    requires room { at + 4 ≤ length codes.old }
+    ensures put { take result.0 codes.new ≡ take at codes.old ++ written (form_of form.now) run weight (nat_cmp weight form.now.common) }
+    ensures few { result.0 ≤ at + 4 }
+    ensures run { result.1 ≡ run_after (form_of form.now) run (nat_cmp weight form.now.common) }
+    ensures short { result.1 < form.now.longest }
 {
     let common = u32::from(form.common);
     let longest = u32::from(form.longest);
-    let ends = u32::from(form.ends);
-    let full = longest * (ends + 1);
+    let step = u32::from(form.ends) + 1;
+    if weight > common {
+        codes[at] = (longest * step + longest - run) as u8;
+        let next = if run > 0 { at + 1 } else { at };
+        return (put_greater(codes, next, form, weight), 0);
+    }
     if weight < common {
-        out.push((run * (ends + 1) + ends) as u8)?;
-        push_cell(out, 0, 1, form.lesser, common, weight)?;
-        return Ok(0);
+        codes[at] = (run * step + u32::from(form.ends)) as u8;
+        return (put_lesser(codes, at + 1, form, hints, weight), 0);
     }
-    if weight == common {
-        if run + 1 == longest {
-            out.push(full as u8)?;
-            return Ok(0);
-        }
-        return Ok(run + 1);
+    if run + 1 < longest {
+        return (at, run + 1);
     }
-    if run > 0 {
-        out.push((full + longest - run) as u8)?;
-    }
-    push_cell(
-        out,
-        (full + longest) as u8,
-        common + 1,
-        form.greater,
-        65536,
-        weight,
-    )?;
-    Ok(0)
+    codes[at] = (longest * step) as u8;
+    (at + 1, 0)
 }
 
 /// Writes a level at the end of these bytes: its weights, and its end.
@@ -245,9 +245,13 @@ pub fn push_level<A: Allocator>(
     requires end { end < form.now.ends }
     ensures { OnOk result (out.new.items ≡ out.old.items ++ level_code (form_of form.now) end 0 weights.now) }
 {
+    let mut room = [0; 4];
+    let mut hints = [0; HINTS];
     let mut run = 0;
     for weight in weights {
-        run = push_weight(out, form, run, u32::from(*weight))?;
+        let (size, after) = put_weight(&mut room, 0, form, &mut hints, run, u32::from(*weight));
+        out.extend_from_slice(&room[..size])?;
+        run = after;
     }
     out.push((run * (u32::from(form.ends) + 1) + u32::from(end)) as u8)?;
     Ok(())

@@ -1,16 +1,25 @@
-//! Writes the levels after the weights of level 1: plain ones are left out.
+//! Puts the levels of a compact key: plain ones are left out.
 
-ghost use Rattle.std.specs.Prelude.{◌≡◌, ◌+◌, ◌-◌, ◌<◌, ◌≤◌, ◌++◌, OnOk};
-ghost use Rattle.uca_compact.specs.Forms.{IsForm};
+ghost use Rattle.std.specs.Prelude.{◌≡◌, ◌+◌, ◌-◌, ◌*◌, ◌<◌, ◌≤◌, ◌++◌, ℕ, [], ◌∷◌, length, take, map, if◌then◌else◌};
+ghost use Rattle.std.specs.List.{AllByRecursion};
+ghost use Rattle.std.specs.Ordering.{is_eq};
+ghost use Rattle.uca_weights.specs.declared.Weighting.TheVariants.{NonIgnorable, Shifted};
 ghost use Rattle.uca_compact.specs.CompactKeys as compact_keys;
+ghost use Rattle.uca_compact.specs.CompactKeys.{compact, level_code};
+ghost use Rattle.uca_compact.specs.Forms.{IsForm, forms_of, letters_form};
+ghost use Rattle.uca_compact.specs.LevelBytes.{AreWeightBytes, level_bytes_in, weights_in};
+ghost use Rattle.uca_compact.specs.PlainLevels.{plain_level};
 ghost use Rattle.uca_compact.specs.Programs.{form_of};
-ghost use Rattle.uca_compact.specs.inside.LevelsWritten.{later_code, after_letters_three, after_letters_four};
+ghost use Rattle.uca_compact.specs.inside.Places.{AreTrueEntries};
+ghost use Rattle.uca_compact.specs.inside.StoredEnds.{weight_of};
 
-use crate::book_forms::{accents_form, cases_form, variables_form};
-use crate::buffers::LevelCodes;
-use crate::later_level::LaterLevel;
+use crate::book_forms::{accents_form, cases_form, letters_form, variables_form};
+use crate::key_buffers::Entry;
+use crate::later_level::{Compared, compare_level, put_level};
+use crate::letters::put_letters;
+use crate::level_bytes::LevelBytes;
 use crate::levels::LevelForm;
-use std::alloc::{AllocError, Allocator};
+use std::alloc::Allocator;
 use std::cmp::Ordering;
 use uca_books::Book;
 
@@ -28,70 +37,106 @@ fn end_by(order: Ordering, all: u8, later: u8, more: u8) -> u8
     }
 }
 
-// Writes a level after others, which was coded: a plain level is left out.
+// Puts a level after others at this position, by how it compares to the plain one, which is left out. It returns the
+// position after it.
 #[inline(always)]
-fn push_later<A: Allocator>(
-    out: &mut Vec<u8, A>,
+fn put_later(
+    codes: &mut [u8],
+    at: usize,
     form: &LevelForm,
-    level: &LaterLevel,
+    hints: &mut [u8],
+    level: &[u8],
+    compared: Compared,
     end: u8,
-    code: &[u8],
-) -> Result<(), AllocError>
+) -> usize
     requires form { IsForm (form_of form.now) }
-    requires short { level.now.run < form.now.longest }
+    requires common { 0 < form.now.common }
+    requires level { AreWeightBytes level.now }
+    requires within { 2 * compared.run ≤ length level.now }
+    requires run { (k : ℕ) → k < compared.run → weight_of level.now (2 * k) ≡ form.now.common }
     requires end { end < form.now.ends }
-    ensures { OnOk result (out.new.items ≡ out.old.items ++ later_code (form_of form.now) end level.now code.now) }
+    requires hints { length hints.old ≡ 4096 }
+    requires room { at + 2 * length level.now + 1 ≤ length codes.old }
+    ensures put { take result codes.new ≡ take at codes.old ++
+        (if is_eq compared.order then [] else level_code (form_of form.now) end 0 (weights_in level.now)) }
+    ensures few { result ≤ at + 2 * length level.now + 1 }
 {
-    match level.order {
-        Ordering::Equal => Ok(()),
+    match compared.order {
+        Ordering::Equal => at,
         Ordering::Less | Ordering::Greater => {
-            out.extend_from_slice(code)?;
-            out.push((level.run * (u32::from(form.ends) + 1) + u32::from(end)) as u8)?;
-            Ok(())
+            put_level(codes, at, form, hints, level, compared.run, end)
         }
     }
 }
 
-/// Writes the end of level 1 and the levels after it, under the weighting `NonIgnorable`.
-pub(crate) fn push_three<A: Allocator, B: Allocator>(
-    out: &mut Vec<u8, A>,
-    second: &LaterLevel,
-    third: &LaterLevel,
-    codes: &LevelCodes<B>,
-) -> Result<(), AllocError>
-    requires accents { second.now.run < 20 }
-    requires cases { third.now.run < 32 }
-    ensures { OnOk result (out.new.items ≡ out.old.items ++ after_letters_three second.now third.now codes.now.accents.items codes.now.cases.items) }
+/// Puts the compact key of three levels at the beginning. It returns how many bytes it has.
+pub(crate) fn put_three<A: Allocator>(
+    codes: &mut [u8],
+    book: &Book<A>,
+    entries: &mut [Entry],
+    hints: &mut [u8],
+    levels: &LevelBytes,
+) -> usize
+    requires levels { AllByRecursion AreWeightBytes (level_bytes_in NonIgnorable levels.now) }
+    requires entries { length entries.old ≡ 2048 }
+    requires true_entries { AreTrueEntries (letters_form book.now 2) entries.old }
+    requires hints { length hints.old ≡ 4096 }
+    requires room { 2 * (length levels.now.letters.now + length levels.now.accents.now + length levels.now.cases.now) + 3 ≤ length codes.old }
+    ensures true_entries { AreTrueEntries (letters_form book.now 2) entries.new }
+    ensures put { take result codes.new ≡ compact plain_level (forms_of NonIgnorable book.now) (map weights_in (level_bytes_in NonIgnorable levels.now)) }
+    ensures few { result ≤ length codes.new }
 {
-    out.push(end_by(second.order, 2, 1, end_by(third.order, 2, 0, 2)))?;
+    let form = letters_form(book, 2);
+    let first = put_letters(codes, &form, entries, hints, levels.letters);
+    let second = compare_level(levels.accents, 0x20, first.count);
+    let third = compare_level(levels.cases, 2, levels.accents.len() / 2);
+    codes[first.size] = end_by(second.order, 2, 1, end_by(third.order, 2, 0, 2));
+    let at = first.size + 1;
+    let form = accents_form(1);
     let end = end_by(third.order, 1, 0, 1);
-    push_later(out, &accents_form(1), second, end, codes.accents.as_slice())?;
-    push_later(out, &cases_form(0), third, 0, codes.cases.as_slice())?;
-    Ok(())
+    let at = put_later(codes, at, &form, hints, levels.accents, second, end);
+    put_later(codes, at, &cases_form(0), hints, levels.cases, third, 0)
 }
 
-/// Writes the end of level 1 and the levels after it, under the weighting `Shifted`.
-pub(crate) fn push_four<A: Allocator, B: Allocator>(
-    out: &mut Vec<u8, A>,
-    book: &Book<B>,
-    second: &LaterLevel,
-    third: &LaterLevel,
-    fourth: &LaterLevel,
-    codes: &LevelCodes<B>,
-) -> Result<(), AllocError>
-    requires accents { second.now.run < 20 }
-    requires cases { third.now.run < 32 }
-    requires variables { fourth.now.run < 85 }
-    ensures { OnOk result (out.new.items ≡ out.old.items ++ after_letters_four book.now second.now third.now fourth.now
-        codes.now.accents.items codes.now.cases.items codes.now.variables.items) }
+/// Puts the compact key of four levels at the beginning. It returns how many bytes it has.
+pub(crate) fn put_four<A: Allocator>(
+    codes: &mut [u8],
+    book: &Book<A>,
+    entries: &mut [Entry],
+    hints: &mut [u8],
+    levels: &LevelBytes,
+) -> usize
+    requires levels { AllByRecursion AreWeightBytes (level_bytes_in Shifted levels.now) }
+    requires entries { length entries.old ≡ 2048 }
+    requires true_entries { AreTrueEntries (letters_form book.now 3) entries.old }
+    requires hints { length hints.old ≡ 4096 }
+    requires room { 2 * (length levels.now.letters.now + length levels.now.accents.now + length levels.now.cases.now + length levels.now.variables.now) + 4
+        ≤ length codes.old }
+    ensures true_entries { AreTrueEntries (letters_form book.now 3) entries.new }
+    ensures put { take result codes.new ≡ compact plain_level (forms_of Shifted book.now) (map weights_in (level_bytes_in Shifted levels.now)) }
+    ensures few { result ≤ length codes.new }
 {
+    let form = letters_form(book, 3);
+    let first = put_letters(codes, &form, entries, hints, levels.letters);
+    let second = compare_level(levels.accents, 0x20, first.count);
+    let third = compare_level(levels.cases, 2, levels.accents.len() / 2);
+    let plain = levels.cases.len() / 2 + (levels.letters.len() / 2 - first.count);
+    let fourth = compare_level(levels.variables, 0xFFFF, plain);
     let third_end = end_by(third.order, 3, 1, end_by(fourth.order, 3, 0, 3));
-    out.push(end_by(second.order, 3, 2, third_end))?;
+    codes[first.size] = end_by(second.order, 3, 2, third_end);
+    let at = first.size + 1;
     let end = end_by(third.order, 2, 1, end_by(fourth.order, 2, 0, 2));
-    push_later(out, &accents_form(2), second, end, codes.accents.as_slice())?;
+    let at = put_later(
+        codes,
+        at,
+        &accents_form(2),
+        hints,
+        levels.accents,
+        second,
+        end,
+    );
     let end = end_by(fourth.order, 1, 0, 1);
-    push_later(out, &cases_form(1), third, end, codes.cases.as_slice())?;
+    let at = put_later(codes, at, &cases_form(1), hints, levels.cases, third, end);
     let form = variables_form(book);
-    push_later(out, &form, fourth, 0, codes.variables.as_slice())?;
-    Ok(())
+    put_later(codes, at, &form, hints, levels.variables, fourth, 0)
 }

@@ -1,5 +1,6 @@
 -- The line of output of a line, by its key and by the code points that are printed.
-use Rattle.std.proofs.Common.{◌≡◌, ℕ, ◌^◌, ◌<◌, ◌≤◌, true, List, [], Option, length, chars, refl, ap, arith, ◌∙◌}
+use Rattle.std.proofs.Common.{◌≡◌, ℕ, ◌^◌, ◌<◌, ◌≤◌, Bool, true, false, List, [], Option, length, chars, refl, ap, arith, ◌∙◌}
+use Rattle.std.specs.Bool.{OnTrue}
 use Rattle.std.specs.Str.{IsUtf8}
 use Rattle.unicode_normalization.specs.Forms.{nfd, Nfd}
 use Rattle.unicode_normalization.proofs.LengthLemmas.{length-normalize-chars}
@@ -49,3 +50,8 @@ few_points points text utf8 short are = omega (arith, length-normalize-chars Nfd
 -- a line is shorter than the texts whose keys have a known length
 pub short_line : (text line : List ℕ) → text ≡ line → length line ≤ 4194304 → length text < 2 ^ 36
 short_line text line same short = omega (arith, ap length same, short)
+
+-- what follows from a fact that holds where a test does
+pub if_true : {P Q : Type 0} (b : Bool) → (P → Q) → OnTrue b P → OnTrue b Q
+if_true true f p = f p
+if_true false f p = tt

@@ -16,3 +16,4 @@ pub mod Groups
 pub mod StoredLines
 pub mod GroupKeys
 mod ShownKeys
+mod KeyLevels

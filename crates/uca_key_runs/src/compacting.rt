@@ -1,17 +1,21 @@
 //! The key of a line as it is shown: the whole key, or the compact key that a book makes of it.
 
-ghost use Rattle.std.specs.Prelude.{◌≡◌, OnOk};
+ghost use Rattle.std.specs.Prelude.{◌≡◌, List, OnOk};
 ghost use Rattle.std.specs.Char.{IsScalar};
 ghost use Rattle.std.specs.List.{AllByRecursion};
+ghost use Rattle.uca_weights.specs.declared.Depth.TheVariants.{Weights};
+ghost use Rattle.uca_weights.specs.declared.Element.{Element};
 ghost use Rattle.uca_weights.specs.declared.Settings.{Settings};
 ghost use Rattle.uca_order.specs.Depths.{ReadText, key_at};
+ghost use Rattle.uca_key_writer.specs.KeyLevels.{AreLevelsOf, levels_in};
 ghost use Rattle.uca_key_runs.specs.inside.KeyForms.{IsFor, book_of, compacter_of, shown_at, shown_of};
 ghost use Rattle.uca_compact.specs.CompactKeys.{compact_key, text_parts};
 
 use std::alloc::{AllocError, Allocator};
 use std::marker::Model;
 use uca_books::Book;
-use uca_compact::KeyCompacter;
+use uca_compact::{KeyCompacter, LevelBytes};
+use uca_key_writer::KeyLevels;
 use uca_weights::Settings;
 
 /// Makes compact keys of keys, in memory that is used again for each.
@@ -42,6 +46,27 @@ impl<A: Allocator> Compacting<A> {
             Ok(_) => Ok(()),
             Err(error) => Err(error),
         }
+    }
+
+    /// Makes the compact key of a key at the depth `Weights`, of the levels that the key has.
+    ///
+    /// # Errors
+    ///
+    /// An allocation failed.
+    pub(crate) fn write_levels(&mut self, levels: &KeyLevels<'_>) -> Result<(), AllocError>
+        requires { (es : List Element) × AreLevelsOf self.old.by.settings.weighting es (levels_in levels.now) }
+        ensures by { self.new.by ≡ self.old.by }
+        ensures key { (t : ReadText) → AreLevelsOf self.old.by.settings.weighting t.elements (levels_in levels.now) →
+            OnOk result (self.new.key ≡ compact_key Weights self.old.by.settings.weighting self.old.by.book
+            (text_parts Weights self.old.by.settings.weighting t)) }
+    {
+        let levels = LevelBytes {
+            letters: levels.primary,
+            accents: levels.secondary,
+            cases: levels.tertiary,
+            variables: levels.quaternary,
+        };
+        self.compacter.write_levels(&levels, &mut self.key)
     }
 }
 

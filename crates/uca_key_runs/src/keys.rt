@@ -24,7 +24,7 @@ ghost use Rattle.uca_key_runs.specs.inside.KeyForms.{IsFor, MakesKeys, PrintsAs,
 
 use crate::collations::read_collation;
 use crate::compacting::{Compacting, compact_shown, compacting_by, shown};
-use crate::line_keys::write_line_key;
+use crate::line_keys::{write_line_key, write_line_levels};
 use std::alloc::{Allocator, Global};
 use std::io::{Read, Write};
 use uca_books::Book;
@@ -125,7 +125,42 @@ fn take_points<A: Allocator>(
     }
 }
 
-// Makes the key of the line that was read, and its compact key where that is shown.
+// Makes the compact key of the line that was read of the levels of its key, where compact keys are shown, and returns `true`.
+// It returns `false` if whole keys are shown, or the levels are not written without the key.
+fn make_compact_key<'a, L: Lookup, T: Allocator, A: Allocator>(
+    key: &mut KeyWriter<'a, L, T, A>,
+    compacting: &mut Option<Compacting<A>>,
+    lines: &InputLines<A>,
+) -> Result<bool, InputKind>
+    requires rows { HasShortRows (collation_by L.content key.old).rows }
+    requires compact { IsFor (compacter_of compacting.old) key.old.settings }
+    ensures shown { let c = keying_of_writer L.content key.old in IfOk result (λ made. OnTrue made
+        (shown_of compacting.new key.new.key ≡ shown_at (book_of compacting.old) c.settings.depth c.settings.weighting
+        (read_points c.collation c.settings.numbers (chars lines.now.line)))) }
+    ensures short { IfOk result (λ made. OnTrue made (length (shown_of compacting.new key.new.key) < 2 ^ 41)) }
+    ensures clean { (before : ℕ) → before < LINE_LIMIT → IfOk result (λ made. OnTrue made
+        (cause_of (text_of (keying_of_writer L.content key.old)) before lines.now.line ≡ None)) }
+    ensures fault { (before : ℕ) → before < LINE_LIMIT →
+        IfErr result (HasTextCause (text_of (keying_of_writer L.content key.old)) before lines.now.line) }
+    ensures not_read { is_read result ≡ false }
+    ensures collation { collation_by L.content key.new ≡ collation_by L.content key.old }
+    ensures settings { key.new.settings ≡ key.old.settings }
+    ensures compacter { compacter_of compacting.new ≡ compacter_of compacting.old }
+{
+    match compacting {
+        Some(compacting) => match write_line_levels(key, lines) {
+            Ok(true) => match compacting.write_levels(&key.levels()) {
+                Ok(()) => Ok(true),
+                Err(_) => Err(InputKind::Memory),
+            },
+            Ok(false) => Ok(false),
+            Err(kind) => Err(kind),
+        },
+        None => Ok(false),
+    }
+}
+
+// Makes the key of the line that was read, or its compact key where that is shown.
 fn make_shown_key<'a, L: Lookup, T: Allocator, A: Allocator>(
     key: &mut KeyWriter<'a, L, T, A>,
     compacting: &mut Option<Compacting<A>>,
@@ -146,10 +181,14 @@ fn make_shown_key<'a, L: Lookup, T: Allocator, A: Allocator>(
     ensures settings { key.new.settings ≡ key.old.settings }
     ensures compacter { compacter_of compacting.new ≡ compacter_of compacting.old }
 {
-    match write_line_key(key, lines) {
-        Ok(()) => match compact_shown(compacting, key.bytes()) {
-            Ok(()) => Ok(()),
-            Err(_) => Err(InputKind::Memory),
+    match make_compact_key(key, compacting, lines) {
+        Ok(true) => Ok(()),
+        Ok(false) => match write_line_key(key, lines) {
+            Ok(()) => match compact_shown(compacting, key.bytes()) {
+                Ok(()) => Ok(()),
+                Err(_) => Err(InputKind::Memory),
+            },
+            Err(kind) => Err(kind),
         },
         Err(kind) => Err(kind),
     }

@@ -285,4 +285,4 @@ pub whole_if_begun : (c : Collation) (held state : KeyState) (xs key : List ℕ)
     → HasBegun c held.weighting xs levels → length levels.primary < 16 → ((es : List Element) → HoldsLevels held.weighting es levels → key ≡ key_bytes held.weighting es)
     → take 16 key ≡ take 16 (key_as_it_is c state.weighting state.depth xs)
 whole_if_begun c held state xs key levels same depth begun short joined =
-    ap (take 16) (key_if_read c held state true xs key levels same depth (begun.whole short) joined)
+    ap (take 16) (key_if_read c held state xs key levels same depth (begun.whole short) joined)

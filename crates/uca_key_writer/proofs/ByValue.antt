@@ -1,5 +1,5 @@
 -- A text whose numbers are written by value, or one that stays as it is.
-use Rattle.std.proofs.Common.{◌≡◌, ℕ, ◌*◌, ◌<◌, ◌^◌, List, [], ◌∷◌, length, arith, length-append, Bool, true, false, Result, refl, sym, ap, ap₂, subst, ◌∙◌, ◌⊎◌, inl, inr}
+use Rattle.std.proofs.Common.{◌≡◌, ℕ, ◌<◌, ◌^◌, List, ◌∷◌, length, arith, length-append, Bool, true, false, Result, sym, ap, ap₂, subst, ◌∙◌, ◌⊎◌, inl, inr}
 use Rattle.std.specs.Result.{OnOk}
 use Rattle.std.specs.Bool.{OnTrue, MatchBool}
 use Rattle.std.specs.Str.{chars, IsUtf8}

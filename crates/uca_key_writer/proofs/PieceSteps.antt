@@ -12,6 +12,7 @@ use Rattle.uca_weights.specs.declared.Depth.{Depth}
 use Rattle.uca_weights.specs.declared.Depth.TheVariants.{Weights}
 use Rattle.uca_weights.specs.declared.Element.{Element}
 use Rattle.uca_weights.specs.declared.Weighting.{Weighting}
+use Rattle.uca_weights.specs.declared.Weighting.TheVariants.{NonIgnorable, Shifted}
 use Rattle.uca_text.specs.Texts.{NfdText, nfd_text}
 use Rattle.uca_text.specs.Limits.{HasNoLongRun, IsAccepted}
 use Rattle.uca_text.proofs.NfdPieces.{pieces_have_no_long_run}
@@ -22,8 +23,9 @@ use Rattle.uca_order.specs.Levels.{key_bytes}
 use Rattle.uca_order.specs.Depths.{read_text, key_at}
 use Rattle.uca_order.specs.Lengths.{HasShortRows}
 use Rattle.uca_key_writer.specs.Buffers.{KeyState}
+use Rattle.uca_key_writer.specs.KeyLevels.{AreLevelsOf}
 use Rattle.uca_key_writer.specs.inside.AsItIs.{key_as_it_is}
-use Rattle.uca_key_writer.specs.inside.LevelBuffers.{LevelState, HoldsLevels}
+use Rattle.uca_key_writer.specs.inside.LevelBuffers.{LevelState, HoldsLevels, four_levels}
 use Rattle.uca_plain.specs.Plain.{IsPlain}
 use Rattle.uca_plain.specs.PointCache.{IsTrueEntry}
 use Rattle.uca_key_writer.specs.inside.Pieces.{points_by, piece_points, IsTrueAlone, ReadsTo, HasRead}
@@ -155,29 +157,44 @@ begin_text c weighting b piece empty points none = record {
 
 -- ---- The whole text, if it is accepted
 
-pub accepted_if_read : (c : Collation) (weighting : Weighting) (accepted : Bool) (text : List ℕ) (b : LevelState) → IsUtf8 text → length text ≤ 524288
-    → OnTrue accepted (HasRead c weighting (chars text) b) → OnTrue accepted (IsAccepted (nfd_text c.properties (chars text)))
+-- what follows from a fact that holds where a text is accepted
+pub on_accepted : {E P Q : Type 0} (r : Result Bool E) → (P → Q) → IfOk r (λ ok. OnTrue ok P) → IfOk r (λ ok. OnTrue ok Q)
+on_accepted (Ok true) f p = f p
+on_accepted (Ok false) f p = tt
+on_accepted (Err e) f p = tt
+
+pub accepted_if_read : (c : Collation) (weighting : Weighting) (text : List ℕ) (b : LevelState) → IsUtf8 text → length text ≤ 524288
+    → HasRead c weighting (chars text) b → IsAccepted (nfd_text c.properties (chars text))
 unfolding HasRead
-accepted_if_read c weighting true text b utf8 short read = record {
+accepted_if_read c weighting text b utf8 short read = record {
   same = length-map (nfd (chars text)) c.properties.class;
   few = omega (arith, length-normalize-chars Nfd text utf8);
   short_runs = read.1;
 }
-accepted_if_read c weighting false text b utf8 short read = tt
 
-pub key_if_read : (c : Collation) (held state : KeyState) (accepted : Bool) (xs key : List ℕ) (b : LevelState) → held ≡ state → held.depth ≡ Weights
-    → OnTrue accepted (HasRead c held.weighting xs b) → ((es : List Element) → HoldsLevels held.weighting es b → key ≡ key_bytes held.weighting es)
-    → OnTrue accepted (key ≡ key_as_it_is c state.weighting state.depth xs)
+pub key_if_read : (c : Collation) (held state : KeyState) (xs key : List ℕ) (b : LevelState) → held ≡ state → held.depth ≡ Weights
+    → HasRead c held.weighting xs b → ((es : List Element) → HoldsLevels held.weighting es b → key ≡ key_bytes held.weighting es)
+    → key ≡ key_as_it_is c state.weighting state.depth xs
 unfolding HasRead
-key_if_read c held state true xs key b same depth read joined =
+key_if_read c held state xs key b same depth read joined =
     let by_weights : key ≡ key_at Weights held.weighting (read_text c (nfd_text c.properties xs)) = joined (elements_of c (nfd_text c.properties xs)) read.0 in
     by_weights
     ∙ ap (λ d. key_at d held.weighting (read_text c (nfd_text c.properties xs))) (sym depth)
     ∙ ap (λ (s : KeyState). key_as_it_is c s.weighting s.depth xs) same
-key_if_read c held state false xs key b same depth read joined = tt
 
-pub short_if_read : (c : Collation) (weighting : Weighting) (depth : Depth) (accepted : Bool) (text : NfdText) (key : List ℕ) → HasShortRows c.rows
-    → OnTrue accepted (key ≡ key_at depth weighting (read_text c text)) → OnTrue accepted (IsAccepted text) → OnTrue accepted (length key < 2 ^ 40)
-short_if_read c weighting depth true text key short is accepted =
+pub short_if_read : (c : Collation) (weighting : Weighting) (depth : Depth) (text : NfdText) (key : List ℕ) → HasShortRows c.rows
+    → key ≡ key_at depth weighting (read_text c text) → IsAccepted text → length key < 2 ^ 40
+short_if_read c weighting depth text key short is accepted =
     subst (λ (l : List ℕ). length l < 2 ^ 40) (sym is) (keys_short c depth weighting text short accepted)
-short_if_read c weighting depth false text key short is accepted = tt
+
+-- the levels that are held are those of the key
+levels_held : (weighting : Weighting) (es : List Element) (b : LevelState) → HoldsLevels weighting es b → AreLevelsOf weighting es (four_levels b)
+levels_held NonIgnorable es b h = λ i. h.primary i ∷ h.secondary i ∷ h.tertiary i ∷ []
+levels_held Shifted es b h = λ i. h.primary i ∷ h.secondary i ∷ h.tertiary i ∷ h.quaternary i ∷ []
+
+pub levels_if_read : (c : Collation) (held state : KeyState) (xs : List ℕ) (b : LevelState) → held ≡ state → HasRead c held.weighting xs b
+    → AreLevelsOf state.weighting (elements_of c (nfd_text c.properties xs)) (four_levels b)
+unfolding HasRead
+levels_if_read c held state xs b same read =
+    let es = elements_of c (nfd_text c.properties xs) in
+    subst (λ (s : KeyState). AreLevelsOf s.weighting es (four_levels b)) same (levels_held held.weighting es b read.0)

@@ -2,18 +2,21 @@
 
 ghost use Rattle.std.specs.Prelude.{◌≡◌, ℕ, [], ◌∷◌, ◌++◌, ◌<◌, ◌≤◌, ◌^◌, List, length, take, chars, OnOk, IfOk, IfErr};
 ghost use Rattle.std.specs.Bool.{OnTrue};
+ghost use Rattle.uca_weights.specs.declared.Depth.TheVariants.{Weights};
 ghost use Rattle.uca_text.specs.Texts.{nfd_text};
 ghost use Rattle.uca_text.specs.Limits.{IsAccepted};
 ghost use Rattle.uca_text.specs.Faults.{IsCause};
 ghost use Rattle.uca_elements.specs.Collations.{collation_of, elements_of};
 ghost use Rattle.uca_order.specs.Depths.{read_text, key_at};
 ghost use Rattle.uca_order.specs.Lengths.{HasShortRows};
+ghost use Rattle.uca_key_writer.specs.KeyLevels.{AreLevelsOf, levels_in};
 ghost use Rattle.uca_key_writer.specs.inside.AsItIs.{key_as_it_is};
 ghost use Rattle.uca_key_writer.specs.inside.LevelBuffers.{HoldsLevels};
 ghost use Rattle.uca_key_writer.specs.inside.Pieces.{ReadsTo, HasRead};
 ghost use Rattle.uca_plain.specs.PointCache.{IsTrueEntry, AreTrueEntries};
 ghost use Rattle.uca_key_writer.specs.inside.Readings.{ReadsOn};
 
+use crate::KeyLevels;
 use crate::beginnings::{has_short_runs, push_beginning};
 use crate::level_buffers::LevelBuffers;
 use crate::pieces::{Piece, Reading};
@@ -36,10 +39,11 @@ pub struct KeyBuffer<A: Allocator = Global> {
 
 impl<A: Allocator> Model for KeyBuffer<A> {
     ghost use Rattle.uca_key_writer.specs.Buffers.{KeyState};
+    ghost use Rattle.uca_key_writer.specs.inside.LevelBuffers.{four_levels};
 
     ghost Value = { KeyState };
 
-    ghost view = { λ b. record { weighting = b.weighting; depth = b.depth; key = b.levels.key } };
+    ghost view = { λ b. record { weighting = b.weighting; depth = b.depth; key = b.levels.key; levels = four_levels b.levels } };
 }
 
 impl<A: Allocator + Copy> KeyBuffer<A> {
@@ -127,25 +131,58 @@ impl<A: Allocator> KeyBuffer<A> {
         ensures weighting { self.new.weighting ≡ self.old.weighting }
         ensures depth { self.new.depth ≡ self.old.depth }
     {
-        if text.len() > SHORT_TEXT {
-            return Ok(false);
-        }
-        match self.depth {
-            Depth::Identical => Ok(false),
-            Depth::Weights => {
-                self.levels.clear();
-                let accepted = push_pieces(
-                    &mut self.levels,
-                    self.weighting,
-                    collator,
-                    points,
-                    piece,
-                    text,
-                )?;
+        match take_pieces(
+            &mut self.levels,
+            self.weighting,
+            self.depth,
+            collator,
+            points,
+            piece,
+            text,
+        ) {
+            Ok(true) => {
                 self.levels.join(self.weighting)?;
-                Ok(accepted)
+                Ok(true)
             }
+            Ok(false) => Ok(false),
+            Err(error) => Err(error),
         }
+    }
+
+    /// Writes the levels of the key of a text piece by piece, over those that were there, and returns `true`. They are not
+    /// joined: the bytes of the key are then unspecified. If a piece is rejected, the text has more than 524,288 bytes or the
+    /// depth is `Identical`, it returns `false`, and the levels are unspecified too.
+    ///
+    /// # Errors
+    ///
+    /// An allocation failed. The levels and the bytes are then unspecified.
+    pub(crate) fn write_levels<L: Lookup, T: Allocator>(
+        &mut self,
+        collator: &Collator<L, T>,
+        points: &mut PointCache<A>,
+        piece: &mut Piece,
+        text: &str,
+    ) -> Result<bool, AllocError>
+        requires { AreTrueEntries (collation_of L.content collator.now) points.old.entries.items }
+        ensures entries { AreTrueEntries (collation_of L.content collator.now) points.new.entries.items }
+        ensures levels { let c = collation_of L.content collator.now in
+            IfOk result (λ written. OnTrue written
+            (AreLevelsOf self.old.weighting (elements_of c (nfd_text c.properties (chars text.now))) self.new.levels)) }
+        ensures accepted { let c = collation_of L.content collator.now in
+            IfOk result (λ written. OnTrue written (IsAccepted (nfd_text c.properties (chars text.now)))) }
+        ensures without_points { IfOk result (λ written. OnTrue written (self.old.depth ≡ Weights)) }
+        ensures weighting { self.new.weighting ≡ self.old.weighting }
+        ensures depth { self.new.depth ≡ self.old.depth }
+    {
+        take_pieces(
+            &mut self.levels,
+            self.weighting,
+            self.depth,
+            collator,
+            points,
+            piece,
+            text,
+        )
     }
 
     /// Writes the key of a text as it is, over the key that was there. This is done piece by piece, or else by its Normalization
@@ -236,6 +273,13 @@ impl<A: Allocator> KeyBuffer<A> {
         }
     }
 
+    /// The levels that were written last. A call that writes a key, or the beginning of one, leaves them unspecified.
+    pub fn levels(&self) -> KeyLevels<'_>
+        ensures { levels_in result ≡ self.now.levels }
+    {
+        self.levels.levels()
+    }
+
     /// How far its keys go.
     pub(crate) fn depth(&self) -> Depth
         ensures { result ≡ self.now.depth }
@@ -258,6 +302,37 @@ impl<A: Allocator> KeyBuffer<A> {
     {
         let KeyBuffer { levels, .. } = self;
         levels.into_key()
+    }
+}
+
+// Takes the weights of a text to the levels, over those that were there, and returns `true`. If a piece is rejected, the text
+// has more than 524,288 bytes or the depth is `Identical`, it returns `false`, and the weights are unspecified.
+fn take_pieces<L: Lookup, T: Allocator, A: Allocator>(
+    levels: &mut LevelBuffers<A>,
+    weighting: Weighting,
+    depth: Depth,
+    collator: &Collator<L, T>,
+    points: &mut PointCache<A>,
+    piece: &mut Piece,
+    text: &str,
+) -> Result<bool, AllocError>
+    requires { AreTrueEntries (collation_of L.content collator.now) points.old.entries.items }
+    ensures entries { AreTrueEntries (collation_of L.content collator.now) points.new.entries.items }
+    ensures read { let c = collation_of L.content collator.now in
+        IfOk result (λ accepted. OnTrue accepted (HasRead c weighting (chars text.now) levels.new)) }
+    ensures accepted { let c = collation_of L.content collator.now in
+        IfOk result (λ accepted. OnTrue accepted (IsAccepted (nfd_text c.properties (chars text.now)))) }
+    ensures without_points { IfOk result (λ accepted. OnTrue accepted (depth ≡ Weights)) }
+{
+    if text.len() > SHORT_TEXT {
+        return Ok(false);
+    }
+    match depth {
+        Depth::Identical => Ok(false),
+        Depth::Weights => {
+            levels.clear();
+            push_pieces(levels, weighting, collator, points, piece, text)
+        }
     }
 }
 

@@ -5,17 +5,19 @@
 
 ghost use Rattle.std.specs.Prelude.{◌≡◌, [], ◌<◌, ◌^◌, ◌⊎◌, length, take, chars, OnOk, IfOk, IfErr};
 ghost use Rattle.std.specs.Bool.{OnTrue, MatchBool};
+ghost use Rattle.uca_weights.specs.declared.Depth.TheVariants.{Weights};
 ghost use Rattle.uca_weights.specs.declared.Numbers.TheVariants.{AsText, ByValue};
 ghost use Rattle.uca_text.specs.Limits.{IsAccepted};
 ghost use Rattle.uca_text.specs.Faults.{IsCause};
 ghost use Rattle.uca_elements.specs.Collations.{Collation, collation_of};
-ghost use Rattle.uca_order.specs.Depths.{written, written_text, text_key};
+ghost use Rattle.uca_order.specs.Depths.{read_points, written, written_text, text_key};
 ghost use Rattle.uca_order.specs.Lengths.{HasShortRows};
 ghost use Rattle.uca_plain.specs.PointCache.{AreTrueEntries};
+ghost use Rattle.uca_key_writer.specs.KeyLevels.{AreLevelsOf, levels_in};
 ghost use Rattle.uca_key_writer.specs.Memories.{settings_in};
 
-use crate::KeyBuffer;
 use crate::pieces::Piece;
+use crate::{KeyBuffer, KeyLevels};
 use std::alloc::{AllocError, Allocator, Global};
 use uca_elements::{Collator, Lookup};
 use uca_numbers::{WrittenText, has_no_digit};
@@ -138,6 +140,49 @@ impl<A: Allocator> KeyMemory<A> {
         }
     }
 
+    /// Writes the levels of the key of a text, over those that were there, without joining them to a key, and returns `true`.
+    /// The key that was written last is then no longer there: its bytes are unspecified.
+    ///
+    /// The text is read piece by piece. If that cannot be, it returns `false`, and the levels are unspecified: then
+    /// [`write`](KeyMemory::write) tells. So it is where a piece is rejected, where the text that is read has more than 524,288
+    /// bytes, and at the depth `Identical`.
+    ///
+    /// # Errors
+    ///
+    /// An allocation failed. The levels and the bytes are then unspecified.
+    pub fn write_levels<L: Lookup, T: Allocator>(
+        &mut self,
+        collator: &Collator<L, T>,
+        text: &str,
+    ) -> Result<bool, AllocError>
+        requires { AreTrueEntries (collation_of L.content collator.now) self.old.points.entries.items }
+        ensures known { AreTrueEntries (collation_of L.content collator.now) self.new.points.entries.items }
+        ensures levels { let c = collation_of L.content collator.now in IfOk result (λ written. OnTrue written
+            (AreLevelsOf self.old.buffer.weighting (read_points c self.old.numbers (chars text.now)).elements self.new.buffer.levels)) }
+        ensures accepted { let c = collation_of L.content collator.now in IfOk result (λ written. OnTrue written
+            (IsAccepted (written_text self.old.numbers c.properties (chars text.now)))) }
+        ensures depth { IfOk result (λ written. OnTrue written (self.old.buffer.depth ≡ Weights)) }
+        ensures settings { settings_in self.new ≡ settings_in self.old }
+    {
+        if is_read_as_it_is(self.numbers, text) {
+            return self
+                .buffer
+                .write_levels(collator, &mut self.points, &mut self.piece, text);
+        }
+        match self.buffer.depth() {
+            Depth::Identical => Ok(false),
+            Depth::Weights => {
+                self.written.renew(text)?;
+                self.buffer.write_levels(
+                    collator,
+                    &mut self.points,
+                    &mut self.piece,
+                    self.written.as_str(),
+                )
+            }
+        }
+    }
+
     /// Writes at least the first sixteen bytes of the key of a text, over the key that was there. A shorter key is written
     /// whole. So keys are compared by their beginnings before any is written whole: this takes less time for a long text,
     /// which is read no further than these bytes need. The rest is only judged.
@@ -200,6 +245,13 @@ impl<A: Allocator> KeyMemory<A> {
                 )
             }
         }
+    }
+
+    /// The levels that were written last, as [`KeyBuffer::levels`] describes them.
+    pub fn levels(&self) -> KeyLevels<'_>
+        ensures { levels_in result ≡ self.now.buffer.levels }
+    {
+        self.buffer.levels()
     }
 
     /// The key that was written last, as [`KeyBuffer::bytes`] describes it.

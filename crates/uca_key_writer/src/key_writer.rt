@@ -1,16 +1,19 @@
 //! `KeyWriter`: writes the keys of texts, one after another.
 
-ghost use Rattle.std.specs.Prelude.{◌≡◌, [], ◌<◌, ◌^◌, ◌⊎◌, length, take, chars, OnOk, IfErr};
+ghost use Rattle.std.specs.Prelude.{◌≡◌, [], ◌<◌, ◌^◌, ◌⊎◌, length, take, chars, OnOk, IfOk, IfErr};
+ghost use Rattle.std.specs.Bool.{OnTrue};
+ghost use Rattle.uca_weights.specs.declared.Depth.TheVariants.{Weights};
 ghost use Rattle.uca_weights.specs.declared.Numbers.TheVariants.{AsText};
 ghost use Rattle.uca_text.specs.Limits.{IsAccepted};
 ghost use Rattle.uca_text.specs.Faults.{IsCause};
 ghost use Rattle.uca_elements.specs.Collations.{collation_of};
-ghost use Rattle.uca_order.specs.Depths.{text_key, written_text};
+ghost use Rattle.uca_order.specs.Depths.{read_points, text_key, written_text};
 ghost use Rattle.uca_order.specs.Lengths.{HasShortRows};
+ghost use Rattle.uca_key_writer.specs.KeyLevels.{AreLevelsOf, levels_in};
 ghost use Rattle.uca_key_writer.specs.Writers.{collation_by};
 
-use crate::KeyMemory;
-use std::alloc::{Allocator, Global};
+use crate::{KeyLevels, KeyMemory};
+use std::alloc::{AllocError, Allocator, Global};
 use std::marker::Model;
 use uca_elements::{Collator, Lookup};
 use uca_text::TextFault;
@@ -38,6 +41,7 @@ impl<'a, L: Lookup, T: Allocator, A: Allocator> Model for KeyWriter<'a, L, T, A>
       data_file = w.collator.data.now;
       settings = settings_in w.memory;
       key = w.memory.buffer.key;
+      levels = w.memory.buffer.levels;
     } };
 
     ghost invariant = { λ w. AreTrueEntries (collation_of L.content w.collator) w.memory.points.entries.items };
@@ -79,6 +83,28 @@ impl<'a, L: Lookup, T: Allocator, A: Allocator> KeyWriter<'a, L, T, A> {
         self.memory.write(&self.collator, text)
     }
 
+    /// Writes the levels of the key of a text, over those that were there, without joining them to a key, and returns `true`.
+    /// The key that was written last is then no longer there: its bytes are unspecified.
+    ///
+    /// The text is read piece by piece. If that cannot be, it returns `false`, and the levels are unspecified: then
+    /// [`write`](KeyWriter::write) tells. So it is where a piece is rejected, where the text that is read has more than 524,288
+    /// bytes, and at the depth `Identical`.
+    ///
+    /// # Errors
+    ///
+    /// An allocation failed. The levels and the bytes are then unspecified.
+    pub fn write_levels(&mut self, text: &str) -> Result<bool, AllocError>
+        ensures levels { let c = collation_by L.content self.old in IfOk result (λ written. OnTrue written
+            (AreLevelsOf self.old.settings.weighting (read_points c self.old.settings.numbers (chars text.now)).elements self.new.levels)) }
+        ensures accepted { let c = collation_by L.content self.old in IfOk result (λ written. OnTrue written
+            (IsAccepted (written_text self.old.settings.numbers c.properties (chars text.now)))) }
+        ensures depth { IfOk result (λ written. OnTrue written (self.old.settings.depth ≡ Weights)) }
+        ensures collation { collation_by L.content self.new ≡ collation_by L.content self.old }
+        ensures settings { self.new.settings ≡ self.old.settings }
+    {
+        self.memory.write_levels(&self.collator, text)
+    }
+
     /// Writes at least the first sixteen bytes of the key of a text, over the key that was there. A shorter key is written
     /// whole. So keys are compared by their beginnings before any is written whole: this takes less time for a long text,
     /// which is read no further than these bytes need. The rest is only judged.
@@ -97,6 +123,13 @@ impl<'a, L: Lookup, T: Allocator, A: Allocator> KeyWriter<'a, L, T, A> {
         ensures settings { self.new.settings ≡ self.old.settings }
     {
         self.memory.write_beginning(&self.collator, text)
+    }
+
+    /// The levels that were written last, as [`KeyBuffer::levels`](crate::KeyBuffer::levels) describes them.
+    pub fn levels(&self) -> KeyLevels<'_>
+        ensures { levels_in result ≡ self.now.levels }
+    {
+        self.memory.levels()
     }
 
     /// The key that was written last, as [`KeyBuffer::bytes`](crate::KeyBuffer::bytes) describes it.

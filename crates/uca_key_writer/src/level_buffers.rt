@@ -10,10 +10,12 @@ ghost use Rattle.uca_order.specs.Levels.{key_bytes};
 ghost use Rattle.uca_order.specs.Depths;
 ghost use Rattle.uca_order.specs.Depths.{points_bytes};
 ghost use Rattle.uca_plain.specs.Leaves.{points_elements};
-ghost use Rattle.uca_key_writer.specs.inside.LevelBuffers.{HoldsLevels, flattened};
+ghost use Rattle.uca_key_writer.specs.KeyLevels.{levels_in};
+ghost use Rattle.uca_key_writer.specs.inside.LevelBuffers.{HoldsLevels, flattened, four_levels};
 ghost use Rattle.uca_plain.specs.PointCache.{AreTrueEntries};
 ghost use Rattle.uca_key_writer.specs.inside.Stretches.{ReadsUpTo, StretchReads};
 
+use crate::KeyLevels;
 use crate::slots::{Counts, NO_WEIGHTS, make_rooms, put_elements};
 use crate::stretches::{LEAVES, STRETCH_SLOTS, Stretch, put_leaves, put_stretch};
 use std::alloc::{AllocError, Allocator};
@@ -312,6 +314,19 @@ impl<A: Allocator> LevelBuffers<A> {
             self.key.extend_from_slice(&point_bytes(*point))?;
         }
         Ok(())
+    }
+
+    /// The weights of each level of the elements that were pushed.
+    #[inline]
+    pub(crate) fn levels(&self) -> KeyLevels<'_>
+        ensures { levels_in result ≡ four_levels self.now }
+    {
+        KeyLevels {
+            primary: self.primary[..self.counts.primary].as_flattened(),
+            secondary: self.secondary[..self.counts.secondary].as_flattened(),
+            tertiary: self.tertiary[..self.counts.tertiary].as_flattened(),
+            quaternary: self.quaternary[..self.counts.quaternary].as_flattened(),
+        }
     }
 
     /// The key that was written last.

@@ -24,6 +24,7 @@
 //! - `stretches.rt`: plain code points in a row, at most 64 at a time. The last one waits, since a mark may follow it.
 //! - `level_buffers.rt` and `slots.rt`: each level has slots for weights, and a count of those that are filled. Room for a stretch
 //!   is made before its loop: three slots a code point, so 192 a level.
+//! - `key_levels.rt`: `KeyLevels`, the levels for a caller who needs no key, as one that makes compact keys of them.
 //! - `beginnings.rt`: level 1 comes first in a key. So the first sixteen bytes of a key are known once level 1 has eight weights,
 //!   and the rest of the text has only to be accepted.
 //!
@@ -37,6 +38,7 @@
 
 mod beginnings;
 pub mod key_buffer;
+mod key_levels;
 mod key_memory;
 pub mod key_writer;
 pub mod keys;
@@ -46,6 +48,7 @@ mod slots;
 mod stretches;
 
 pub use key_buffer::KeyBuffer;
+pub use key_levels::KeyLevels;
 pub use key_memory::KeyMemory;
 pub use key_writer::KeyWriter;
 pub use keys::{key, key_of};

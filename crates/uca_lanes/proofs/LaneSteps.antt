@@ -1,57 +1,12 @@
 -- From the mask of a load of bytes to the bytes.
-use Rattle.std.proofs.Common.{◌≡◌, ℕ, ◌+◌, ◌-◌, ◌%◌, ◌^◌, ◌<◌, ◌≤◌, Bool, true, false, not, cond, List, [], ◌∷◌, map, length, get_or, replicate, w8, eqb, leb, eqb-true, refl, sym, ap, ap₂, subst, ◌∙◌, arith, zero, suc, take, inl, inr}
-use Rattle.std.specs.Bool.{OnTrue}
+use Rattle.std.proofs.Common.{◌≡◌, ℕ, ◌+◌, ◌-◌, ◌%◌, ◌^◌, ◌<◌, ◌≤◌, Bool, false, not, cond, List, [], ◌∷◌, map, length, get_or, w8, eqb, eqb-true, refl, sym, ap, ap₂, subst, ◌∙◌, arith, zero, suc, take, inl, inr}
 use Rattle.std.specs.List.{prefix_len}
-use Rattle.std.proofs.lemmas.Bool.{cases_lt, not-true, not-false, leb-false, eqb-false}
-use Rattle.std.proofs.lemmas.List.{length-map}
+use Rattle.std.proofs.lemmas.Bool.{cases_lt, not-true, not-false, eqb-false}
 use Rattle.std.proofs.lemmas.List.Sums.{prefix_len-le-length, prefix_len_passes, prefix_len_stops}
-use Rattle.std.proofs.lemmas.Simd.{map-map, mask_l-mod, length-chunk, get_or-chunk, length-zip2, get_or-zip2, tops_compared, none_from_empty_mask, first_set_mask_l}
+use Rattle.std.proofs.lemmas.Simd.{mask_l-mod, length-chunk, get_or-chunk, length-zip2, get_or-zip2, tops_compared, first_set_mask_l}
 use lib.Lanes.{chunk, zip2, mask_l, top}
-use Rattle.uca_lanes.specs.Lanes.{AreAscii, IsSameRun, first_set}
-
--- what follows from a test
-by_test : {P : Type 0} (t : Bool) → (t ≡ true → P) → OnTrue t P
-by_test true h = h refl
-by_test false h = tt
-
--- ---- ASCII
-
--- the lane of a byte is all ones if it is no ASCII
-high : ℕ → ℕ
-high x = cond (leb 128 x) 255 0
-
-abbrev is_high : ℕ → Bool
-is_high x = top 7 (high x)
-
--- a vector of 128s that is compared to others, lane by lane
-highs : (xs : List ℕ) (n : ℕ) → length xs ≡ n → zip2 (λ a b. cond (leb a b) 255 0) (replicate n 128) xs ≡ map high xs
-unfolding high
-highs [] n e = ap (λ k. zip2 (λ a b. cond (leb a b) 255 0) (replicate k 128) []) (sym e)
-highs (x ∷ xs) n e =
-    ap (λ k. zip2 (λ a b. cond (leb a b) 255 0) (replicate k 128) (x ∷ xs)) (sym e) ∙ ap (λ r. high x ∷ r) (highs xs (length xs) refl)
-
-low_byte : (x : ℕ) → is_high x ≡ false → x < 128
-unfolding high
-low_byte x is = by (leb 128 x) refl is
-  where
-    by : (t : Bool) → leb 128 x ≡ t → top 7 (cond t 255 0) ≡ false → x < 128
-    by true e wrong = absurd (true_not_false wrong)
-      where
-        true_not_false : true ≡ false → ⊥
-        true_not_false h = cc
-    by false e _ = omega (arith, leb-false _ _ e)
-
--- so many bytes are ASCII if the mask of their lanes is empty
-pub ascii_lanes : (n : ℕ) (bytes : List ℕ) (at : ℕ) → at + n ≤ length bytes → n ≤ 64
-    → OnTrue (eqb (mask_l (map (top 7) (zip2 (λ a b. cond (leb a b) 255 0) (replicate n 128) (chunk at n bytes))) % 2 ^ 64) 0) (AreAscii bytes at n)
-ascii_lanes n bytes at room few = by_test {P = AreAscii bytes at n} _ (λ e i from below. low_byte (get_or bytes i 0) (none_from_empty_mask is_high bytes at n 0 room (sym mask ∙ eqb-true _ _ e) i from below))
-  where
-    mask : mask_l (map (top 7) (zip2 (λ a b. cond (leb a b) 255 0) (replicate n 128) (chunk at n bytes))) % 2 ^ 64 ≡ mask_l (map is_high (chunk at n bytes))
-    mask =
-        let v = chunk at n bytes in
-        let long = length-chunk at n bytes room in
-        ap (λ l. mask_l l % 2 ^ 64) (ap (map (top 7)) (highs v n long) ∙ map-map (top 7) high v)
-        ∙ mask_l-mod (map is_high v) 64 (omega (arith, length-map v is_high, long))
+use Rattle.uca_lanes.specs.Lanes.{IsSameRun}
+use Rattle.uca_lanes.specs.inside.Marks.{first_set}
 
 -- ---- Two texts
 

@@ -1,1 +1,4 @@
 mod LaneSteps
+mod CodePoints
+mod MaskSteps
+mod Whole

@@ -1,51 +1,17 @@
-//! Bytes, eight or sixteen at a time: whether they are ASCII, and how many of them two texts have in common.
+//! Bytes, eight or sixteen at a time: whether they are UTF-8, and how many of them two texts have in common.
 //!
-//! A loop over single bytes would end elsewhere for each text, and no processor foretells that. Fewer than eight bytes are
-//! taken one by one.
+//! A loop over single bytes would end elsewhere for each text, and no processor foretells that. Where two texts are
+//! compared, fewer than eight bytes are taken one by one.
 #![tactic(auto)]
 
 ghost use Rattle.std.specs.Prelude.{◌≡◌, ◌≢◌, ℕ, ◌+◌, ◌<◌, ◌≤◌, length, get_or, take};
-ghost use Rattle.std.specs.Bool.{OnTrue};
-ghost use Rattle.std.specs.Str.{IsAscii};
-ghost use Rattle.uca_lanes.specs.Lanes.{AreAscii, IsSameRun, first_set};
+ghost use Rattle.uca_lanes.specs.Lanes.{IsSameRun};
+ghost use Rattle.uca_lanes.specs.inside.Marks.{first_set};
+
+mod utf8;
 
 use std::simd::prelude::*;
-
-// Whether the eight bytes from this position on are ASCII.
-#[inline(always)]
-fn are_eight_ascii(bytes: &[u8], at: usize) -> bool
-    requires { at + 8 ≤ length bytes.now }
-    ensures { OnTrue result (AreAscii bytes.now at 8) }
-{
-    let lanes = u8x8::from_slice(&bytes[at..]);
-    lanes.simd_ge(u8x8::splat(0x80)).to_bitmask() == 0
-}
-
-// Whether the sixteen bytes from this position on are ASCII.
-#[inline(always)]
-fn are_sixteen_ascii(bytes: &[u8], at: usize) -> bool
-    requires { at + 16 ≤ length bytes.now }
-    ensures { OnTrue result (AreAscii bytes.now at 16) }
-{
-    let lanes = u8x16::from_slice(&bytes[at..]);
-    lanes.simd_ge(u8x16::splat(0x80)).to_bitmask() == 0
-}
-
-/// Whether all bytes are ASCII. Of 8 to 32 bytes it is found out with no loop. `false` says nothing.
-#[inline(always)]
-pub fn are_ascii(bytes: &[u8]) -> bool
-    ensures { OnTrue result (IsAscii bytes.now) }
-{
-    let len = bytes.len();
-    if len < 8 || len > 32 {
-        return bytes.is_ascii();
-    }
-    if len < 16 {
-        are_eight_ascii(bytes, 0) & are_eight_ascii(bytes, len - 8)
-    } else {
-        are_sixteen_ascii(bytes, 0) & are_sixteen_ascii(bytes, len - 16)
-    }
-}
+pub use utf8::is_utf8;
 
 // The place of the lowest bit that is set, or the number of lanes if none is.
 #[inline(always)]

@@ -37,6 +37,7 @@ impl Model for OwnedCollator {
       data_file = (arc_value c.collation).properties;
       settings = c.settings;
       key = c.keys.buffer.key;
+      levels = c.keys.buffer.levels;
     } };
 
     ghost invariant = { λ c. IsKept (owned_collation (arc_value c.collation)) c.settings c.keys c.comparison };

@@ -1,6 +1,7 @@
 -- The place of a weight among cells, as a program finds it.
-use Rattle.std.specs.Prelude.{◌≡◌, ℕ, ◌/◌, ◌%◌, ◌<◌, ◌≤◌, List, [], ◌∷◌, ◌++◌, length, get_or}
+use Rattle.std.specs.Prelude.{◌≡◌, ℕ, ◌<◌, ◌≤◌, List, [], ◌∷◌, ◌++◌, length, get_or, take}
 use Rattle.std.specs.List.{AllByRecursion}
+use Rattle.uca_compact.specs.declared.key_buffers.Entry.{Entry}
 use Rattle.uca_compact.specs.Forms.{Form, first_cell}
 use Rattle.uca_compact.specs.CompactKeys.{cell}
 
@@ -17,12 +18,11 @@ pub record IsPlace (start : ℕ) (later : List ℕ) (end w index : ℕ) : Type 0
   pub from : start_at start later index ≤ w
   pub under : w < end_at later end index
 
--- an entry of a weight: 256 times the weight, which is no lead, and the one byte that it is written as
-pub record IsTrueEntry (f : Form) (entry : ℕ) : Type 0 where
-  pub some : 0 < entry / 256
-  pub no_lead : entry / 256 < 0xFB00
-  pub code : cell (first_cell f) 1 f.greater 65536 (entry / 256) ≡ entry % 256 ∷ []
+-- what an entry says of its weight, which is no lead, is true; it says nothing of 0
+pub record IsTrueEntry (f : Form) (entry : Entry) : Type 0 where
+  pub few : entry.len ≤ 3
+  pub no_lead : entry.weight < 0xFB00
+  pub code : 0 < entry.weight → cell (first_cell f) 1 f.greater 65536 entry.weight ≡ take entry.len entry.code
 
--- those below 2 ^ 24 are such entries; others say nothing
-unfoldable pub AreTrueEntries : Form → List ℕ → Type 0
-AreTrueEntries f entries = AllByRecursion (λ entry. entry < 16777216 → IsTrueEntry f entry) entries
+unfoldable pub AreTrueEntries : Form → List Entry → Type 0
+AreTrueEntries f entries = AllByRecursion (IsTrueEntry f) entries

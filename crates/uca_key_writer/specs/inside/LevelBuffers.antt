@@ -1,5 +1,5 @@
 -- The levels of a key in the making.
-use Rattle.std.specs.Prelude.{◌≡◌, ℕ, ◌+◌, ◌≤◌, List, Bool, reverse, flat_map, length, take, ⊤}
+use Rattle.std.specs.Prelude.{◌≡◌, ℕ, ◌+◌, ◌≤◌, List, [], ◌∷◌, Bool, reverse, flat_map, length, take, ⊤}
 use Rattle.uca_weights.specs.declared.Element.{Element}
 use Rattle.uca_weights.specs.declared.Weighting.{Weighting}
 use Rattle.uca_weights.specs.declared.Weighting.TheVariants.{NonIgnorable, Shifted}
@@ -15,6 +15,10 @@ pub record LevelState : Type 0 where
   pub tertiary : List ℕ
   pub quaternary : List ℕ
   pub key : List ℕ
+
+-- the bytes of the four levels
+abbrev pub four_levels : LevelState → List (List ℕ)
+four_levels l = l.primary ∷ l.secondary ∷ l.tertiary ∷ l.quaternary ∷ []
 
 -- the bytes of some weights, each as a list of its two bytes
 abbrev pub flattened : List (List ℕ) → List ℕ

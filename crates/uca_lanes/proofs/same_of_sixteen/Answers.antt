@@ -1,7 +1,7 @@
 use Rattle.std.proofs.Common.{List, ℕ, eqb, not, cond, map, ◌%◌, ◌^◌, ap, sym, ◌∙◌, arith}
 use Rattle.std.proofs.lemmas.List.{take_all}
 use lib.Lanes.{chunk, zip2, mask_l, top}
-use Rattle.uca_lanes.specs.Lanes.{first_set}
+use Rattle.uca_lanes.specs.inside.Marks.{first_set}
 use Rattle.uca_lanes.proofs.LaneSteps.{same_lanes}
 use Rattle.uca_lanes.proofs.same_of_sixteen.Goals as goal
 

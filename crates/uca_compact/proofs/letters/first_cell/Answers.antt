@@ -1,5 +1,5 @@
 use Rattle.uca_compact.specs.Programs.{form_of}
-use Rattle.uca_compact.proofs.LevelsRead.{greater_rise}
+use Rattle.uca_compact.proofs.LevelsPut.{greater_rise}
 use Rattle.uca_compact.proofs.letters.first_cell.Goals as goal
 
 pub returns-clause-rising : goal.returns-clause-rising

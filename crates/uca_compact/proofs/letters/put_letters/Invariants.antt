@@ -1,13 +1,13 @@
--- The weights so far were written, and there is room for the others.
-use Rattle.std.proofs.Common.{◌≡◌, ◌≤◌, ◌*◌, ◌-◌, ◌/◌, [], length, take}
+-- The weights so far were put, and there is room for the others.
+use Rattle.std.proofs.Common.{◌≡◌, ◌≤◌, ◌*◌, ◌-◌, ◌/◌, length, take}
 use Rattle.uca_compact.specs.Programs.{form_of}
 use Rattle.uca_compact.specs.inside.Places.{AreTrueEntries}
-use Rattle.uca_compact.specs.inside.LevelsRead.{IsWrittenTo}
+use Rattle.uca_compact.specs.inside.LevelsPut.{IsPutTo}
 use Rattle.uca_compact.proofs.letters.put_letters.Given as goal
 
 abbrev pub invariant-loop-at : goal.invariant-loop-at
 invariant-loop-at l = record {
-  written : IsWrittenTo (form_of l.form) l.key [] (take l.size l.codes) l.at l.count l.after_lead;
+  put : IsPutTo (form_of l.form) l.level (take l.size l.codes) l.at l.count l.after_lead;
   size : l.size ≤ 3 * (l.at / 2);
   codes : length l.codes ≡ length l.fn.codes;
   entries : length l.entries ≡ 2048;
@@ -16,4 +16,4 @@ invariant-loop-at l = record {
 }
 
 abbrev pub decreases-loop-at : goal.decreases-loop-at
-decreases-loop-at l = length l.key - l.at
+decreases-loop-at l = length l.level - l.at

@@ -1,4 +1,4 @@
-use Rattle.std.proofs.Common.{true, refl, ap, subst, arith}
+use Rattle.std.proofs.Common.{refl, ap, subst, arith}
 use Rattle.std.specs.Bool.{OnTrue}
 use Rattle.std.specs.Str.{chars}
 use Rattle.uca_elements.specs.Collations.{collation_of}
@@ -85,7 +85,7 @@ returns-in_ok-join-in-Weights g c =
     record {
       entries = c.push_beginning.ensures.entries;
       beginning = whole_if_begun collation _ c.args.self.now xs _ levels c.self.view_is c.in-Weights.is begun c.if-has_beginning.ensures c.in_ok-join-in-Weights.ensures;
-      accepted = accepted_if_read collation c.self.inside.weighting true c.args.text.now levels c.utf8.text (omega arith) (begun.whole c.if-has_beginning.ensures);
+      accepted = accepted_if_read collation c.self.inside.weighting c.args.text.now levels c.utf8.text (omega arith) (begun.whole c.if-has_beginning.ensures);
       weighting = ap (λ (s : KeyState). s.weighting) c.self.view_is;
       depth = ap (λ (s : KeyState). s.depth) c.self.view_is;
     }

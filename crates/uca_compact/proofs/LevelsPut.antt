@@ -1,0 +1,383 @@
+-- Steps of putting the levels of a compact key.
+use Rattle.std.proofs.Common.{◌≡◌, ◌≢◌, ℕ, zero, suc, ◌+◌, ◌*◌, ◌-◌, ◌/◌, ◌<◌, ◌≤◌, List, [], ◌∷◌, ◌++◌, Bool, true, false, nat_eq, nat_lt, ◌&&◌, not, if◌then◌else◌, length, length-append, get_or, drop, take, refl, ap, ap₂, sym, subst, subst₂, ◌⊎◌, ⊎_elim, ◌∙◌, arith, append_assoc, append-nil}
+use Rattle.std.specs.List.{AllByRecursion}
+use Rattle.std.specs.Ordering.{nat_cmp}
+use Rattle.std.specs.declared.cmp.Ordering.{Ordering}
+use Rattle.std.specs.declared.cmp.Ordering.TheVariants.{Greater}
+use Rattle.std.proofs.lemmas.Bool.Decides.{nat_tests}
+use Rattle.std.proofs.lemmas.List.{drop_all}
+use Rattle.uca_lanes.specs.Lanes.{IsSameRun}
+use Rattle.uca_order.specs.Levels.{lexicographic}
+use Rattle.uca_order.proofs.KeyOrder.{cmp_less, cmp_equal, cmp_greater}
+use Rattle.uca_compact.specs.Forms.{AreRising, Form, IsForm, step, full, first_cell}
+use Rattle.uca_compact.specs.PlainLevels.{copies, is_lead, letters_after, letter_count}
+use Rattle.uca_compact.specs.CompactKeys.{cell, written, run_after, level_code}
+use Rattle.uca_compact.specs.LevelBytes.{weights_in, AreWeightBytes}
+use Rattle.uca_compact.specs.inside.StoredEnds.{weight_of}
+use Rattle.uca_compact.specs.inside.LevelsPut.{AreBefore, IsPutTo, IsLaterTo, AreEight}
+use Rattle.uca_compact.proofs.OnlyLevels.{weight_code}
+use Rattle.uca_compact.proofs.PlainSteps.{RunIs, longer_level, other_weight, same_weight, shorter_level}
+use Rattle.uca_compact.proofs.StoredSteps.{two_at}
+
+-- ---- The weights of bytes
+
+-- no weight is before the first
+pub none_before : (level : List ℕ) → AreBefore level 0 []
+none_before level = record { size = refl; within = omega arith; upto = refl }
+
+-- one weight more is before the next position
+pub more_before : (level front : List ℕ) (at w : ℕ) → AreBefore level at front → at + 1 < length level → w ≡ weight_of level at → AreBefore level (at + 2) (front ++ w ∷ [])
+more_before level front at w before within is =
+    let size = before.size in
+    let longer : length (front ++ w ∷ []) ≡ length front + 1 = length-append front (w ∷ []) in
+    let rest = weights_in (drop (at + 2) level) in
+    record {
+      size = omega (arith, longer, size);
+      within = omega arith;
+      upto = append_assoc front (w ∷ []) rest
+          ∙ ap (λ (n : ℕ). front ++ n ∷ rest) is
+          ∙ ap (λ (bytes : List ℕ). front ++ weights_in bytes) (sym (two_at level at within))
+          ∙ before.upto;
+    }
+
+-- no position of a weight is that of the last byte
+pub two_left : (level front : List ℕ) (at : ℕ) → AreWeightBytes level → AreBefore level at front → at < length level → at + 1 < length level
+two_left level front at are before within = let whole = are.whole in let size = before.size in omega (arith, whole, size, within)
+
+-- a weight among others
+among : (front rest : List ℕ) (w : ℕ) → AllByRecursion (λ (v : ℕ). 0 < v) (front ++ w ∷ rest) → 0 < w
+among [] rest w all = all.0
+among (v ∷ front) rest w all = among front rest w all.1
+
+-- the weight there is not 0
+pub some_there : (level front : List ℕ) (at : ℕ) → AreWeightBytes level → AreBefore level at front → at + 1 < length level → 0 < weight_of level at
+some_there level front at are before within =
+    among front (weights_in (drop (at + 2) level)) (weight_of level at)
+    (subst (AllByRecursion (λ (v : ℕ). 0 < v)) (sym (ap (λ (bytes : List ℕ). front ++ weights_in bytes) (sym (two_at level at within)) ∙ before.upto)) are.some)
+
+-- all weights are before the end
+pub all_before : (level front : List ℕ) (at : ℕ) → AreBefore level at front → length level ≤ at → front ≡ weights_in level
+all_before level front at before end =
+    sym (append-nil front) ∙ ap (λ (bytes : List ℕ). front ++ weights_in bytes) (sym (drop_all at level end)) ∙ before.upto
+
+-- a weight by its number
+weight_in : (level : List ℕ) (k : ℕ) → 2 * k + 1 < length level → get_or (weights_in level) k 0 ≡ weight_of level (2 * k)
+weight_in [] k within = absurd (omega arith)
+weight_in (a ∷ []) k within = absurd (omega (arith, within))
+weight_in (a ∷ b ∷ level) zero within = refl
+weight_in (a ∷ b ∷ level) (suc k) within =
+    let twice : suc (suc (2 * k)) ≡ 2 * suc k = omega arith in
+    let beside : suc (suc (2 * k + 1)) ≡ 2 * suc k + 1 = omega arith in
+    weight_in level k (omega (arith, within))
+    ∙ ap (λ (n : ℕ). 256 * get_or (a ∷ b ∷ level) n 0 + get_or level (2 * k + 1) 0) twice
+    ∙ ap (λ (n : ℕ). 256 * get_or (a ∷ b ∷ level) (2 * suc k) 0 + get_or (a ∷ b ∷ level) n 0) beside
+
+pub half_of : (level : List ℕ) → AreWeightBytes level → length level / 2 ≡ length (weights_in level)
+half_of level are = let whole = are.whole in omega (arith, whole)
+
+-- ---- Level 1
+
+-- a weight of a level without a common weight is its cell
+letter_code : (f : Form) (end w : ℕ) (ws : List ℕ) → f.common ≡ 0 → 0 < w
+    → level_code f end 0 (w ∷ ws) ≡ cell (first_cell f) 1 f.greater 65536 w ++ level_code f end 0 ws
+letter_code f end w ws none some =
+    weight_code f end 0 w ws Greater (cmp_greater w f.common (omega (arith, none)))
+    ∙ ap (λ (n : ℕ). cell (first_cell f) (suc n) f.greater 65536 w ++ level_code f end 0 ws) none
+
+-- the cells of such a level rise from 1
+pub greater_rise : (f : Form) → IsForm f → f.common ≡ 0 → AreRising 1 f.greater 65536
+greater_rise f form none = ⊎_elim (λ few. absurd (omega (arith, few.0, none))) (λ rise. subst (λ (n : ℕ). AreRising (suc n) f.greater 65536) none rise) form.greater
+
+-- nothing was put yet
+pub none_put : (f : Form) (level : List ℕ) → IsPutTo f level [] 0 0 false
+none_put f level = record {
+  weights = [];
+  before = none_before level;
+  few = omega arith;
+  counted = λ more. omega arith;
+  code = λ end more. refl;
+}
+
+-- a count with one weight more
+count_more : (lead : Bool) (w count more : ℕ) (rest : List ℕ) → more ≡ count + (if lead then 0 else 1)
+    → more + letters_after (not lead && is_lead w) rest ≡ count + letters_after lead (w ∷ rest)
+count_more true w count more rest one = omega (arith, one)
+count_more false w count more rest one = omega (arith, one)
+
+count_fits : (lead : Bool) (count more n : ℕ) → more ≡ count + (if lead then 0 else 1) → count ≤ n → more ≤ n + 1
+count_fits true count more n one few = omega (arith, one)
+count_fits false count more n one few = omega (arith, one)
+
+-- one weight more was put
+pub letter_put : (f : Form) (level out new : List ℕ) (at count more w : ℕ) (lead : Bool) → f.common ≡ 0 → IsPutTo f level out at count lead
+    → at + 1 < length level → w ≡ weight_of level at → 0 < w
+    → new ≡ out ++ cell (first_cell f) 1 f.greater 65536 w → more ≡ count + (if lead then 0 else 1)
+    → IsPutTo f level new (at + 2) more (not lead && is_lead w)
+letter_put f level out new at count more w lead none so_far within is some put one =
+    let front = so_far.weights in
+    let longer : length (front ++ w ∷ []) ≡ length front + 1 = length-append front (w ∷ []) in
+    record {
+      weights = front ++ w ∷ [];
+      before = more_before level front at w so_far.before within is;
+      few = subst (λ (n : ℕ). more ≤ n) (sym longer) (count_fits lead count more (length front) one so_far.few);
+      counted = λ rest. count_more lead w count more rest one ∙ so_far.counted (w ∷ rest) ∙ ap letter_count (sym (append_assoc front (w ∷ []) rest));
+      code = λ end rest.
+          ap (λ (xs : List ℕ). xs ++ level_code f end 0 rest) put
+          ∙ append_assoc out (cell (first_cell f) 1 f.greater 65536 w) (level_code f end 0 rest)
+          ∙ ap (λ (xs : List ℕ). out ++ xs) (sym (letter_code f end w rest none some))
+          ∙ so_far.code end (w ∷ rest)
+          ∙ ap (level_code f end 0) (sym (append_assoc front (w ∷ []) rest));
+    }
+
+-- one that is no lead, after no lead
+pub known_put : (f : Form) (level out new : List ℕ) (at count w : ℕ) (lead : Bool) → lead ≡ false → f.common ≡ 0
+    → IsPutTo f level out at count lead → at + 1 < length level → w ≡ weight_of level at → 0 < w → w < 0xFB00
+    → new ≡ out ++ cell (first_cell f) 1 f.greater 65536 w → IsPutTo f level new (at + 2) (count + 1) lead
+known_put f level out new at count w lead after_none none so_far within is some low put =
+    let test : nat_lt w 0xFB00 ≡ true = grind (arith, nat_tests) in
+    let same : (not lead && is_lead w) ≡ lead = ap (λ (t : Bool). not t && is_lead w) after_none ∙ ap (λ (t : Bool). not t && nat_lt w 0xFC00) test ∙ sym after_none in
+    subst (IsPutTo f level new (at + 2) (count + 1)) same
+    (letter_put f level out new at count (count + 1) w lead none so_far within is some put (ap (λ (t : Bool). count + (if t then 0 else 1)) (sym after_none)))
+
+-- what is known by other names
+pub put_as : (f : Form) (level codes also : List ℕ) (size size' at count count' : ℕ) (lead lead' : Bool) → also ≡ codes → size' ≡ size → count' ≡ count → lead' ≡ lead
+    → IsPutTo f level (take size codes) at count lead → IsPutTo f level (take size' also) at count' lead'
+put_as f level codes also size size' at count count' lead lead' same_codes same_size same_count same_lead so_far =
+    subst₂ (λ (xs : List ℕ) (n : ℕ). IsPutTo f level (take n xs) at count' lead') (sym same_codes) (sym same_size)
+    (subst₂ (λ (n : ℕ) (t : Bool). IsPutTo f level (take size codes) at n t) (sym same_count) (sym same_lead) so_far)
+
+-- all weights were put
+pub letters_put : (f : Form) (level out : List ℕ) (at count : ℕ) (lead : Bool) → IsPutTo f level out at count lead → length level ≤ at
+    → (end : ℕ) → out ++ end ∷ [] ≡ level_code f end 0 (weights_in level)
+letters_put f level out at count lead so_far last end =
+    let alone : end ≡ 0 * step f + end = omega arith in
+    ap (λ (n : ℕ). out ++ n ∷ []) alone ∙ so_far.code end [] ∙ ap (level_code f end 0) (append-nil so_far.weights ∙ all_before level so_far.weights at so_far.before last)
+
+pub letters_counted : (f : Form) (level out : List ℕ) (at count : ℕ) (lead : Bool) → IsPutTo f level out at count lead → length level ≤ at
+    → count ≡ letter_count (weights_in level)
+letters_counted f level out at count lead so_far last =
+    (let e : count ≡ count + 0 = omega arith in e) ∙ so_far.counted [] ∙ ap letter_count (append-nil so_far.weights ∙ all_before level so_far.weights at so_far.before last)
+
+-- ---- Runs
+
+-- a weight of two bytes, eight times
+pub eight_are : (h l w : ℕ) → 256 * h + l ≡ w
+    → AreEight (h ∷ l ∷ h ∷ l ∷ h ∷ l ∷ h ∷ l ∷ h ∷ l ∷ h ∷ l ∷ h ∷ l ∷ h ∷ l ∷ []) w
+eight_are h l w is zero below = is
+eight_are h l w is (suc zero) below = is
+eight_are h l w is (suc (suc zero)) below = is
+eight_are h l w is (suc (suc (suc zero))) below = is
+eight_are h l w is (suc (suc (suc (suc zero)))) below = is
+eight_are h l w is (suc (suc (suc (suc (suc zero))))) below = is
+eight_are h l w is (suc (suc (suc (suc (suc (suc zero)))))) below = is
+eight_are h l w is (suc (suc (suc (suc (suc (suc (suc zero))))))) below = is
+eight_are h l w is (suc (suc (suc (suc (suc (suc (suc (suc k)))))))) below = absurd (omega arith)
+
+-- the weights that have the same bytes are this one
+run_are : (bytes eight : List ℕ) (at same w k : ℕ) → IsSameRun bytes eight at 0 16 same → AreEight eight w → k < same / 2
+    → weight_of bytes (at + 2 * k) ≡ w
+run_are bytes eight at same w k run are below =
+    let here : 0 + 2 * k ≡ 2 * k = omega arith in
+    let beside : 0 + (2 * k + 1) ≡ 2 * k + 1 = omega arith in
+    let first = run.are (2 * k) (omega (arith, below)) ∙ ap (λ (n : ℕ). get_or eight n 0) here in
+    let second = run.are (2 * k + 1) (omega (arith, below)) ∙ ap (λ (n : ℕ). get_or eight n 0) beside in
+    let within = run.within in
+    let next : at + (2 * k + 1) ≡ at + 2 * k + 1 = omega arith in
+    ap₂ (λ (a b : ℕ). 256 * a + b) first (subst (λ (n : ℕ). get_or bytes n 0 ≡ get_or eight (2 * k + 1) 0) next second)
+    ∙ are k (omega (arith, below, within))
+
+-- so many more are
+pub more_are : (bytes eight : List ℕ) (at run same w k : ℕ) → ((j : ℕ) → j < run → weight_of bytes (at + 2 * j) ≡ w)
+    → IsSameRun bytes eight (at + 2 * run) 0 16 same → AreEight eight w → k < run + same / 2 → weight_of bytes (at + 2 * k) ≡ w
+more_are bytes eight at run same w k so_far found are below = by_place (nat_lt k run) refl
+  where
+    by_place : (t : Bool) → nat_lt k run ≡ t → weight_of bytes (at + 2 * k) ≡ w
+    by_place true is = so_far k (grind (arith, nat_tests))
+    by_place false is =
+        let from : run ≤ k = grind (arith, nat_tests) in
+        let there : at + 2 * run + 2 * (k - run) ≡ at + 2 * k = omega (arith, from) in
+        subst (λ (n : ℕ). weight_of bytes n ≡ w) there (run_are bytes eight (at + 2 * run) same w (k - run) found are (omega (arith, from, below)))
+
+-- one more is
+pub next_is : (bytes : List ℕ) (at run w k : ℕ) → ((j : ℕ) → j < run → weight_of bytes (at + 2 * j) ≡ w) → weight_of bytes (at + 2 * run) ≡ w
+    → k < run + 1 → weight_of bytes (at + 2 * k) ≡ w
+next_is bytes at run w k so_far is below = by_place (nat_eq k run) refl
+  where
+    by_place : (t : Bool) → nat_eq k run ≡ t → weight_of bytes (at + 2 * k) ≡ w
+    by_place true e = (let same : run ≡ k = grind (arith, nat_tests) in subst (λ (n : ℕ). weight_of bytes (at + 2 * n) ≡ w) same is)
+    by_place false e = (let apart : k ≢ run = grind (arith, nat_tests) in so_far k (omega (arith, apart, below)))
+
+-- the next one is not
+pub run_ended : (bytes eight : List ℕ) (at same w : ℕ) → ((k : ℕ) → get_or bytes k 0 < 256) → ((k : ℕ) → get_or eight k 0 < 256)
+    → IsSameRun bytes eight at 0 16 same → AreEight eight w → same < 16 → weight_of bytes (at + 2 * (same / 2)) ≢ w
+run_ended bytes eight at same w small small_eight run are less is =
+    let k = same / 2 in
+    let there = are k (omega (arith, less)) in
+    let here : at + 2 * k + 1 ≡ at + (2 * k + 1) = omega arith in
+    let a = small (at + 2 * k) in
+    let b = small (at + 2 * k + 1) in
+    let c = small_eight (2 * k) in
+    let d = small_eight (2 * k + 1) in
+    let both : 256 * get_or bytes (at + 2 * k) 0 + get_or bytes (at + 2 * k + 1) 0 ≡ 256 * get_or eight (2 * k) 0 + get_or eight (2 * k + 1) 0 = is ∙ sym there in
+    let low : get_or bytes (at + 2 * k) 0 ≡ get_or eight (2 * k) 0 = omega (arith, both, a, b, c, d) in
+    let high : get_or bytes (at + 2 * k + 1) 0 ≡ get_or eight (2 * k + 1) 0 = omega (arith, both, a, b, c, d) in
+    by_rest (nat_eq (2 * k) same) refl low (subst (λ (n : ℕ). get_or bytes n 0 ≡ get_or eight (2 * k + 1) 0) here high)
+  where
+    zeroth : same ≡ 0 + same
+    zeroth = omega arith
+
+    by_rest : (t : Bool) → nat_eq (2 * (same / 2)) same ≡ t → get_or bytes (at + 2 * (same / 2)) 0 ≡ get_or eight (2 * (same / 2)) 0
+        → get_or bytes (at + (2 * (same / 2) + 1)) 0 ≡ get_or eight (2 * (same / 2) + 1) 0 → ⊥
+    by_rest true e low high =
+        let even : 2 * (same / 2) ≡ same = grind (arith, nat_tests) in
+        run.apart less (subst (λ (n : ℕ). get_or bytes (at + n) 0 ≡ get_or eight n 0) even low ∙ ap (λ (n : ℕ). get_or eight n 0) zeroth)
+    by_rest false e low high =
+        let apart : 2 * (same / 2) ≢ same = grind (arith, nat_tests) in
+        let odd : 2 * (same / 2) + 1 ≡ same = omega (arith, apart) in
+        run.apart less (subst (λ (n : ℕ). get_or bytes (at + n) 0 ≡ get_or eight n 0) odd high ∙ ap (λ (n : ℕ). get_or eight n 0) zeroth)
+
+-- ---- How a level compares
+
+-- so many weights are the same
+runs_to : (ws : List ℕ) (w count i : ℕ) → i ≤ length ws → i ≤ count → ((k : ℕ) → k < i → get_or ws k 0 ≡ w)
+    → RunIs ws i w (count - i) (lexicographic ws (copies w count))
+runs_to ws w count zero within fits are = let none : count - 0 ≡ count = omega arith in ap (λ (n : ℕ). lexicographic ws (copies w n)) none
+runs_to ws w count (suc i) within fits are =
+    let next : i + 1 ≡ suc i = omega arith in
+    let less : count - i - 1 ≡ count - suc i = omega arith in
+    subst₂ (λ (n m : ℕ). RunIs ws n w m (lexicographic ws (copies w count))) next less
+    (same_weight ws i w (count - i) (lexicographic ws (copies w count)) (omega (arith, within)) (λ none. omega (arith, none, fits)) (are i (omega arith))
+    (runs_to ws w count i (omega (arith, within)) (omega (arith, fits)) (λ k below. are k (omega (arith, below)))))
+
+-- from the first position on
+pub from_first : (level : List ℕ) (w n : ℕ) → weight_of level (0 + n) ≡ w → weight_of level n ≡ w
+from_first level w n is = let same : 0 + n ≡ n = omega arith in subst (λ (m : ℕ). weight_of level m ≡ w) same is
+
+to_first : (level : List ℕ) (w n : ℕ) → weight_of level n ≡ w → weight_of level (0 + n) ≡ w
+to_first level w n is = let same : n ≡ 0 + n = omega arith in subst (λ (m : ℕ). weight_of level m ≡ w) same is
+
+-- another weight decides
+pub other_decides : (level : List ℕ) (w count run : ℕ) → AreWeightBytes level → ((k : ℕ) → k < run → weight_of level (0 + 2 * k) ≡ w)
+    → (0 + 2 * run + 1 < length level → weight_of level (0 + 2 * run) ≢ w) → run < length level / 2 → run < count
+    → nat_cmp (weight_of level (2 * run)) w ≡ lexicographic (weights_in level) (copies w count)
+other_decides level w count run whole are apart within few =
+    let half = half_of level whole in
+    let there : get_or (weights_in level) run 0 ≡ weight_of level (2 * run) = weight_in level run (omega (arith, within)) in
+    ap (λ (n : ℕ). nat_cmp n w) (sym there)
+    ∙ other_weight (weights_in level) run w (count - run) (lexicographic (weights_in level) (copies w count)) (omega (arith, within, half)) (λ none. omega (arith, none, few))
+    (λ same. apart (omega (arith, within)) (to_first level w (2 * run) (sym there ∙ same)))
+    (runs_to (weights_in level) w count run (omega (arith, within, half)) (omega (arith, few))
+    (λ k below. weight_in level k (omega (arith, within, below)) ∙ from_first level w (2 * k) (are k below)))
+
+-- else the lengths do
+pub lengths_decide : (level : List ℕ) (w count run : ℕ) → AreWeightBytes level → ((k : ℕ) → k < run → weight_of level (0 + 2 * k) ≡ w)
+    → 2 * run ≤ length level → (length level / 2 ≤ run) ⊎ (count ≤ run)
+    → nat_cmp (length level / 2) count ≡ lexicographic (weights_in level) (copies w count)
+lengths_decide level w count run whole are within end =
+    let half = half_of level whole in
+    ap (λ (n : ℕ). nat_cmp n count) half ∙ by_len (nat_lt count (length (weights_in level))) refl (nat_eq count (length (weights_in level))) refl
+  where
+    all : Ordering
+    all = lexicographic (weights_in level) (copies w count)
+
+    same : (k : ℕ) → k < run → get_or (weights_in level) k 0 ≡ w
+    same k below = weight_in level k (omega (arith, within, below)) ∙ from_first level w (2 * k) (are k below)
+
+    by_len : (t : Bool) → nat_lt count (length (weights_in level)) ≡ t → (e : Bool) → nat_eq count (length (weights_in level)) ≡ e
+        → nat_cmp (length (weights_in level)) count ≡ all
+    by_len true more e is =
+        let half = half_of level whole in
+        let lt : count < length (weights_in level) = grind (arith, nat_tests) in
+        let to : count ≤ run = ⊎_elim (λ le. omega (arith, le, half, lt)) (λ le. le) end in
+        let none : count - count ≡ 0 = omega arith in
+        cmp_greater (length (weights_in level)) count lt
+        ∙ longer_level (weights_in level) count w (count - count) all lt none
+        (runs_to (weights_in level) w count count (omega (arith, lt)) (omega arith) (λ k below. same k (omega (arith, below, to))))
+    by_len false most true is =
+        let half = half_of level whole in
+        let equal : count ≡ length (weights_in level) = grind (arith, nat_tests) in
+        let to : count ≤ run = ⊎_elim (λ le. omega (arith, le, half, equal)) (λ le. le) end in
+        let none : count - count ≡ 0 = omega arith in
+        let runs = runs_to (weights_in level) w count count (omega (arith, equal)) (omega arith) (λ k below. same k (omega (arith, below, to))) in
+        cmp_equal (length (weights_in level)) count (sym equal)
+        ∙ ap (λ (ws : List ℕ). lexicographic ws []) (sym (drop_all count (weights_in level) (omega (arith, equal))))
+        ∙ ap (λ (n : ℕ). lexicographic (drop count (weights_in level)) (copies w n)) (sym none) ∙ runs
+    by_len false most false is =
+        let half = half_of level whole in
+        let apart : count ≢ length (weights_in level) = grind (arith, nat_tests) in
+        let le : length (weights_in level) ≤ count = grind (arith, nat_tests) in
+        let lt : length (weights_in level) < count = omega (arith, apart, le) in
+        let to : length (weights_in level) ≤ run = ⊎_elim (λ few. omega (arith, few, half)) (λ few. omega (arith, few, lt)) end in
+        let n = length (weights_in level) in
+        cmp_less n count lt
+        ∙ shorter_level (weights_in level) n w (count - n) all (omega arith) (λ none. omega (arith, none, lt))
+        (runs_to (weights_in level) w count n (omega arith) (omega (arith, lt)) (λ k below. same k (omega (arith, below, to))))
+
+-- ---- A later level
+
+-- nothing was put yet
+none_later : (f : Form) (end : ℕ) (level front : List ℕ) → 0 < f.longest → IsLaterTo f end level front front 0 0
+none_later f end level front some = record { weights = []; before = none_before level; short = some; code = λ more. refl }
+
+-- one weight more was put
+pub one_later : (f : Form) (end : ℕ) (level front out new : List ℕ) (at run after w : ℕ) → IsLaterTo f end level front out at run
+    → at + 1 < length level → w ≡ weight_of level at
+    → new ≡ out ++ written f run w (nat_cmp w f.common) → after ≡ run_after f run (nat_cmp w f.common) → after < f.longest
+    → IsLaterTo f end level front new (at + 2) after
+one_later f end level front out new at run after w so_far within is added runs short =
+    let ws = so_far.weights in
+    record {
+      weights = ws ++ w ∷ [];
+      before = more_before level ws at w so_far.before within is;
+      short = short;
+      code = λ more.
+          ap (λ (xs : List ℕ). xs ++ level_code f end after more) added
+          ∙ append_assoc out (written f run w (nat_cmp w f.common)) (level_code f end after more)
+          ∙ ap (λ (n : ℕ). out ++ (written f run w (nat_cmp w f.common) ++ level_code f end n more)) runs
+          ∙ so_far.code (w ∷ more)
+          ∙ ap (λ (xs : List ℕ). front ++ level_code f end 0 xs) (sym (append_assoc ws (w ∷ []) more));
+    }
+
+-- one common weight more makes a run longer
+common_later : (f : Form) (end : ℕ) (level front out : List ℕ) (at run : ℕ) → IsLaterTo f end level front out at run → at + 1 < length level
+    → weight_of level at ≡ f.common → run + 1 < f.longest → IsLaterTo f end level front out (at + 2) (run + 1)
+common_later f end level front out at run so_far within is short =
+    let equal = cmp_equal f.common f.common refl in
+    let test : nat_eq (suc run) f.longest ≡ false = grind (arith, nat_tests) in
+    let next : suc run ≡ run + 1 = omega arith in
+    one_later f end level front out out at run (run + 1) f.common so_far within (sym is)
+    (sym (ap (λ (o : Ordering). out ++ written f run f.common o) equal ∙ ap (λ (t : Bool). out ++ (if t then full f ∷ [] else [])) test ∙ append-nil out))
+    (sym (ap (run_after f run) equal ∙ ap (λ (t : Bool). if t then 0 else suc run) test ∙ next))
+    short
+
+-- so many more do
+pub run_later : (f : Form) (end : ℕ) (level front out : List ℕ) (at run more : ℕ) → IsLaterTo f end level front out at run
+    → ((k : ℕ) → k < more → weight_of level (at + 2 * k) ≡ f.common) → at + 2 * more ≤ length level → run + more < f.longest
+    → IsLaterTo f end level front out (at + 2 * more) (run + more)
+run_later f end level front out at run zero so_far are within short =
+    let here : at ≡ at + 2 * 0 = omega arith in
+    let same : run ≡ run + 0 = omega arith in
+    subst₂ (IsLaterTo f end level front out) here same so_far
+run_later f end level front out at run (suc n) so_far are within short =
+    let next : at + 2 * n + 2 ≡ at + 2 * suc n = omega arith in
+    let longer : run + n + 1 ≡ run + suc n = omega arith in
+    subst₂ (IsLaterTo f end level front out) next longer
+    (common_later f end level front out (at + 2 * n) (run + n)
+    (run_later f end level front out at run n so_far (λ k below. are k (omega (arith, below))) (omega (arith, within)) (omega (arith, short)))
+    (omega (arith, within)) (are n (omega arith)) (omega (arith, short)))
+
+-- the run that the level begins with
+pub begun_later : (f : Form) (end : ℕ) (level front : List ℕ) (run : ℕ) → ((k : ℕ) → k < run → weight_of level (2 * k) ≡ f.common)
+    → 2 * run ≤ length level → run < f.longest → IsLaterTo f end level front front (2 * run) run
+begun_later f end level front run are within short =
+    let here : 0 + 2 * run ≡ 2 * run = omega arith in
+    let same : 0 + run ≡ run = omega arith in
+    subst₂ (IsLaterTo f end level front front) here same
+    (run_later f end level front front 0 0 run (none_later f end level front (omega (arith, short))) (λ k below. to_first level f.common (2 * k) (are k below))
+    (omega (arith, within)) (omega (arith, short)))
+
+-- all weights were put, and the end
+pub later_put : (f : Form) (end : ℕ) (level front out new : List ℕ) (at run : ℕ) → IsLaterTo f end level front out at run → length level ≤ at
+    → new ≡ out ++ (run * step f + end) ∷ [] → new ≡ front ++ level_code f end 0 (weights_in level)
+later_put f end level front out new at run so_far last added =
+    added ∙ so_far.code [] ∙ ap (λ (ws : List ℕ). front ++ level_code f end 0 ws) (append-nil so_far.weights ∙ all_before level so_far.weights at so_far.before last)

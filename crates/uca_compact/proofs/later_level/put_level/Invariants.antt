@@ -1,0 +1,16 @@
+-- The weights so far were put, and there is room for the others.
+use Rattle.std.proofs.Common.{◌≡◌, ◌≤◌, ◌+◌, ◌*◌, ◌-◌, length, take}
+use Rattle.uca_compact.specs.Programs.{form_of}
+use Rattle.uca_compact.specs.inside.LevelsPut.{IsLaterTo}
+use Rattle.uca_compact.proofs.later_level.put_level.Given as goal
+
+abbrev pub invariant-loop-from : goal.invariant-loop-from
+invariant-loop-from l = record {
+  written : IsLaterTo (form_of l.form) l.end l.level (take l.at l.fn.codes) (take l.put l.codes) l.from l.run;
+  room : l.put ≤ l.at + 2 * l.from;
+  codes : length l.codes ≡ length l.fn.codes;
+  hints : length l.hints ≡ 4096;
+}
+
+abbrev pub decreases-loop-from : goal.decreases-loop-from
+decreases-loop-from l = length l.level - l.from

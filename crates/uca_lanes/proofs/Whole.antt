@@ -1,0 +1,31 @@
+-- The bytes that are judged are those of the slice, or those and zeros.
+use Rattle.std.proofs.Common.{◌≡◌, ℕ, ◌+◌, ◌-◌, ◌<◌, ◌≤◌, ◌↔◌, Bool, IsTrue, List, ◌++◌, length, take, drop, replicate, sym, subst, ap, ◌∙◌, arith, take-append-drop, take_all, append-nil}
+use Rattle.std.specs.Bool.{MatchBool}
+use Rattle.std.specs.Str.{IsUtf8}
+use Rattle.std.specs.Simd.Lanes.{chunk}
+use Rattle.std.proofs.lemmas.Bool.{cases_from_iff}
+use Rattle.std.proofs.lemmas.List.{drop-drop, length-drop}
+use Rattle.simdutf8.proofs.StepsLemmas.{IsUtf8-append_ascii, IsAscii-replicate}
+use Rattle.uca_lanes.specs.inside.Marks.{joined}
+
+zero_is_ascii : 0 < 128
+zero_is_ascii = omega arith
+
+pub of_few : (bytes lanes : List ℕ) (t : Bool) → lanes ≡ bytes ++ replicate (16 - length bytes) 0 → (IsTrue t ↔ IsUtf8 (joined lanes (replicate 16 0) 16))
+    → MatchBool t (IsUtf8 bytes) (¬ (IsUtf8 bytes))
+of_few bytes lanes t spelled judged =
+    let pad : List ℕ = replicate (16 - length bytes) 0 in
+    let same : joined lanes (replicate 16 0) 16 ≡ bytes ++ pad = append-nil lanes ∙ spelled in
+    let plain = IsUtf8-append_ascii bytes pad (IsAscii-replicate (16 - length bytes) 0 zero_is_ascii) in
+    cases_from_iff (λ on. plain.0 (subst IsUtf8 same (judged.0 on)), λ u. judged.1 (subst IsUtf8 (sym same) (plain.1 u)))
+
+pub of_more : (bytes : List ℕ) (t : Bool) → 16 < length bytes → length bytes ≤ 32
+    → (IsTrue t ↔ IsUtf8 (joined (chunk 0 16 bytes) (chunk (length bytes - 16) 16 bytes) (32 - length bytes))) → MatchBool t (IsUtf8 bytes) (¬ (IsUtf8 bytes))
+of_more bytes t some few judged =
+    let at = length bytes - 16 in
+    let both = 32 - length bytes in
+    let reached : at + both ≡ 16 = omega (arith, some, few) in
+    let is_back : chunk at 16 bytes ≡ drop at bytes = take_all 16 (drop at bytes) (omega (arith, length-drop at bytes, some)) in
+    let rest : drop both (chunk at 16 bytes) ≡ drop 16 bytes = ap (drop both) is_back ∙ drop-drop both at bytes ∙ ap (λ k. drop k bytes) reached in
+    let same : joined (chunk 0 16 bytes) (chunk at 16 bytes) both ≡ bytes = ap (λ l. take 16 bytes ++ l) rest ∙ take-append-drop 16 bytes in
+    cases_from_iff (λ on. subst IsUtf8 same (judged.0 on), λ u. judged.1 (subst IsUtf8 (sym same) u))

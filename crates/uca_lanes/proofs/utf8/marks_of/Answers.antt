@@ -1,0 +1,8 @@
+use Rattle.std.proofs.Common.{ℕ, ◌+◌, ◌*◌, ◌/◌, ◌^◌, eqb, ap₂, ◌∙◌}
+use Rattle.uca_lanes.proofs.MaskSteps.{joined_masks}
+use Rattle.uca_lanes.proofs.utf8.marks_of.Goals as goal
+
+pub returns-clause-marks : goal.returns-clause-marks
+returns-clause-marks c =
+    ap₂ (λ (m n : ℕ). m + n / 2 ^ c.args.both * 65536) c.mask_of-2.ensures.mask c.mask_of.ensures.mask
+    ∙ joined_masks (λ b. eqb b c.args.byte) c.args.front c.args.back c.args.both c.fits-front.0

@@ -1,0 +1,10 @@
+use Rattle.uca_lanes.proofs.MaskSteps.{compared_from, from_bound}
+use Rattle.std.proofs.Common.{◌<◌, ◌^◌, sym, subst, ℕ}
+use Rattle.uca_lanes.proofs.utf8.mask_from.Goals as goal
+
+pub returns-clause-mask : goal.returns-clause-mask
+returns-clause-mask c = compared_from c.args.least c.args.bytes c.fits-bytes.0
+
+pub returns-clause-bound : goal.returns-clause-bound
+returns-clause-bound c =
+    subst (λ (n : ℕ). n < 2 ^ 16) (sym (compared_from c.args.least c.args.bytes c.fits-bytes.0)) (from_bound c.args.least c.args.bytes c.fits-bytes.0)
