@@ -1,9 +1,9 @@
 /* Times of calls of the library for C, beside ICU4C, over the lines of a file.
 
-     bindings TABLE DATA LINES
+     bindings TABLE DATA BOOK LINES
 
-   Each round goes over all lines, or all pairs of neighbours. It prints a line for each kind: its name, and the nanoseconds of a call of
-   uca and of ICU, each in its fastest round of five. Those are of processor time. With threads they are of time on the clock: each thread
+   The lines are sorted. Each round goes over all lines, or over pairs of them: neighbours, or lines that are far from each other. It prints a
+   line for each kind: its name, and the nanoseconds of a call of uca and of ICU, each in its fastest round of five. Those are of processor time. With threads they are of time on the clock: each thread
    makes the keys of all lines. Collators of uca share their table, and ICU's is one. Variable elements are non-ignorable, and there are
    three levels. */
 #include "uca.h"
@@ -25,7 +25,7 @@ typedef struct text {
 } text;
 
 typedef struct bench {
-    uca_collator uca;
+    uca_collator uca, compact; /* the second has a book */
     UCollator *icu;
     text *lines, *copies; /* the copies are elsewhere in memory */
     size_t count;
@@ -82,23 +82,30 @@ static void read_lines(bench *it, const char *path)
     it->copies = lines_of(path, &it->count);
 }
 
-static void open_both(bench *it, const char *table_path, const char *data_path)
+static void open_uca(bench *it, const char *table_path, const char *data_path, const char *book_path)
 {
-    size_t table_length, data_length;
-    char *table = read_file(table_path, &table_length), *data = read_file(data_path, &data_length);
+    size_t table_length, data_length, book_length;
+    uint8_t *table = (uint8_t *)read_file(table_path, &table_length), *data = (uint8_t *)read_file(data_path, &data_length);
+    uint8_t *book = (uint8_t *)read_file(book_path, &book_length);
     uca_error error;
-    UErrorCode status = U_ZERO_ERROR;
-    if (uca_open(&it->uca, (uint8_t *)table, table_length, (uint8_t *)data, data_length, UCA_NON_IGNORABLE, UCA_WEIGHTS, &error) != UCA_OK) {
+    if (uca_open(&it->uca, table, table_length, data, data_length, UCA_NON_IGNORABLE, UCA_WEIGHTS, &error) != UCA_OK
+        || uca_open_compact(&it->compact, table, table_length, data, data_length, book, book_length, UCA_NON_IGNORABLE, UCA_WEIGHTS, &error) != UCA_OK) {
         exit(1);
     }
+    free(table);
+    free(data);
+    free(book);
+}
+
+static void open_icu(bench *it)
+{
+    UErrorCode status = U_ZERO_ERROR;
     it->icu = ucol_open("root", &status);
     ucol_setAttribute(it->icu, UCOL_ALTERNATE_HANDLING, UCOL_NON_IGNORABLE, &status);
     ucol_setAttribute(it->icu, UCOL_NORMALIZATION_MODE, UCOL_ON, &status);
     if (U_FAILURE(status)) {
         exit(1);
     }
-    free(table);
-    free(data);
 }
 
 static void uca_keys(bench *it, const text *left, const text *right)
@@ -106,6 +113,14 @@ static void uca_keys(bench *it, const text *left, const text *right)
     size_t needed;
     (void)right;
     uca_key(&it->uca, (const uint8_t *)left->bytes, left->length, it->key, ROOM, &needed);
+    it->sum += (long)needed;
+}
+
+static void uca_compact_keys(bench *it, const text *left, const text *right)
+{
+    size_t needed;
+    (void)right;
+    uca_key(&it->compact, (const uint8_t *)left->bytes, left->length, it->key, ROOM, &needed);
     it->sum += (long)needed;
 }
 
@@ -210,14 +225,17 @@ static void report_threads(bench *it)
 
 int main(int count, char **arguments)
 {
-    bench it = {.uca = UCA_CLOSED_COLLATOR, .key = malloc(ROOM), .wide = malloc(ROOM * sizeof(UChar))};
-    if (count != 4 || !it.key || !it.wide) {
+    bench it = {.uca = UCA_CLOSED_COLLATOR, .compact = UCA_CLOSED_COLLATOR, .key = malloc(ROOM), .wide = malloc(ROOM * sizeof(UChar))};
+    if (count != 5 || !it.key || !it.wide) {
         return 2;
     }
-    open_both(&it, arguments[1], arguments[2]);
-    read_lines(&it, arguments[3]);
+    open_uca(&it, arguments[1], arguments[2], arguments[3]);
+    open_icu(&it);
+    read_lines(&it, arguments[4]);
     report(&it, "keys", uca_keys, icu_keys, it.lines, it.count);
+    report(&it, "compact keys", uca_compact_keys, icu_keys, it.lines, it.count);
     report(&it, "neighbours", uca_comparison_of, icu_comparison_of, it.lines + 1, it.count - 1);
+    report(&it, "far from each other", uca_comparison_of, icu_comparison_of, it.lines + it.count / 2, it.count / 2);
     report(&it, "a line and itself", uca_comparison_of, icu_comparison_of, it.lines, it.count);
     report(&it, "a line and a copy", uca_comparison_of, icu_comparison_of, it.copies, it.count);
     report_threads(&it);

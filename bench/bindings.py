@@ -7,7 +7,7 @@
 With no arguments the table and the data file are Unicode's, and the lines are 100,000 words of nine languages, as in tests/by_hand/bindings.py.
 
 For each file it prints how many calls for keys and for comparisons there are in a second (bindings.c), and how many keys in 1, 2, 4 .. threads
-at once. The lines are sorted first. Then it prints the seconds of sorting without an index, and of making an index. In SQLite they are those
+at once. Compact keys are by examples/books/general.book. The lines are sorted first. Then it prints the seconds of sorting without an index, and of making an index. In SQLite they are those
 of `uca_key` and `icu_key`, and of the collations `uca_..` and `icu` (sqlite_icu.c). In PostgreSQL they are those of `uca_key` and COLLATE
 "und-x-icu". All times but those of threads are processor time, and each is the least of ROUNDS. The weighting is non-ignorable, but that of
 PostgreSQL's `uca_key` is shifted.
@@ -28,6 +28,7 @@ sys.dont_write_bytecode = True
 import bindings  # noqa: E402
 
 ROUNDS = 3
+BOOK = f"{TOP}/examples/books/general.book"
 SORT, INDEX = "SELECT count(*) FROM (SELECT word FROM words ORDER BY {} {}) w;", "CREATE INDEX by_it ON words({});"
 
 
@@ -52,7 +53,7 @@ def calls(program, table, data, lines, work):
     path = f"{work}/lines"
     with open(path, "w", encoding="utf-8") as file:
         file.writelines(ordered)
-    for line in run([program, table, data, path]).splitlines():
+    for line in run([program, table, data, BOOK, path]).splitlines():
         kind, own, icu = line.rsplit(maxsplit=2)
         print(f"| {os.path.basename(lines)} | {kind} | {1e9 / float(own):,.0f} | {1e9 / float(icu):,.0f} | {float(own) / float(icu):.2f} |")
 

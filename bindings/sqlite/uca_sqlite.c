@@ -65,9 +65,14 @@ SQLITE_EXTENSION_INIT1
 /* No schema may read files. SQLite lets a DIRECTONLY function into a CHECK, unless it is DETERMINISTIC. */
 #define LOAD_FLAGS (SQLITE_UTF8 | SQLITE_DETERMINISTIC | SQLITE_DIRECTONLY)
 
-/* The collator of some files and their settings. */
+/* The collators of some files and their settings, which share a table. A collator is in one call at a time. So the thread that loaded
+   the files has one of its own, which needs no lock, and all other threads have one under the lock of the connection. These are threads
+   in which SQLite sorts after PRAGMA threads, or those that the connection has moved to. Two threads that are there at once are never
+   equal, so a thread that is equal to one that has ended may take its collator. */
 typedef struct loaded {
-    uca_collator collator;
+    uca_collator collator; /* of the owner */
+    uca_collator other;    /* of all other threads */
+    pthread_t owner;
     char fingerprint[DIGITS + 1];
     char whole[DIGITS + 1]; /* that of whole keys, which is another one where there is a book */
     struct connection *connection;
@@ -96,7 +101,7 @@ typedef struct connection {
     int users;
     int is_lost; /* a comparison in the transaction that writes had no memory */
     int has_hooks;
-    pthread_mutex_t lock; /* of the collators: after PRAGMA threads, SQLite sorts in several threads */
+    pthread_mutex_t lock; /* of the collators that several threads use */
 } connection;
 
 typedef struct file {
@@ -134,6 +139,13 @@ typedef struct way {
     upgrade *upgrade;
 } way;
 
+static void free_loaded(loaded *it)
+{
+    uca_close(&it->collator);
+    uca_close(&it->other);
+    sqlite3_free(it);
+}
+
 static void let_go(void *data)
 {
     connection *here = data;
@@ -143,8 +155,7 @@ static void let_go(void *data)
     while (here->first) {
         loaded *it = here->first;
         here->first = it->next;
-        uca_close(&it->collator);
-        sqlite3_free(it);
+        free_loaded(it);
     }
     while (here->first_upgrade) {
         upgrade *it = here->first_upgrade;
@@ -214,13 +225,30 @@ static void lose(connection *here)
     sqlite3_mutex_leave(mutex);
 }
 
+/* A collator for a call of this thread. */
+static inline uca_collator *take(loaded *it)
+{
+    if (pthread_equal(it->owner, pthread_self())) {
+        return &it->collator;
+    }
+    pthread_mutex_lock(&it->connection->lock);
+    return &it->other;
+}
+
+static inline void give_back(loaded *it, const uca_collator *taken)
+{
+    if (taken == &it->other) {
+        pthread_mutex_unlock(&it->connection->lock);
+    }
+}
+
 static int collate(void *data, int left_length, const void *left, int right_length, const void *right)
 {
     loaded *it = data;
     int32_t order;
-    pthread_mutex_lock(&it->connection->lock);
-    uint32_t status = uca_order(&it->collator, bytes_at(left), (size_t)left_length, bytes_at(right), (size_t)right_length, &order);
-    pthread_mutex_unlock(&it->connection->lock);
+    uca_collator *taken = take(it);
+    uint32_t status = uca_order(taken, bytes_at(left), (size_t)left_length, bytes_at(right), (size_t)right_length, &order);
+    give_back(it, taken);
     if (status != UCA_OK) {
         lose(it->connection);
     }
@@ -290,28 +318,32 @@ static void status_error(sqlite3_context *context, const request *asked, const l
     }
 }
 
-static uint32_t try_make(connection *here, maker by, const request *asked, const uint8_t *bytes, size_t length, room *out)
+static uint32_t make_by(uca_collator *collator, const request *asked, const uint8_t *bytes, size_t length, room *out)
 {
-    uint32_t status = UCA_MEMORY;
-    pthread_mutex_lock(&here->lock);
     switch (asked->made) {
-    case KEY: status = uca_key(&by.loaded->collator, bytes, length, out->bytes, out->size, &out->length); break;
-    case RANGE:
-        status = uca_range(&by.loaded->collator, bytes, length, asked->range, asked->end, out->bytes, out->size, &out->length);
-        break;
-    case COMPACT_KEY: status = uca_compact(&by.loaded->collator, bytes, length, out->bytes, out->size, &out->length); break;
-    case EXPANDED_KEY: status = uca_expand(&by.loaded->collator, bytes, length, out->bytes, out->size, &out->length); break;
-    case REKEYED: status = uca_rekey(&by.upgrade->upgrade, bytes, length, out->bytes, out->size, &out->length); break;
+    case KEY: return uca_key(collator, bytes, length, out->bytes, out->size, &out->length);
+    case RANGE: return uca_range(collator, bytes, length, asked->range, asked->end, out->bytes, out->size, &out->length);
+    case COMPACT_KEY: return uca_compact(collator, bytes, length, out->bytes, out->size, &out->length);
+    default: return uca_expand(collator, bytes, length, out->bytes, out->size, &out->length);
     }
-    pthread_mutex_unlock(&here->lock);
+}
+
+/* A connection calls one function at a time, and nothing else has an upgrade. So that needs no lock. */
+static uint32_t try_make(maker by, const request *asked, const uint8_t *bytes, size_t length, room *out)
+{
+    if (asked->made == REKEYED) {
+        return uca_rekey(&by.upgrade->upgrade, bytes, length, out->bytes, out->size, &out->length);
+    }
+    uca_collator *taken = take(by.loaded);
+    uint32_t status = make_by(taken, asked, bytes, length, out);
+    give_back(by.loaded, taken);
     return status;
 }
 
 /* Makes what is asked for of these bytes, in a room that has to be another one. It returns 0 after an error. */
 static int fill(sqlite3_context *context, maker by, const request *asked, const uint8_t *bytes, size_t length, room *out)
 {
-    connection *here = sqlite3_user_data(context);
-    uint32_t status = try_make(here, by, asked, bytes, length, out);
+    uint32_t status = try_make(by, asked, bytes, length, out);
     if (status == UCA_SMALL) {
         size_t size = 2 * out->length;
         uint8_t *more = sqlite3_realloc64(out->bytes, size);
@@ -321,7 +353,7 @@ static int fill(sqlite3_context *context, maker by, const request *asked, const 
         }
         out->bytes = more;
         out->size = size;
-        status = try_make(here, by, asked, bytes, length, out);
+        status = try_make(by, asked, bytes, length, out);
     }
     if (status != UCA_OK) {
         status_error(context, asked, by.loaded, status);
@@ -472,7 +504,6 @@ static int find_way(sqlite3_context *context, const char *name, sqlite3_value **
 /* Returns whether the key of a text has to be made again. A text that is rejected has no key, as uca_key says then. */
 static void make_affected(sqlite3_context *context, int count, sqlite3_value **values)
 {
-    connection *here = sqlite3_user_data(context);
     way by;
     size_t length;
     uint32_t affected;
@@ -481,9 +512,7 @@ static void make_affected(sqlite3_context *context, int count, sqlite3_value **v
     if (!bytes) {
         return;
     }
-    pthread_mutex_lock(&here->lock);
     uint32_t status = uca_affected(&by.upgrade->upgrade, bytes, length, &affected);
-    pthread_mutex_unlock(&here->lock);
     if (status == UCA_OK) {
         sqlite3_result_int(context, (int)affected);
     } else if (status == UCA_UTF8 || status == UCA_TOO_LONG || status == UCA_LONG_RUN) {
@@ -602,22 +631,24 @@ static int add(sqlite3_context *context, const files *by, const char *fingerprin
         sqlite3_result_error_nomem(context);
         return 0;
     }
-    *it = (loaded){UCA_CLOSED_COLLATOR, "", "", here, here->first};
+    *it = (loaded){.owner = pthread_self(), .connection = here, .next = here->first};
     memcpy(it->fingerprint, fingerprint, sizeof it->fingerprint);
     memcpy(it->whole, whole, sizeof it->whole);
     sqlite3_snprintf(sizeof name, name, "uca_%s", fingerprint);
     uint32_t status = open_collator(&it->collator, by, &error);
+    if (status == UCA_OK) {
+        status = uca_share(&it->collator, &it->other);
+    }
     if (status != UCA_OK) {
         open_error(context, status, &error);
     } else if (sqlite3_create_collation_v2(here->database, name, SQLITE_UTF8, it, collate, let_go_of_collation)) {
         give_error(context, sqlite3_mprintf("uca_load: %s", sqlite3_errmsg(here->database)));
-        uca_close(&it->collator);
     } else {
         here->users++;
         here->first = it;
         return 1;
     }
-    sqlite3_free(it);
+    free_loaded(it);
     return 0;
 }
 

@@ -647,6 +647,18 @@ def sqlite_threads(work):
     same(sqlite_says(work, *made, keys, wrong, index, database=f"{work}/threads.db"), "4\n100000|0\nok\n", "threads of SQLite")
 
 
+def sqlite_moved(work):
+    """A connection in two threads, each while SQLite sorts in others: as it is, and with gcc's sanitizer of threads."""
+    sqlite_says(work, "SELECT 1;")
+    words = ["gcc", "-std=c11", "-Wall", "-Wextra", "-Wpedantic", "-Werror", "-pthread", "-DSQLITE_CORE", f"-I{C}/include"]
+    parts = [f"{TOP}/bindings/sqlite/{it}.c" for it in ("threads", "uca_sqlite")]
+    for name, flags in ("moved", ["-O2"]), ("moved_sanitized", ["-O1", "-g", "-fsanitize=thread"]):
+        run([*words, *flags, "-o", f"{work}/{name}", *parts, f"{C}/out/libuca.a", "-lsqlite3"])
+        # the sanitizer needs a process whose memory is not at random places
+        found = run(["setarch", "-R", f"{work}/{name}", TABLE, DATA, USED, f"{work}/{name}.db"]).decode()
+        same(found, "100000 0\n" * 2, "keys in the order of the collation, in two threads")
+
+
 def sqlite_memory(work):
     """Each allocation fails in turn."""
     sqlite_says(work, "SELECT 1;")
@@ -1973,7 +1985,7 @@ def main():
               ("installation", installed), ("stored run", stored_run), ("docs/BINDINGS.md", page), ("keys", keys_like(program)), ("Python", python), ("Python under valgrind", python_valgrind), ("wheel", wheel), ("sort", sorted_like(program)), ("SQLite", sqlite),
               ("SQLite's loads", sqlite_loads), ("SQLite's files", sqlite_files), ("SQLite's compact keys", sqlite_compact), ("SQLite's numbers", sqlite_numbers), ("SQLite's arguments", sqlite_arguments),
               ("SQLite's books", sqlite_books), ("SQLite's lookups", sqlite_lookups), ("SQLite's schemas", sqlite_schemas), ("SQLite's restores", sqlite_restore),
-              ("SQLite's attached databases", sqlite_attached), ("SQLite's threads", sqlite_threads), ("SQLite's upgrades", sqlite_upgrades),
+              ("SQLite's attached databases", sqlite_attached), ("SQLite's threads", sqlite_threads), ("SQLite's moves from thread to thread", sqlite_moved), ("SQLite's upgrades", sqlite_upgrades),
               ("SQLite's loads of upgrades", sqlite_upgrade_loads), ("SQLite's compact keys in upgrades", sqlite_compact_upgrades), ("SQLite's moves", sqlite_moves),
               ("SQLite's indexes of texts", sqlite_texts), ("SQLite's memory", sqlite_memory), ("SQLite on the page", sqlite_page), ("SQLite's orders", sqlite_like(program)),
               ("PostgreSQL", postgresql), ("PostgreSQL's settings", postgresql_settings), ("PostgreSQL's numbers", postgresql_numbers), ("PostgreSQL's dumps", postgresql_dumps),

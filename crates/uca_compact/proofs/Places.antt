@@ -46,6 +46,20 @@ place_written number start later end w i first last rising place starts ends =
     ∙ ap (λ (n : ℕ). (number + i) ∷ offset_bytes (n - start_at start later i) (w - start_at start later i)) ends
     ∙ sym (cell_is number start later end w i rising place)
 
+end_within : (later : List ℕ) (end i : ℕ) → i < length later → end_at later end i ≡ get_or later i 0
+end_within [] end i within = absurd (omega arith)
+end_within (next ∷ later) end zero within = refl
+end_within (next ∷ later) end (suc i) within = end_within later end i (omega (arith, within))
+
+-- a weight that has its cell alone
+pub single_cell : (number start : ℕ) (later : List ℕ) (end w i : ℕ) → AreRising start later end → i < length later
+    → start_at start later i ≡ w → get_or later i 0 ≡ w + 1 → (number + i) ∷ [] ≡ cell number start later end w
+single_cell number start later end w i rising within from next =
+    let ends : end_at later end i ≡ w + 1 = end_within later end i within ∙ next in
+    let one : w + 1 - w ≡ 1 = omega arith in
+    sym (ap (λ (n : ℕ). (number + i) ∷ offset_bytes n (w - w)) one)
+    ∙ place_written number start later end w i w (w + 1) rising (record { within = omega (arith, within); from = omega (arith, from); under = omega (arith, ends) }) (sym from) (sym ends)
+
 -- ---- What weights were written as
 
 -- what an entry says is true

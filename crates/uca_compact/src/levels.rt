@@ -159,7 +159,7 @@ fn put_lesser(codes: &mut [u8], at: usize, form: &LevelForm, hints: &mut [u8], w
     put_in_cell(codes, at, 0, 1, form.lesser, common, weight, index)
 }
 
-// Puts a greater weight. Where each cell has one weight, it is the first that is tried.
+// Puts a greater weight. Mostly each cell before its own has one weight, and so has that.
 #[inline(always)]
 fn put_greater(codes: &mut [u8], at: usize, form: &LevelForm, weight: u32) -> usize
     requires form { IsForm (form_of form.now) }
@@ -171,14 +171,21 @@ fn put_greater(codes: &mut [u8], at: usize, form: &LevelForm, weight: u32) -> us
     ensures few { result ≤ at + 3 }
 {
     let longest = u32::from(form.longest);
-    let number = longest * (u32::from(form.ends) + 1) + longest;
+    let number = (longest * (u32::from(form.ends) + 1) + longest) as u8;
     let start = u32::from(form.common) + 1;
-    let hint = (weight - start) as usize;
-    let index = cell_index(start, form.greater, 0x1_0000, weight, hint);
+    let index = (weight - start) as usize;
+    if index < form.greater.len()
+        && cell_start(start, form.greater, index) == weight
+        && u32::from(form.greater[index]) == weight + 1
+    {
+        codes[at] = number + index as u8;
+        return at + 1;
+    }
+    let index = search_cell(start, form.greater, 0x1_0000, weight);
     put_in_cell(
         codes,
         at,
-        number as u8,
+        number,
         start,
         form.greater,
         0x1_0000,

@@ -127,6 +127,7 @@ fn take_points<A: Allocator>(
 
 // Makes the compact key of the line that was read of the levels of its key, where compact keys are shown, and returns `true`.
 // It returns `false` if whole keys are shown, or the levels are not written without the key.
+#[inline(always)]
 fn make_compact_key<'a, L: Lookup, T: Allocator, A: Allocator>(
     key: &mut KeyWriter<'a, L, T, A>,
     compacting: &mut Option<Compacting<A>>,

@@ -307,6 +307,7 @@ impl<A: Allocator> KeyBuffer<A> {
 
 // Takes the weights of a text to the levels, over those that were there, and returns `true`. If a piece is rejected, the text
 // has more than 524,288 bytes or the depth is `Identical`, it returns `false`, and the weights are unspecified.
+#[inline(always)]
 fn take_pieces<L: Lookup, T: Allocator, A: Allocator>(
     levels: &mut LevelBuffers<A>,
     weighting: Weighting,

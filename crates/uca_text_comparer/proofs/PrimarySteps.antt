@@ -1,10 +1,12 @@
 -- Two texts go on side by side at level 1.
-use Rattle.std.proofs.Common.{◌≡◌, ℕ, suc, ◌+◌, ◌≤◌, List, [], ◌∷◌, ◌++◌, length, Bool, true, false, nat_eq, map, min, Option, Some, None, is_some, not, slice_index_or, drop, inr, refl, sym, ap, subst, ◌∙◌, append-nil, append_assoc, arith}
+use Rattle.std.proofs.Common.{◌≡◌, ℕ, suc, ◌+◌, ◌<◌, ◌≤◌, get_or, List, [], ◌∷◌, ◌++◌, length, Bool, true, false, nat_eq, map, min, Option, Some, None, is_some, not, slice_index_or, drop, inr, refl, sym, ap, subst, ◌∙◌, append-nil, append_assoc, arith}
 use Rattle.std.specs.Prelude.{IfSome}
 use Rattle.std.specs.List.{flat_map}
 use Rattle.std.specs.Str.{chars, IsUtf8}
 use Rattle.std.specs.declared.cmp.Ordering.{Ordering}
 use Rattle.std.proofs.lemmas.Bool.{eqb-true}
+use Rattle.std.proofs.lemmas.Str.{chars_past_char, encode_ascii, IsUtf8-drop, IsUtf8-from_ascii, IsCharBoundary-from_take}
+use Rattle.std.proofs.lemmas.Str.Ascii.{IsAscii-cons}
 use Rattle.std.proofs.lemmas.Grind.{flat_map-append}
 use Rattle.std.proofs.lemmas.List.{length-map}
 use Rattle.unicode_normalization.specs.Forms.{nfd, Nfd}
@@ -221,6 +223,20 @@ some_first c text ys x e es more utf8 short is plain are begin begins = record {
   first_is = subst (λ l. IsFirst (Some e) (text_elements c l)) (sym is) (first_is c x ys e more plain begins (sym are ∙ begin));
   runs = short_no_long_run c.properties.class text utf8 short;
 }
+
+-- a text that begins with two ASCII bytes
+pub two_ascii : (text : List ℕ) (a b : ℕ) → IsUtf8 text → 2 ≤ length text → get_or text 0 0 ≡ a → get_or text 1 0 ≡ b → a < 128 → b < 128
+    → (ys : List ℕ) × (chars text ≡ a ∷ b ∷ ys)
+two_ascii [] a b utf8 long first second low low_too = absurd (omega (arith, long))
+two_ascii (x ∷ []) a b utf8 long first second low low_too = absurd (omega (arith, long))
+two_ascii (x ∷ y ∷ text) a b utf8 long first second low low_too =
+    let rest_utf8 : IsUtf8 (y ∷ text) = IsUtf8-drop (x ∷ y ∷ text) 1 utf8
+    (IsCharBoundary-from_take (x ∷ y ∷ text) 1 utf8 (omega arith) (IsUtf8-from_ascii (x ∷ []) (IsAscii-cons x [] (omega (arith, first, low)) (λ i. omega arith)))) in
+    let one : chars (x ∷ y ∷ text) ≡ x ∷ chars (y ∷ text) =
+    chars_past_char (x ∷ y ∷ text) (y ∷ text) x utf8 (sym (ap (λ l. l ++ y ∷ text) (encode_ascii x (omega (arith, first, low))))) in
+    let two : chars (y ∷ text) ≡ y ∷ chars text =
+    chars_past_char (y ∷ text) text y rest_utf8 (sym (ap (λ l. l ++ text) (encode_ascii y (omega (arith, second, low_too))))) in
+    (chars text, one ∙ ap (λ l. x ∷ l) two ∙ ap (λ n. n ∷ y ∷ chars text) first ∙ ap (λ n. a ∷ n ∷ chars text) second)
 
 pub first_of_some : (es : List Element) (d : Element) → 1 ≤ length es → es ≡ slice_index_or es 0 d ∷ drop 1 es
 first_of_some [] d some = absurd (omega (arith, some))

@@ -1,6 +1,6 @@
 //! How two texts compare at level 1, code point by code point.
 
-ghost use Rattle.std.specs.Prelude.{◌≡◌, ◌<◌, ℕ, List, Bool, chars, length, IfSome};
+ghost use Rattle.std.specs.Prelude.{◌≡◌, ◌<◌, ◌≤◌, ℕ, List, Bool, chars, length, IfSome, Some};
 ghost use Rattle.std.specs.Bool.{OnTrue};
 ghost use Rattle.uca_weights.specs.declared.Element.{Element};
 ghost use Rattle.uca_elements.specs.Collations.{Collation};
@@ -181,6 +181,41 @@ pub(crate) fn first_element<A: Allocator>(
     if text.len() > SHORT_REST {
         return None;
     }
+    match ascii_element(points, text) {
+        Some(first) => Some(Some(first)),
+        None => any_element(points, text),
+    }
+}
+
+// The first element of a short text that begins with two ASCII code points. Most texts do, and their first bytes are these
+// code points. There is no result if the first one has no element, or if one of both is not in the cache or not plain.
+#[inline(always)]
+fn ascii_element<A: Allocator>(points: &PointCache<A>, text: &str) -> Option<Element>
+    requires { length text.now ≤ 32 }
+    ensures { (c : Collation) → AreTrueEntries c points.now.entries.items →
+        IfSome result (λ first. HasFirst c (chars text.now) (Some first)) }
+{
+    let bytes = text.as_bytes();
+    if bytes.len() < 2 || bytes[0] >= 0x80 || bytes[1] >= 0x80 {
+        return None;
+    }
+    let known = points.find(char::from(bytes[0]))?;
+    let next = points.find(char::from(bytes[1]))?;
+    if next.is_bound() {
+        return None;
+    }
+    let Some([first, ..]) = known.elements() else {
+        return None;
+    };
+    Some(*first)
+}
+
+// The first element of a short text, as `first_element` says.
+#[inline(never)]
+fn any_element<A: Allocator>(points: &PointCache<A>, text: &str) -> Option<Option<Element>>
+    requires { length text.now ≤ 32 }
+    ensures { (c : Collation) → AreTrueEntries c points.now.entries.items → IfSome result (HasFirst c (chars text.now)) }
+{
     let Some((point, rest)) = split_first(text) else {
         return Some(None);
     };
