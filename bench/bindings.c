@@ -2,10 +2,11 @@
 
      bindings TABLE DATA BOOK LINES
 
-   The lines are sorted. Each round goes over all lines, or over pairs of them: neighbours, or lines that are far from each other. It prints a
-   line for each kind: its name, and the nanoseconds of a call of uca and of ICU, each in its fastest round of five. Those are of processor time. With threads they are of time on the clock: each thread
-   makes the keys of all lines. Collators of uca share their table, and ICU's is one. Variable elements are non-ignorable, and there are
-   three levels. */
+   The lines are sorted. Each round goes over all lines, or over pairs of them: neighbours, or lines that are far from each
+   other. It prints a line for each kind: its name, and the nanoseconds of a call of uca and of ICU, each in its fastest
+   round of five. Compact keys stand beside ICU's sort keys. The times are of the processor. With threads they are of the
+   clock: each thread makes the keys of all lines. Collators of uca share their table, and ICU's is one. Variable elements
+   are non-ignorable, and there are three levels. */
 #include "uca.h"
 
 #include <pthread.h>

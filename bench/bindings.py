@@ -7,8 +7,8 @@
 With no arguments the table and the data file are Unicode's, and the lines are 100,000 words of nine languages, as in tests/by_hand/bindings.py.
 
 For each file it prints how many calls for keys and for comparisons there are in a second (bindings.c), and how many keys in 1, 2, 4 .. threads
-at once. Compact keys are by examples/books/general.book. The lines are sorted first. Then it prints the seconds of sorting without an index, and of making an index. In SQLite they are those
-of `uca_key` and `icu_key`, and of the collations `uca_..` and `icu` (sqlite_icu.c). In PostgreSQL they are those of `uca_key` and COLLATE
+at once. Compact keys are by examples/books/general.book. The lines are sorted first. Then it prints the seconds of sorting without an index,
+and of making an index. In SQLite they are those of `uca_key` and `icu_key`, and of the collations `uca_..` and `icu` (sqlite_icu.c). In PostgreSQL they are those of `uca_key` and COLLATE
 "und-x-icu". All times but those of threads are processor time, and each is the least of ROUNDS. The weighting is non-ignorable, but that of
 PostgreSQL's `uca_key` is shifted.
 

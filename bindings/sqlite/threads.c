@@ -10,7 +10,8 @@
 #include <stdio.h>
 #include <stdlib.h>
 
-int sqlite3_uca_init(sqlite3 *connection, char **error, const void *api);
+struct sqlite3_api_routines;
+int sqlite3_uca_init(sqlite3 *connection, char **error, const struct sqlite3_api_routines *api);
 
 static sqlite3 *connection;
 static char statement[1024];

@@ -67,8 +67,9 @@ SQLITE_EXTENSION_INIT1
 
 /* The collators of some files and their settings, which share a table. A collator is in one call at a time. So the thread that loaded
    the files has one of its own, which needs no lock, and all other threads have one under the lock of the connection. These are threads
-   in which SQLite sorts after PRAGMA threads, or those that the connection has moved to. Two threads that are there at once are never
-   equal, so a thread that is equal to one that has ended may take its collator. */
+   in which SQLite sorts after PRAGMA threads, or those that the connection has moved to. The id of a thread is a number on Linux, and
+   two threads that run have different ones. A thread that has the id of one that has ended may take its collator: SQLite joins the
+   threads in which it sorts, and the user of a connection orders its calls. */
 typedef struct loaded {
     uca_collator collator; /* of the owner */
     uca_collator other;    /* of all other threads */
@@ -324,8 +325,10 @@ static uint32_t make_by(uca_collator *collator, const request *asked, const uint
     case KEY: return uca_key(collator, bytes, length, out->bytes, out->size, &out->length);
     case RANGE: return uca_range(collator, bytes, length, asked->range, asked->end, out->bytes, out->size, &out->length);
     case COMPACT_KEY: return uca_compact(collator, bytes, length, out->bytes, out->size, &out->length);
-    default: return uca_expand(collator, bytes, length, out->bytes, out->size, &out->length);
+    case EXPANDED_KEY: return uca_expand(collator, bytes, length, out->bytes, out->size, &out->length);
+    case REKEYED: break; /* needs an upgrade */
     }
+    return UCA_ARGUMENT;
 }
 
 /* A connection calls one function at a time, and nothing else has an upgrade. So that needs no lock. */

@@ -648,15 +648,13 @@ def sqlite_threads(work):
 
 
 def sqlite_moved(work):
-    """A connection in two threads, each while SQLite sorts in others: as it is, and with gcc's sanitizer of threads."""
+    """A connection in two threads, each while SQLite sorts in others. Without the lock of the extension this fails."""
     sqlite_says(work, "SELECT 1;")
-    words = ["gcc", "-std=c11", "-Wall", "-Wextra", "-Wpedantic", "-Werror", "-pthread", "-DSQLITE_CORE", f"-I{C}/include"]
     parts = [f"{TOP}/bindings/sqlite/{it}.c" for it in ("threads", "uca_sqlite")]
-    for name, flags in ("moved", ["-O2"]), ("moved_sanitized", ["-O1", "-g", "-fsanitize=thread"]):
-        run([*words, *flags, "-o", f"{work}/{name}", *parts, f"{C}/out/libuca.a", "-lsqlite3"])
-        # the sanitizer needs a process whose memory is not at random places
-        found = run(["setarch", "-R", f"{work}/{name}", TABLE, DATA, USED, f"{work}/{name}.db"]).decode()
-        same(found, "100000 0\n" * 2, "keys in the order of the collation, in two threads")
+    flags = ["-std=c11", "-O2", "-Wall", "-Wextra", "-Wpedantic", "-Werror", "-pthread", "-DSQLITE_CORE", f"-I{C}/include"]
+    run(["gcc", *flags, "-o", f"{work}/moved", *parts, f"{C}/out/libuca.a", "-lsqlite3"])
+    found = run([f"{work}/moved", TABLE, DATA, USED, f"{work}/moved.db"]).decode()
+    same(found, "100000 0\n" * 2, "keys in the order of the collation, in two threads")
 
 
 def sqlite_memory(work):

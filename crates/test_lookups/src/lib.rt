@@ -1,4 +1,4 @@
-//! Tests of ranges of keys: both ends of those of one key. And of compact keys of levels.
+//! Tests of ranges of keys: both ends of those of one key. Beside these, compact keys of levels that were not joined.
 #![tactic(auto)]
 
 #[cfg(test)]

@@ -35,9 +35,10 @@ const NO_ENTRY: Entry = Entry {
 pub(crate) struct KeyBuffers<A: Allocator> {
     /// What weights of level 1 were written as. What they say has to be true of the book.
     pub(crate) entries: Vec<Entry, A>,
-    /// Indexes of cells that are tried before all cells are searched. No contract says that they are the right ones.
+    /// Indexes of cells that are tried before all cells are searched. No contract says that they are the right ones. At
+    /// level 1 each is for 16 weights, and at level 4 for weights that are 4,096 apart. Both levels share the list.
     pub(crate) hints: Vec<u8, A>,
-    /// Room for a compact key.
+    /// Room for a compact key, from which it is copied once. So the bytes of the caller need not be filled first.
     pub(crate) codes: Vec<u8, A>,
 }
 

@@ -36,27 +36,31 @@ fn eight_of(weight: u32) -> [u8; 16]
     ]
 }
 
-// How many weights from this position on are this one, which `eight` has eight times.
+// How many weights from this position on are this one, and at most `most`. `eight` is this weight eight times.
 #[inline(always)]
-fn run_of(level: &[u8], at: usize, eight: &[u8; 16], weight: u32) -> usize
+fn run_of(level: &[u8], at: usize, eight: &[u8; 16], weight: u32, most: usize) -> usize
     requires eight { AreEight eight.now weight }
     requires within { at ≤ length level.now }
+    ensures few { result ≤ most }
     ensures within { at + 2 * result ≤ length level.now }
     ensures are { (k : ℕ) → k < result → weight_of level.now (at + 2 * k) ≡ weight }
-    ensures apart { at + 2 * result + 1 < length level.now → weight_of level.now (at + 2 * result) ≢ weight }
+    ensures apart { result < most → at + 2 * result + 1 < length level.now → weight_of level.now (at + 2 * result) ≢ weight }
 {
     let mut run = 0;
-    while level.len() - (at + 2 * run) >= 16 {
+    while run < most && level.len() - (at + 2 * run) >= 16 {
         let same = same_of_sixteen(level, at + 2 * run, eight);
         run += same / 2;
         if same < 16 {
-            return run;
+            return run.min(most);
         }
     }
-    while at + 2 * run + 1 < level.len() && weight_at(level, at + 2 * run) == weight {
+    while run < most && at + 2 * run + 1 < level.len() {
+        if weight_at(level, at + 2 * run) != weight {
+            return run;
+        }
         run += 1;
     }
-    run
+    run.min(most)
 }
 
 /// Compares a level to `count` times one weight.
@@ -68,7 +72,7 @@ pub(crate) fn compare_level(level: &[u8], weight: u16, count: usize) -> Compared
     ensures run { (k : ℕ) → k < result.run → weight_of level.now (2 * k) ≡ weight }
 {
     let common = u32::from(weight);
-    let run = run_of(level, 0, &eight_of(common), common);
+    let run = run_of(level, 0, &eight_of(common), common, level.len());
     let len = level.len() / 2;
     let order = if run < len && run < count {
         weight_at(level, 2 * run).cmp(&common)
@@ -96,7 +100,6 @@ pub(crate) fn put_level(
     requires within { 2 * run ≤ length level.now }
     requires run { (k : ℕ) → k < run → weight_of level.now (2 * k) ≡ form.now.common }
     requires end { end < form.now.ends }
-    requires hints { length hints.old ≡ 4096 }
     requires room { at + 2 * length level.now + 1 ≤ length codes.old }
     ensures put { take result codes.new ≡ take at codes.old ++ level_code (form_of form.now) end 0 (weights_in level.now) }
     ensures few { result ≤ at + 2 * length level.now + 1 }
@@ -110,7 +113,7 @@ pub(crate) fn put_level(
     while from < level.len() {
         let weight = weight_at(level, from);
         if weight == common {
-            let more = run_of(level, from, &eight, common).min(longest - 1 - run);
+            let more = run_of(level, from, &eight, common, longest - 1 - run);
             if more > 0 {
                 run += more;
                 from += 2 * more;

@@ -142,24 +142,30 @@ pub(crate) fn put_in_cell(
     put_offset(codes, at, number + index as u8, width, weight - first)
 }
 
-// Puts a lesser weight. The cell where a weight with this hint was found is tried first.
+// Puts a lesser weight. The cell that a hint names is tried first, if there is one.
 fn put_lesser(codes: &mut [u8], at: usize, form: &LevelForm, hints: &mut [u8], weight: u32) -> usize
     requires form { IsForm (form_of form.now) }
     requires some { 0 < weight }
     requires lesser { weight < form.now.common }
-    requires hints { length hints.old ≡ 4096 }
     requires room { at + 3 ≤ length codes.old }
     ensures put { take result codes.new ≡ take at codes.old ++ cell 0 1 form.now.lesser.now form.now.common weight }
     ensures few { result ≤ at + 3 }
 {
     let common = u32::from(form.common);
     let place = weight as usize % HINTS;
-    let index = cell_index(1, form.lesser, common, weight, usize::from(hints[place]));
-    hints[place] = index as u8;
+    let hint = match hints.get(place) {
+        Some(hint) => usize::from(*hint),
+        None => 0,
+    };
+    let index = cell_index(1, form.lesser, common, weight, hint);
+    if let Some(hint) = hints.get_mut(place) {
+        *hint = index as u8;
+    }
     put_in_cell(codes, at, 0, 1, form.lesser, common, weight, index)
 }
 
-// Puts a greater weight. Mostly each cell before its own has one weight, and so has that.
+// Puts a greater weight. Mostly its own cell and all cells before it have one weight each. Then its index is known without
+// a search.
 #[inline(always)]
 fn put_greater(codes: &mut [u8], at: usize, form: &LevelForm, weight: u32) -> usize
     requires form { IsForm (form_of form.now) }
@@ -209,7 +215,6 @@ pub(crate) fn put_weight(
     requires short { run < form.now.longest }
     requires weight { 0 < weight }
     requires two_bytes { weight < 65536 }
-    requires hints { length hints.old ≡ 4096 }
     requires room { at + 4 ≤ length codes.old }
     ensures put { take result.0 codes.new ≡ take at codes.old ++ written (form_of form.now) run weight (nat_cmp weight form.now.common) }
     ensures few { result.0 ≤ at + 4 }
@@ -253,10 +258,9 @@ pub fn push_level<A: Allocator>(
     ensures { OnOk result (out.new.items ≡ out.old.items ++ level_code (form_of form.now) end 0 weights.now) }
 {
     let mut room = [0; 4];
-    let mut hints = [0; HINTS];
     let mut run = 0;
     for weight in weights {
-        let (size, after) = put_weight(&mut room, 0, form, &mut hints, run, u32::from(*weight));
+        let (size, after) = put_weight(&mut room, 0, form, &mut [], run, u32::from(*weight));
         out.extend_from_slice(&room[..size])?;
         run = after;
     }

@@ -55,7 +55,6 @@ fn put_later(
     requires within { 2 * compared.run ≤ length level.now }
     requires run { (k : ℕ) → k < compared.run → weight_of level.now (2 * k) ≡ form.now.common }
     requires end { end < form.now.ends }
-    requires hints { length hints.old ≡ 4096 }
     requires room { at + 2 * length level.now + 1 ≤ length codes.old }
     ensures put { take result codes.new ≡ take at codes.old ++
         (if is_eq compared.order then [] else level_code (form_of form.now) end 0 (weights_in level.now)) }

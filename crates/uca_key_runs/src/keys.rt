@@ -125,8 +125,8 @@ fn take_points<A: Allocator>(
     }
 }
 
-// Makes the compact key of the line that was read of the levels of its key, where compact keys are shown, and returns `true`.
-// It returns `false` if whole keys are shown, or the levels are not written without the key.
+// Makes the compact key of the line that was read from the levels of its key, and returns `true`. It returns `false` if whole
+// keys are shown, or if `write_line_levels` returned `false`.
 #[inline(always)]
 fn make_compact_key<'a, L: Lookup, T: Allocator, A: Allocator>(
     key: &mut KeyWriter<'a, L, T, A>,

@@ -48,8 +48,8 @@ pub(crate) fn write_line_key<'a, L: Lookup, T: Allocator, A: Allocator>(
     }
 }
 
-/// Writes the levels of the key of the line that was read, over those that were there, and returns `true`. It returns `false`
-/// if they are not written without the key: then `write_line_key` tells.
+/// Writes the levels of the key of the line that was read, over those that were there, and returns `true`. If it returns
+/// `false`, call `write_line_key`, which makes the key or says why there is none.
 ///
 /// # Errors
 ///

@@ -274,7 +274,7 @@ impl<A: Allocator> KeyBuffer<A> {
     }
 
     /// The levels that were written last. A call that writes a key, or the beginning of one, leaves them unspecified.
-    pub fn levels(&self) -> KeyLevels<'_>
+    pub(crate) fn levels(&self) -> KeyLevels<'_>
         ensures { levels_in result ≡ self.now.levels }
     {
         self.levels.levels()

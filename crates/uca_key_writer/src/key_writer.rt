@@ -86,9 +86,9 @@ impl<'a, L: Lookup, T: Allocator, A: Allocator> KeyWriter<'a, L, T, A> {
     /// Writes the levels of the key of a text, over those that were there, without joining them to a key, and returns `true`.
     /// The key that was written last is then no longer there: its bytes are unspecified.
     ///
-    /// The text is read piece by piece. If that cannot be, it returns `false`, and the levels are unspecified: then
-    /// [`write`](KeyWriter::write) tells. So it is where a piece is rejected, where the text that is read has more than 524,288
-    /// bytes, and at the depth `Identical`.
+    /// It may return `false` for any text, and no clause says when. The levels are then unspecified, and
+    /// [`write`](KeyWriter::write) makes the key, or says why there is none. So it is where a piece is rejected, where the text
+    /// that is read has more than 524,288 bytes, and at the depth `Identical`.
     ///
     /// # Errors
     ///
@@ -125,7 +125,7 @@ impl<'a, L: Lookup, T: Allocator, A: Allocator> KeyWriter<'a, L, T, A> {
         self.memory.write_beginning(&self.collator, text)
     }
 
-    /// The levels that were written last, as [`KeyBuffer::levels`](crate::KeyBuffer::levels) describes them.
+    /// The levels that were written last, as [`KeyMemory::levels`](crate::KeyMemory::levels) describes them.
     pub fn levels(&self) -> KeyLevels<'_>
         ensures { levels_in result ≡ self.now.levels }
     {

@@ -13,7 +13,7 @@ returns-then-run-count-clause-order c =
     let level = c.args.level.now in
     c.cmp-order.ensures
     ∙ ap (λ (n : ℕ). nat_cmp n c.from-common.result) c.weight_at.ensures.is
-    ∙ other_decides level c.from-common.result c.args.count c.run_of-run.result c.requires c.run_of-run.ensures.are c.run_of-run.ensures.apart
+    ∙ other_decides level c.from-common.result c.args.count c.run_of-run.result c.requires c.run_of-run.ensures.are (c.run_of-run.ensures.apart (let few = c.if-run-len.true in omega (arith, few)))
     c.if-run-len.true c.if-run-count.true
     ∙ ap (λ (n : ℕ). lexicographic (weights_in level) (copies n c.args.count)) c.from-common.ensures
 

@@ -17,24 +17,22 @@ loop-from-init c =
           (λ k below. c.requires.run k (omega (arith, below, least))) (omega (arith, within, least)) (omega (arith, least, longest, some));
       room = omega arith;
       codes = refl;
-      hints = c.requires.hints;
     }
 
 pub loop-from-preserved-then-more-gt0 : goal.loop-from-preserved-then-more-gt0
 loop-from-preserved-then-more-gt0 c =
     let i = c.loop-from.invariant in
-    let least = c.min-more.ensures in
+    let few = c.run_of-more.ensures.few in
     let longest = c.from-longest.ensures in
-    let within = c.run_of.ensures.within in
+    let within = c.run_of-more.ensures.within in
     let short = i.written.short in
     let room = i.room in
     record {
       written = run_later (form_of c.args.form.now) c.args.end c.args.level.now (take c.args.at c.args.codes.now) (take c.loop-from.put c.loop-from.codes)
-          c.loop-from.from c.loop-from.run c.min-more.result i.written
-          (λ k below. c.run_of.ensures.are k (omega (arith, below, least)) ∙ c.from-common.ensures) (omega (arith, within, least)) (omega (arith, short, least, longest));
+          c.loop-from.from c.loop-from.run c.run_of-more.result i.written
+          (λ k below. c.run_of-more.ensures.are k below ∙ c.from-common.ensures) within (omega (arith, short, few, longest));
       room = omega (arith, room);
       codes = i.codes;
-      hints = i.hints;
     }
 
 pub put_weight-next-requires-clause-weight : goal.put_weight-next-requires-clause-weight
@@ -57,7 +55,6 @@ loop-from-preserved c =
           c.put_weight-next.ensures.put c.put_weight-next.ensures.run c.put_weight-next.ensures.short;
       room = omega (arith, room, few);
       codes = c.put_weight-next.auto.codes ∙ i.codes;
-      hints = c.put_weight-next.auto.hints ∙ i.hints;
     }
 
 pub returns-clause-put : goal.returns-clause-put

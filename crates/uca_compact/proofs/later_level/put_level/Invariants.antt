@@ -9,7 +9,6 @@ invariant-loop-from l = record {
   written : IsLaterTo (form_of l.form) l.end l.level (take l.at l.fn.codes) (take l.put l.codes) l.from l.run;
   room : l.put ≤ l.at + 2 * l.from;
   codes : length l.codes ≡ length l.fn.codes;
-  hints : length l.hints ≡ 4096;
 }
 
 abbrev pub decreases-loop-from : goal.decreases-loop-from
