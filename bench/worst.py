@@ -142,6 +142,16 @@ def texts(folder):
     yield Run("64 marks after each letter, out of order", bound, "keys table data", "line")
 
 
+def compacting(folder):
+    """Compact keys of one line: runs of common weights, which other weights end."""
+    folder.write("data", DATA)
+    folder.write("book", "@book 1\n")
+    folder.table([([0x61], LETTER), ([0x62], element(0x101, 0x24, 8))])
+    for name, text in (("one run", "a" * (POINTS - 1) + "b"), ("runs of 100", ("a" * 100 + "b") * (POINTS // 101)), ("no runs", "b" * POINTS)):
+        folder.write("line", text)
+        yield Run(name + " of common weights", "a line of 1,048,576 code points", "keys --compact book table data", "line")
+
+
 def ranges(folder):
     """Keys of one line whose code points have no rows, over the greatest data files; and lines that are rejected."""
     lines = one_in_each("ccc", FAR, " 230") + one_in_each("core", FAR) + one_in_each("other", FAR + 0x4000)
@@ -262,7 +272,7 @@ def far_weights(folder):
     yield Run("a certificate of equal runs", "65,535 runs a level", "audit table data rules table certificate", None, "certificate line 2: Map NotRising")
 
 
-GROUPS = (fronts, tries, lines_of_files, texts, ranges, sorting, comparing, rules, tailorings, far_weights)
+GROUPS = (fronts, tries, lines_of_files, texts, compacting, ranges, sorting, comparing, rules, tailorings, far_weights)
 
 
 def measured(binary, folder, run):

@@ -4,8 +4,8 @@
 use std::alloc::Global;
 use std::cmp::Ordering;
 use std::test::Fail;
-use test_kit::{holds, repeated};
-use uca_owned::OwnedCollator;
+use test_kit::{holds, repeated, same_bytes};
+use uca_owned::{KeyFault, OwnedCollator};
 use uca_weights::{Asked, Depth, Weighting};
 
 const TABLE: &str = "@version 1\n\
@@ -130,4 +130,28 @@ fn check_other(first: &mut OwnedCollator, alloc: Global) -> Result<(), Fail> {
 #[test]
 fn collators_that_share_a_table(rt: HostRuntime) -> Result<(), Fail> {
     check_other(&mut opened(rt.alloc())?, rt.alloc())
+}
+
+/// The levels of the key of `ba`, one letter after the other.
+fn check_levels(collator: &mut OwnedCollator) -> Result<(), Fail> {
+    holds(collator.make_levels(b"ba")?, "the levels of two letters")?;
+    let levels = collator.levels();
+    same_bytes(levels.primary, b"\x1C\x60\x1C\x47", "level 1")?;
+    same_bytes(levels.secondary, b"\0\x20\0\x20", "level 2")?;
+    same_bytes(levels.tertiary, b"\0\x02\0\x02", "level 3")
+}
+
+/// The byte FF is in no UTF-8.
+fn check_no_levels(collator: &mut OwnedCollator) -> Result<(), Fail> {
+    holds(!collator.make_levels(b"a\xFF")?, "levels of no UTF-8")?;
+    let found = collator.make_key(b"a\xFF");
+    holds(found == Err(KeyFault::Utf8), "a key of no UTF-8")
+}
+
+#[test]
+fn levels_that_are_not_joined(rt: HostRuntime) -> Result<(), Fail> {
+    let mut collator = opened(rt.alloc())?;
+    check_levels(&mut collator)?;
+    check_no_levels(&mut collator)?;
+    check_levels(&mut collator)
 }

@@ -1,5 +1,5 @@
-//! Tests of an owned collator: keys of texts of many lengths and of many pages of code points, and one more collator
-//! that shares the table of another.
+//! Tests of an owned collator: keys of texts of many lengths and of many pages of code points, and the levels of a key.
+//! Beside these, one more collator that shares the table of another.
 #![tactic(auto)]
 
 #[cfg(test)]

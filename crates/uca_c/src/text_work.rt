@@ -1,16 +1,12 @@
 //! What a call does with one text of an open collator.
 
-ghost use Rattle.std.specs.Prelude.{◌≡◌, ◌≢◌, ◌⊎◌};
-ghost use Rattle.uca_order.specs.Depths.{ReadText};
-ghost use Rattle.uca_compact.specs.CompactKeys.{compact_key, text_parts};
+ghost use Rattle.std.specs.Prelude.{◌≡◌, ◌≢◌};
 ghost use Rattle.uca_c.specs.OpenCollators.{keying_at, key_by};
 ghost use Rattle.uca_c.specs.TextCalls.{IsBeginningStatus, IsJudged, WritesBeginning};
-ghost use Rattle.uca_c.specs.inside.TextKeys.{IsKeyOf, IsTextKey};
 
 use crate::open_collator::OpenCollator;
-use crate::statuses::{LONG_RUN, MEMORY, OK, UTF8, status_of_text};
-use crate::work::compact_into;
-use uca_compact::KeyCompacter;
+use crate::statuses::{LONG_RUN, OK, UTF8, status_of_text};
+use crate::work::make_compact;
 use uca_owned::KeyFault;
 use uca_text::TextFault;
 
@@ -23,28 +19,6 @@ fn copy_beginning(bytes: &[u8], out: &mut [u8], needed: &mut usize) -> u32
     out[..count].copy_from_slice(&bytes[..count]);
     *needed = bytes.len();
     OK
-}
-
-// Writes the beginning of the compact key of the key of a text.
-fn write_compact_beginning(
-    compacter: &mut KeyCompacter,
-    key: &[u8],
-    made: &mut Vec<u8>,
-    out: &mut [u8],
-    needed: &mut usize,
-) -> u32
-    requires { IsTextKey compacter.old.settings key.now }
-    ensures same { compacter.new ≡ compacter.old }
-    ensures ok { let settings = compacter.old.settings in (t : ReadText) → IsKeyOf settings t key.now → result ≡ OK →
-        WritesBeginning (compact_key settings.depth settings.weighting compacter.old.book (text_parts settings.depth settings.weighting t)) out.old out.new needed.new }
-    ensures statuses { (result ≡ OK) ⊎ (result ≡ MEMORY) }
-    ensures unwritten { result ≢ OK → out.new ≡ out.old }
-    ensures none { result ≢ OK → needed.new ≡ needed.old }
-{
-    let Ok(()) = compact_into(compacter, key, made) else {
-        return MEMORY;
-    };
-    copy_beginning(made, out, needed)
 }
 
 // Writes the first bytes of the key of a text, as many as there is room for, and how many bytes the key has.
@@ -62,14 +36,19 @@ pub fn write_beginning(
     ensures book { collator.new.book ≡ collator.old.book }
 {
     *needed = 0;
-    if let Err(fault) = collator.collator.make_key(text) {
-        return status_of_text(fault);
-    }
-    let key = collator.collator.key();
     match &mut collator.compacter {
-        None => copy_beginning(key, out, needed),
+        None => {
+            if let Err(fault) = collator.collator.make_key(text) {
+                return status_of_text(fault);
+            }
+            copy_beginning(collator.collator.key(), out, needed)
+        }
         Some(compacter) => {
-            write_compact_beginning(compacter, key, &mut collator.made, out, needed)
+            let made = &mut collator.made;
+            if let Err(fault) = make_compact(&mut collator.collator, compacter, text, made) {
+                return status_of_text(fault);
+            }
+            copy_beginning(made, out, needed)
         }
     }
 }

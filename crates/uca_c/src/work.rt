@@ -1,9 +1,12 @@
 //! What a call does with an open collator.
 
-ghost use Rattle.std.specs.Prelude.{◌≡◌, ◌≢◌, ◌⊎◌, pos, OnOk};
+ghost use Rattle.std.specs.Prelude.{◌≡◌, ◌≢◌, ◌⊎◌, Some, pos, IfErr, IfOk, OnOk};
+ghost use Rattle.std.specs.Bool.{OnTrue};
+ghost use Rattle.std.specs.Str.{IsUtf8};
 ghost use Rattle.uca_order.specs.Depths.{ReadText};
 ghost use Rattle.uca_order.specs.Keyings.{bytes_compared};
 ghost use Rattle.uca_compact.specs.CompactKeys.{compact_key, text_parts};
+ghost use Rattle.uca_owned.specs.Causes.{IsAcceptedBy, IsKeyCause};
 ghost use Rattle.uca_owned.specs.Owned.{keying_in};
 ghost use Rattle.uca_c.specs.OpenCollators.{keying_at, key_by};
 ghost use Rattle.uca_c.specs.inside.TextKeys.{IsKeyOf, IsTextKey};
@@ -15,8 +18,9 @@ use crate::open_collator::OpenCollator;
 use crate::statuses::{MEMORY, OK, SMALL, status_of_text, status_of_texts};
 use crate::structs::Comparison;
 use std::alloc::AllocError;
-use uca_compact::KeyCompacter;
-use uca_owned::OwnedCollator;
+use uca_compact::{KeyCompacter, LevelBytes};
+use uca_owned::{KeyFault, OwnedCollator};
+use uca_text::TextFault;
 
 // Copies bytes to where they have room, and tells how many they are.
 pub(crate) fn copy_out(bytes: &[u8], out: &mut [u8], needed: &mut usize) -> u32
@@ -34,8 +38,38 @@ pub(crate) fn copy_out(bytes: &[u8], out: &mut [u8], needed: &mut usize) -> u32
     OK
 }
 
+// Makes the compact key of a text over the bytes that were there, of the levels of its key, and returns `true`. It
+// returns `false` if the levels are not made without the key.
+fn compact_levels(
+    collator: &mut OwnedCollator,
+    compacter: &mut KeyCompacter,
+    text: &[u8],
+    made: &mut Vec<u8>,
+) -> Result<bool, AllocError>
+    requires { compacter.old.settings ≡ collator.old.settings }
+    ensures same { compacter.new ≡ compacter.old }
+    ensures made { IfOk result (λ found. OnTrue found
+        (made.new.items ≡ key_by (keying_in collator.old) (Some compacter.old.book) text.now)) }
+    ensures accepted { IfOk result (λ found. OnTrue found (IsAcceptedBy (keying_in collator.old) text.now)) }
+    ensures utf8 { IfErr result (λ error. IsUtf8 text.now) }
+    ensures keying { keying_in collator.new ≡ keying_in collator.old }
+{
+    if !collator.make_levels(text)? {
+        return Ok(false);
+    }
+    let levels = collator.levels();
+    let levels = LevelBytes {
+        letters: levels.primary,
+        accents: levels.secondary,
+        cases: levels.tertiary,
+        variables: levels.quaternary,
+    };
+    compacter.write_levels(&levels, made)?;
+    Ok(true)
+}
+
 // Makes the compact key of the key of a text over the bytes that were there.
-pub(crate) fn compact_into(
+fn compact_whole(
     compacter: &mut KeyCompacter,
     key: &[u8],
     made: &mut Vec<u8>,
@@ -50,28 +84,32 @@ pub(crate) fn compact_into(
     Ok(())
 }
 
-// Writes the compact key of the key of a text where it has room, and how many bytes it has.
-fn write_compact_key(
+// Makes the compact key of a text over the bytes that were there: of the levels of its key, or else of its whole key.
+pub(crate) fn make_compact(
+    collator: &mut OwnedCollator,
     compacter: &mut KeyCompacter,
-    key: &[u8],
+    text: &[u8],
     made: &mut Vec<u8>,
-    out: &mut [u8],
-    needed: &mut usize,
-) -> u32
-    requires { IsTextKey compacter.old.settings key.now }
+) -> Result<(), KeyFault>
+    requires { compacter.old.settings ≡ collator.old.settings }
     ensures same { compacter.new ≡ compacter.old }
-    ensures ok { let settings = compacter.old.settings in (t : ReadText) → IsKeyOf settings t key.now → result ≡ OK →
-        WritesKey (compact_key settings.depth settings.weighting compacter.old.book (text_parts settings.depth settings.weighting t)) out.old out.new needed.new }
-    ensures small { let settings = compacter.old.settings in (t : ReadText) → IsKeyOf settings t key.now → result ≡ SMALL →
-        IsTooSmall (compact_key settings.depth settings.weighting compacter.old.book (text_parts settings.depth settings.weighting t)) out.old needed.new }
-    ensures statuses { (result ≡ OK) ⊎ (result ≡ SMALL) ⊎ (result ≡ MEMORY) }
-    ensures unwritten { result ≢ OK → out.new ≡ out.old }
-    ensures none { result ≢ OK → result ≢ SMALL → needed.new ≡ needed.old }
+    ensures made { OnOk result (made.new.items ≡ key_by (keying_in collator.old) (Some compacter.old.book) text.now) }
+    ensures accepted { OnOk result (IsAcceptedBy (keying_in collator.old) text.now) }
+    ensures fault { let k = keying_in collator.old in
+        IfErr result (IsKeyCause k.settings.numbers k.collation.properties text.now) }
+    ensures keying { keying_in collator.new ≡ keying_in collator.old }
 {
-    let Ok(()) = compact_into(compacter, key, made) else {
-        return MEMORY;
-    };
-    copy_out(made, out, needed)
+    match compact_levels(collator, compacter, text, made) {
+        Ok(true) => Ok(()),
+        Ok(false) => {
+            collator.make_key(text)?;
+            match compact_whole(compacter, collator.key(), made) {
+                Ok(()) => Ok(()),
+                Err(_) => Err(KeyFault::Text(TextFault::Memory)),
+            }
+        }
+        Err(_) => Err(KeyFault::Text(TextFault::Memory)),
+    }
 }
 
 // Writes the key of a text where it has room, and how many bytes it has.
@@ -90,13 +128,20 @@ pub fn write_key(
     ensures book { collator.new.book ≡ collator.old.book }
 {
     *needed = 0;
-    if let Err(fault) = collator.collator.make_key(text) {
-        return status_of_text(fault);
-    }
-    let key = collator.collator.key();
     match &mut collator.compacter {
-        None => copy_out(key, out, needed),
-        Some(compacter) => { write_compact_key(compacter, key, &mut collator.made, out, needed) }
+        None => {
+            if let Err(fault) = collator.collator.make_key(text) {
+                return status_of_text(fault);
+            }
+            copy_out(collator.collator.key(), out, needed)
+        }
+        Some(compacter) => {
+            let made = &mut collator.made;
+            if let Err(fault) = make_compact(&mut collator.collator, compacter, text, made) {
+                return status_of_text(fault);
+            }
+            copy_out(made, out, needed)
+        }
     }
 }
 

@@ -1,10 +1,15 @@
 //! Keys and comparisons of texts that are given as bytes.
 
-ghost use Rattle.std.specs.Prelude.{◌≡◌, IfOk, IfErr, OnOk};
+ghost use Rattle.std.specs.Prelude.{◌≡◌, IfOk, IfErr, OnOk, chars};
+ghost use Rattle.std.specs.Bool.{OnTrue};
+ghost use Rattle.std.specs.Str.{IsUtf8};
+ghost use Rattle.uca_weights.specs.declared.Depth.TheVariants.{Weights};
 ghost use Rattle.uca_values.specs.Content.{properties_of};
 ghost use Rattle.uca_match.specs.OwnedCollations.{owned_collation};
 ghost use Rattle.uca_plain.specs.PointCache.{AreTrueEntries};
+ghost use Rattle.uca_order.specs.Depths.{read_points};
 ghost use Rattle.uca_order.specs.Keyings.{keying_by, key_of_bytes, bytes_compared};
+ghost use Rattle.uca_key_writer.specs.KeyLevels.{AreLevelsOf, levels_in};
 ghost use Rattle.uca_key_writer.specs.Memories.{settings_in};
 ghost use Rattle.uca_owned.specs.Owned.{keying_in, key_in};
 ghost use Rattle.uca_owned.specs.Causes.{IsAcceptedBy, IsAcceptedText, IsKeyCause, IsCompareCause};
@@ -13,8 +18,9 @@ use crate::OwnedCollator;
 use crate::comparing::{compare_bytes, compare_same};
 use crate::faults::{CompareFault, KeyFault};
 use crate::reading::read_text;
+use std::alloc::AllocError;
 use std::cmp::Ordering;
-use uca_key_writer::KeyMemory;
+use uca_key_writer::{KeyLevels, KeyMemory};
 use uca_match::OwnedCollation;
 
 // Makes the key of a text that is given as bytes.
@@ -35,6 +41,31 @@ fn write_key(collation: &OwnedCollation, keys: &mut KeyMemory, text: &[u8]) -> R
         Ok(()) => Ok(()),
         Err(fault) => Err(KeyFault::Text(fault)),
     }
+}
+
+// Writes the levels of the key of a text that is given as bytes, and returns `true`. It returns `false` if the bytes
+// are not UTF-8, or the levels are not written without the key.
+fn write_levels(
+    collation: &OwnedCollation,
+    keys: &mut KeyMemory,
+    text: &[u8],
+) -> Result<bool, AllocError>
+    requires { AreTrueEntries (owned_collation collation.now) keys.old.points.entries.items }
+    ensures known { AreTrueEntries (owned_collation collation.now) keys.new.points.entries.items }
+    ensures levels { let k = keying_by (owned_collation collation.now) (settings_in keys.old) in
+        IfOk result (λ written. OnTrue written (AreLevelsOf k.settings.weighting
+        (read_points k.collation k.settings.numbers (chars text.now)).elements keys.new.buffer.levels)) }
+    ensures accepted { let properties = properties_of collation.now.properties in
+        IfOk result (λ written. OnTrue written (IsAcceptedText keys.old.numbers properties text.now)) }
+    ensures depth { IfOk result (λ written. OnTrue written (keys.old.buffer.depth ≡ Weights)) }
+    ensures utf8 { IfErr result (λ error. IsUtf8 text.now) }
+    ensures settings { settings_in keys.new ≡ settings_in keys.old }
+{
+    let Some(text) = read_text(text) else {
+        return Ok(false);
+    };
+    let collator = collation.collator();
+    keys.write_levels(&collator, text)
 }
 
 impl OwnedCollator {
@@ -60,6 +91,36 @@ impl OwnedCollator {
         ensures { result.now ≡ key_in self.now }
     {
         self.keys.bytes()
+    }
+
+    /// Makes the levels of the sort key of a text, over those that were there, and returns `true`.
+    /// [`levels`](OwnedCollator::levels) returns them. They are not joined to a key. So it takes less time where a
+    /// compact key is made of them. The key that was made last is then unspecified.
+    ///
+    /// It returns `false` if the bytes are not UTF-8, or the levels are not made without the key. So it is at the depth
+    /// `Identical`, for a text that is rejected, and where more than 524,288 bytes are read. No clause says when. The
+    /// levels are then unspecified, and [`make_key`](OwnedCollator::make_key) makes the key, or says why there is none.
+    ///
+    /// # Errors
+    ///
+    /// An allocation failed. The bytes are UTF-8, and the levels are unspecified.
+    pub fn make_levels(&mut self, text: &[u8]) -> Result<bool, AllocError>
+        ensures levels { let k = keying_in self.old in
+            IfOk result (λ made. OnTrue made (AreLevelsOf k.settings.weighting
+            (read_points k.collation k.settings.numbers (chars text.now)).elements self.new.levels)) }
+        ensures accepted { IfOk result (λ made. OnTrue made (IsAcceptedBy (keying_in self.old) text.now)) }
+        ensures depth { IfOk result (λ made. OnTrue made ((keying_in self.old).settings.depth ≡ Weights)) }
+        ensures utf8 { IfErr result (λ error. IsUtf8 text.now) }
+        ensures keying { keying_in self.new ≡ keying_in self.old }
+    {
+        write_levels(&*self.collation, &mut self.keys, text)
+    }
+
+    /// The levels that were made last. A call that makes a key leaves them unspecified.
+    pub fn levels(&self) -> KeyLevels<'_>
+        ensures { levels_in result ≡ self.now.levels }
+    {
+        self.keys.levels()
     }
 
     /// How two texts compare (UTS #10, section 1.1), without keys: their order, and the first level at which they

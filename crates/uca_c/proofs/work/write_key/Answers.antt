@@ -1,58 +1,33 @@
 -- The key is that of the collator and of its book.
-use Rattle.std.proofs.Common.{◌∙◌, ap, sym, subst}
-use Rattle.std.specs.Prelude.{Option, option_map}
-use Rattle.uca_compact.specs.Programs.{CompacterState}
-use Rattle.uca_owned.specs.Owned.{keying_in}
-use Rattle.uca_c.specs.OpenCollators.{OpenState, keying_at, key_by, text_of}
+use Rattle.std.proofs.Common.{◌∙◌, None, Some, subst}
 use Rattle.uca_c.specs.Results.{WritesKey, IsTooSmall}
-use Rattle.uca_c.specs.Statuses.{IsKeyStatus}
-use Rattle.uca_c.proofs.KeyTexts.{compact_by, is_key, key_status_by}
+use Rattle.uca_c.proofs.KeyTexts.{seen_key}
 use Rattle.uca_c.proofs.work.write_key.Goals as goal
 
-pub write_compact_key-requires : goal.write_compact_key-requires
-write_compact_key-requires c = (
-  text_of (keying_in c.collator.inside.collator) c.args.text.now,
-  is_key c.collator.inside.collator c.collator.inside.compacter c.in-Some.compacter c.args.text.now c.key-key.result.now c.in-Some.is c.collator.invariant
-      c.in_default.ensures.accepted.utf8 (c.key-key.ensures ∙ c.in_default.ensures.key),
-)
-
-pub returns-in-None-clause-ok : goal.returns-in-None-clause-ok
-returns-in-None-clause-ok c is_ok =
-    let text = c.args.text.now in
-    let k = keying_in c.collator.inside.collator in
+pub returns-in_default-clause-ok : goal.returns-in_default-clause-ok
+returns-in_default-clause-ok c is_ok =
     subst (λ key. WritesKey key c.args.out.now c.copy_out.new.out c.copy_out.new.needed)
-    (c.key-key.ensures ∙ c.in_default.ensures.key ∙ ap (λ (o : Option CompacterState). key_by k (option_map (λ m. m.book) o) text) (sym c.in-None.is)
-    ∙ ap (λ (s : OpenState). key_by (keying_at s) s.book text) c.collator.view_is)
+    (seen_key c.collator.inside.collator c.collator.inside.compacter None c.args.collator.now c.args.text.now c.key.result.now c.in-None.is c.collator.view_is
+    (c.key.ensures ∙ c.in_default.ensures.key))
     (c.copy_out.ensures.ok is_ok)
 
-pub returns-in-None-clause-small : goal.returns-in-None-clause-small
-returns-in-None-clause-small c is_small =
-    let text = c.args.text.now in
-    let k = keying_in c.collator.inside.collator in
+pub returns-in_default-clause-small : goal.returns-in_default-clause-small
+returns-in_default-clause-small c is_small =
     subst (λ key. IsTooSmall key c.args.out.now c.copy_out.new.needed)
-    (c.key-key.ensures ∙ c.in_default.ensures.key ∙ ap (λ (o : Option CompacterState). key_by k (option_map (λ m. m.book) o) text) (sym c.in-None.is)
-    ∙ ap (λ (s : OpenState). key_by (keying_at s) s.book text) c.collator.view_is)
+    (seen_key c.collator.inside.collator c.collator.inside.compacter None c.args.collator.now c.args.text.now c.key.result.now c.in-None.is c.collator.view_is
+    (c.key.ensures ∙ c.in_default.ensures.key))
     (c.copy_out.ensures.small is_small)
 
-pub returns-in-Some-clause-ok : goal.returns-in-Some-clause-ok
-returns-in-Some-clause-ok c is_ok =
-    subst (λ key. WritesKey key c.args.out.now c.write_compact_key.new.out c.write_compact_key.new.needed)
-    (compact_by c.collator.inside.collator c.collator.inside.compacter c.in-Some.compacter c.args.text.now c.in-Some.is c.collator.invariant
-    ∙ ap (λ (s : OpenState). key_by (keying_at s) s.book c.args.text.now) c.collator.view_is)
-    (c.write_compact_key.ensures.ok (text_of (keying_in c.collator.inside.collator) c.args.text.now)
-    (is_key c.collator.inside.collator c.collator.inside.compacter c.in-Some.compacter c.args.text.now c.key-key.result.now c.in-Some.is c.collator.invariant
-    c.in_default.ensures.accepted.utf8 (c.key-key.ensures ∙ c.in_default.ensures.key)) is_ok)
+pub returns-in_default-make_compact-clause-ok : goal.returns-in_default-make_compact-clause-ok
+returns-in_default-make_compact-clause-ok c is_ok =
+    subst (λ key. WritesKey key c.args.out.now c.copy_out-in-Some.new.out c.copy_out-in-Some.new.needed)
+    (seen_key c.collator.inside.collator c.collator.inside.compacter (Some c.in-Some.compacter) c.args.collator.now c.args.text.now c.deref.result.now c.in-Some.is c.collator.view_is
+    (c.deref.ensures.value ∙ c.in_default-make_compact.ensures.made))
+    (c.copy_out-in-Some.ensures.ok is_ok)
 
-pub returns-in-Some-clause-small : goal.returns-in-Some-clause-small
-returns-in-Some-clause-small c is_small =
-    subst (λ key. IsTooSmall key c.args.out.now c.write_compact_key.new.needed)
-    (compact_by c.collator.inside.collator c.collator.inside.compacter c.in-Some.compacter c.args.text.now c.in-Some.is c.collator.invariant
-    ∙ ap (λ (s : OpenState). key_by (keying_at s) s.book c.args.text.now) c.collator.view_is)
-    (c.write_compact_key.ensures.small (text_of (keying_in c.collator.inside.collator) c.args.text.now)
-    (is_key c.collator.inside.collator c.collator.inside.compacter c.in-Some.compacter c.args.text.now c.key-key.result.now c.in-Some.is c.collator.invariant
-    c.in_default.ensures.accepted.utf8 (c.key-key.ensures ∙ c.in_default.ensures.key)) is_small)
-
-pub returns-in-Some-clause-rejected : goal.returns-in-Some-clause-rejected
-returns-in-Some-clause-rejected c =
-    subst (λ (s : OpenState). IsKeyStatus (keying_at s) c.args.text.now c.write_compact_key.result) c.collator.view_is
-    (key_status_by (keying_in c.collator.inside.collator) c.args.text.now c.write_compact_key.result c.in_default.ensures.accepted c.write_compact_key.ensures.statuses)
+pub returns-in_default-make_compact-clause-small : goal.returns-in_default-make_compact-clause-small
+returns-in_default-make_compact-clause-small c is_small =
+    subst (λ key. IsTooSmall key c.args.out.now c.copy_out-in-Some.new.needed)
+    (seen_key c.collator.inside.collator c.collator.inside.compacter (Some c.in-Some.compacter) c.args.collator.now c.args.text.now c.deref.result.now c.in-Some.is c.collator.view_is
+    (c.deref.ensures.value ∙ c.in_default-make_compact.ensures.made))
+    (c.copy_out-in-Some.ensures.small is_small)

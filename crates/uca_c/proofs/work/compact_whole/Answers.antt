@@ -2,7 +2,7 @@
 use Rattle.std.proofs.Common.{arith}
 use Rattle.uca_compact.proofs.ExpandedKeys.{bytes_are}
 use Rattle.uca_c.proofs.CompactTexts.{found_text}
-use Rattle.uca_c.proofs.work.compact_into.Goals as goal
+use Rattle.uca_c.proofs.work.compact_whole.Goals as goal
 
 pub prove-unreachable-requires : goal.prove-unreachable-requires
 prove-unreachable-requires c =
