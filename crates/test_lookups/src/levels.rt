@@ -24,7 +24,7 @@ fn compacter(alloc: Global, weighting: Weighting) -> Result<KeyCompacter, Fail> 
     Ok(KeyCompacter::new(alloc, book, settings))
 }
 
-/// The levels 1C47, 0020 0024 and 0008 0002: a capital with an accent. Then no weights at all. Level 4 is not read.
+/// The levels 1C47, 0020 0024 and 0008 0002: a capital with an accent. Then no weights at all.
 #[test]
 fn three_levels(rt: HostRuntime) -> Result<(), Fail> {
     let mut compacter = compacter(rt.alloc(), Weighting::NonIgnorable)?;
@@ -33,7 +33,7 @@ fn three_levels(rt: HostRuntime) -> Result<(), Fail> {
         letters: &[0x1C, 0x47],
         accents: &[0, 0x20, 0, 0x24],
         cases: &[0, 8, 0, 2],
-        variables: &[0],
+        variables: &[],
     };
     compacter.write_levels(&capital, &mut compact)?;
     same_bytes(&compact, &[8, 4, 99, 103, 2, 101, 2], "a capital")?;
