@@ -8,9 +8,9 @@ With no arguments the table and the data file are Unicode's, and the lines are 1
 
 For each file it prints how many calls for keys and for comparisons there are in a second (bindings.c), and how many keys in 1, 2, 4 .. threads
 at once. Compact keys are by examples/books/general.book. The lines are sorted first. Then it prints the seconds of sorting without an index,
-and of making an index. In SQLite they are those of `uca_key` and `icu_key`, and of the collations `uca_..` and `icu` (sqlite_icu.c). In PostgreSQL they are those of `uca_key` and COLLATE
-"und-x-icu". All times but those of threads are processor time, and each is the least of ROUNDS. The weighting is non-ignorable, but that of
-PostgreSQL's `uca_key` is shifted.
+and of making an index. In SQLite they are those of `uca_key` and `icu_key`, and of the collations `uca_..` and `icu` (sqlite_icu.c). In
+PostgreSQL they are those of `uca_key` and COLLATE "und-x-icu". All times but those of threads are processor time, and each is the least of
+ROUNDS. The weighting is non-ignorable, but that of PostgreSQL's `uca_key` is shifted.
 
 It installs nothing. It needs Debian's packages gcc, libicu-dev and pkgconf, and for each database those of tests/by_hand/bindings.py. A database that is
 not here is left out, and a line says so. Compare only figures of one run.
