@@ -173,10 +173,23 @@ eight_are h l w is (suc (suc (suc (suc (suc (suc zero)))))) below = is
 eight_are h l w is (suc (suc (suc (suc (suc (suc (suc zero))))))) below = is
 eight_are h l w is (suc (suc (suc (suc (suc (suc (suc (suc k)))))))) below = absurd (omega arith)
 
+-- such bytes are one by one
+bytes_are : (xs : List ℕ) → AllByRecursion (λ (b : ℕ). b < 256) xs → (k : ℕ) → get_or xs k 0 < 256
+bytes_are [] all k = omega arith
+bytes_are (b ∷ xs) all zero = all.0
+bytes_are (b ∷ xs) all (suc k) = bytes_are xs all.1 k
+
+-- they are bytes
+pub eight_bytes : (h l : ℕ) → h < 256 → l < 256 → (k : ℕ)
+    → get_or (h ∷ l ∷ h ∷ l ∷ h ∷ l ∷ h ∷ l ∷ h ∷ l ∷ h ∷ l ∷ h ∷ l ∷ h ∷ l ∷ []) k 0 < 256
+eight_bytes h l high low =
+    bytes_are (h ∷ l ∷ h ∷ l ∷ h ∷ l ∷ h ∷ l ∷ h ∷ l ∷ h ∷ l ∷ h ∷ l ∷ h ∷ l ∷ [])
+    (high, (low, (high, (low, (high, (low, (high, (low, (high, (low, (high, (low, (high, (low, (high, (low, tt))))))))))))))))
+
 -- the weights that have the same bytes are this one
-run_are : (bytes eight : List ℕ) (at same w k : ℕ) → IsSameRun bytes eight at 0 16 same → AreEight eight w → k < same / 2
+run_are : (bytes eight : List ℕ) (at n same w k : ℕ) → n ≤ 16 → IsSameRun bytes eight at 0 n same → AreEight eight w → k < same / 2
     → weight_of bytes (at + 2 * k) ≡ w
-run_are bytes eight at same w k run are below =
+run_are bytes eight at n same w k few run are below =
     let here : 0 + 2 * k ≡ 2 * k = omega arith in
     let beside : 0 + (2 * k + 1) ≡ 2 * k + 1 = omega arith in
     let first = run.are (2 * k) (omega (arith, below)) ∙ ap (λ (n : ℕ). get_or eight n 0) here in
@@ -184,35 +197,26 @@ run_are bytes eight at same w k run are below =
     let within = run.within in
     let next : at + (2 * k + 1) ≡ at + 2 * k + 1 = omega arith in
     ap₂ (λ (a b : ℕ). 256 * a + b) first (subst (λ (n : ℕ). get_or bytes n 0 ≡ get_or eight (2 * k + 1) 0) next second)
-    ∙ are k (omega (arith, below, within))
+    ∙ are k (omega (arith, below, within, few))
 
 -- so many more are
-pub more_are : (bytes eight : List ℕ) (at run same w k : ℕ) → ((j : ℕ) → j < run → weight_of bytes (at + 2 * j) ≡ w)
-    → IsSameRun bytes eight (at + 2 * run) 0 16 same → AreEight eight w → k < run + same / 2 → weight_of bytes (at + 2 * k) ≡ w
-more_are bytes eight at run same w k so_far found are below = by_place (nat_lt k run) refl
+pub more_are : (bytes eight : List ℕ) (at run n same w k : ℕ) → ((j : ℕ) → j < run → weight_of bytes (at + 2 * j) ≡ w) → n ≤ 16
+    → IsSameRun bytes eight (at + 2 * run) 0 n same → AreEight eight w → k < run + same / 2 → weight_of bytes (at + 2 * k) ≡ w
+more_are bytes eight at run n same w k so_far few found are below = by_place (nat_lt k run) refl
   where
     by_place : (t : Bool) → nat_lt k run ≡ t → weight_of bytes (at + 2 * k) ≡ w
     by_place true is = so_far k (grind (arith, nat_tests))
     by_place false is =
         let from : run ≤ k = grind (arith, nat_tests) in
         let there : at + 2 * run + 2 * (k - run) ≡ at + 2 * k = omega (arith, from) in
-        subst (λ (n : ℕ). weight_of bytes n ≡ w) there (run_are bytes eight (at + 2 * run) same w (k - run) found are (omega (arith, from, below)))
-
--- one more is
-pub next_is : (bytes : List ℕ) (at run w k : ℕ) → ((j : ℕ) → j < run → weight_of bytes (at + 2 * j) ≡ w) → weight_of bytes (at + 2 * run) ≡ w
-    → k < run + 1 → weight_of bytes (at + 2 * k) ≡ w
-next_is bytes at run w k so_far is below = by_place (nat_eq k run) refl
-  where
-    by_place : (t : Bool) → nat_eq k run ≡ t → weight_of bytes (at + 2 * k) ≡ w
-    by_place true e = (let same : run ≡ k = grind (arith, nat_tests) in subst (λ (n : ℕ). weight_of bytes (at + 2 * n) ≡ w) same is)
-    by_place false e = (let apart : k ≢ run = grind (arith, nat_tests) in so_far k (omega (arith, apart, below)))
+        subst (λ (n : ℕ). weight_of bytes n ≡ w) there (run_are bytes eight (at + 2 * run) n same w (k - run) few found are (omega (arith, from, below)))
 
 -- the next one is not
-pub run_ended : (bytes eight : List ℕ) (at same w : ℕ) → ((k : ℕ) → get_or bytes k 0 < 256) → ((k : ℕ) → get_or eight k 0 < 256)
-    → IsSameRun bytes eight at 0 16 same → AreEight eight w → same < 16 → weight_of bytes (at + 2 * (same / 2)) ≢ w
-run_ended bytes eight at same w small small_eight run are less is =
+pub run_ended : (bytes eight : List ℕ) (at n same w : ℕ) → ((k : ℕ) → get_or bytes k 0 < 256) → ((k : ℕ) → get_or eight k 0 < 256)
+    → n ≤ 16 → IsSameRun bytes eight at 0 n same → AreEight eight w → same < n → weight_of bytes (at + 2 * (same / 2)) ≢ w
+run_ended bytes eight at n same w small small_eight few run are less is =
     let k = same / 2 in
-    let there = are k (omega (arith, less)) in
+    let there = are k (omega (arith, less, few)) in
     let here : at + 2 * k + 1 ≡ at + (2 * k + 1) = omega arith in
     let a = small (at + 2 * k) in
     let b = small (at + 2 * k + 1) in

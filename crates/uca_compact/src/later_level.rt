@@ -1,6 +1,6 @@
 //! Compares a level after others to the plain one, and codes it. Mostly it is plain, and then nothing is written.
 
-ghost use Rattle.std.specs.Prelude.{◌≡◌, ◌≢◌, ℕ, ◌+◌, ◌*◌, ◌<◌, ◌≤◌, ◌++◌, length, take};
+ghost use Rattle.std.specs.Prelude.{◌≡◌, ◌≢◌, ℕ, ◌+◌, ◌*◌, ◌<◌, ◌≤◌, ◌++◌, get_or, length, take};
 ghost use Rattle.uca_order.specs.Levels.{lexicographic};
 ghost use Rattle.uca_compact.specs.CompactKeys.{level_code};
 ghost use Rattle.uca_compact.specs.Forms.{IsForm};
@@ -27,7 +27,8 @@ pub(crate) struct Compared {
 // A weight, eight times.
 fn eight_of(weight: u32) -> [u8; 16]
     requires { weight < 65536 }
-    ensures { AreEight result weight }
+    ensures are { AreEight result weight }
+    ensures bytes { (k : ℕ) → get_or result k 0 < 256 }
 {
     let high = (weight / 256) as u8;
     let low = (weight % 256) as u8;
@@ -36,29 +37,24 @@ fn eight_of(weight: u32) -> [u8; 16]
     ]
 }
 
-// How many weights from this position on are this one, and at most `most`. `eight` is this weight eight times.
+// How many weights from this position on are this one, and at most `most`.
 #[inline(always)]
-fn run_of(level: &[u8], at: usize, eight: &[u8; 16], weight: u32, most: usize) -> usize
-    requires eight { AreEight eight.now weight }
+fn run_of(level: &[u8], at: usize, weight: u32, most: usize) -> usize
+    requires weight { weight < 65536 }
     requires within { at ≤ length level.now }
     ensures few { result ≤ most }
     ensures within { at + 2 * result ≤ length level.now }
     ensures are { (k : ℕ) → k < result → weight_of level.now (at + 2 * k) ≡ weight }
     ensures apart { result < most → at + 2 * result + 1 < length level.now → weight_of level.now (at + 2 * result) ≢ weight }
 {
+    let eight = eight_of(weight);
     let mut run = 0;
-    while run < most && level.len() - (at + 2 * run) >= 16 {
-        let same = same_of_sixteen(level, at + 2 * run, eight);
+    while run < most && at + 2 * run < level.len() {
+        let same = same_of_sixteen(level, at + 2 * run, &eight);
         run += same / 2;
         if same < 16 {
             return run.min(most);
         }
-    }
-    while run < most && at + 2 * run + 1 < level.len() {
-        if weight_at(level, at + 2 * run) != weight {
-            return run;
-        }
-        run += 1;
     }
     run.min(most)
 }
@@ -72,7 +68,7 @@ pub(crate) fn compare_level(level: &[u8], weight: u16, count: usize) -> Compared
     ensures run { (k : ℕ) → k < result.run → weight_of level.now (2 * k) ≡ weight }
 {
     let common = u32::from(weight);
-    let run = run_of(level, 0, &eight_of(common), common, level.len());
+    let run = run_of(level, 0, common, level.len());
     let len = level.len() / 2;
     let order = if run < len && run < count {
         weight_at(level, 2 * run).cmp(&common)
@@ -106,14 +102,13 @@ pub(crate) fn put_level(
 {
     let common = u32::from(form.common);
     let longest = usize::from(form.longest);
-    let eight = eight_of(common);
     let mut put = at;
     let mut run = run.min(longest - 1);
     let mut from = 2 * run;
     while from < level.len() {
         let weight = weight_at(level, from);
         if weight == common {
-            let more = run_of(level, from, &eight, common, longest - 1 - run);
+            let more = run_of(level, from, common, longest - 1 - run);
             if more > 0 {
                 run += more;
                 from += 2 * more;

@@ -4,7 +4,7 @@
 //! compared, fewer than eight bytes are taken one by one.
 #![tactic(auto)]
 
-ghost use Rattle.std.specs.Prelude.{◌≡◌, ◌≢◌, ℕ, ◌+◌, ◌<◌, ◌≤◌, length, get_or, take};
+ghost use Rattle.std.specs.Prelude.{◌≡◌, ◌≢◌, ℕ, ◌+◌, ◌-◌, ◌<◌, ◌≤◌, length, get_or, min, take};
 ghost use Rattle.uca_lanes.specs.Lanes.{IsSameRun};
 ghost use Rattle.uca_lanes.specs.inside.Marks.{first_set};
 
@@ -12,6 +12,7 @@ mod utf8;
 
 use std::simd::prelude::*;
 pub use utf8::is_utf8;
+use utf8::with_zeros;
 
 // The place of the lowest bit that is set, or the number of lanes if none is.
 #[inline(always)]
@@ -26,14 +27,25 @@ fn first_set(mask: u64, lanes: usize) -> usize
 }
 
 /// How many of sixteen bytes are the same in both, before the first that is not: those of the left ones from a position
-/// on, and the right ones. So many have to be left there.
+/// on, and the right ones. If fewer than sixteen are left there, it is how many of these.
 #[inline(always)]
 pub fn same_of_sixteen(left: &[u8], at: usize, right: &[u8; 16]) -> usize
-    requires { at + 16 ≤ length left.now }
-    ensures { IsSameRun left.now right.now at 0 16 result }
+    requires { at ≤ length left.now }
+    ensures { IsSameRun left.now right.now at 0 (min 16 (length left.now - at)) result }
 {
-    let one = u8x16::from_slice(&left[at..]);
-    first_set(one.simd_ne(u8x16::from_array(*right)).to_bitmask(), 16)
+    let rest = left.len() - at;
+    if rest >= 16 {
+        return same_in_lanes(u8x16::from_slice(&left[at..]), right);
+    }
+    same_in_lanes(with_zeros(&left[at..]), right).min(rest)
+}
+
+// How many of sixteen bytes are the same in both, before the first that is not.
+#[inline(always)]
+fn same_in_lanes(left: u8x16, right: &[u8; 16]) -> usize
+    ensures { IsSameRun left right.now 0 0 16 result }
+{
+    first_set(left.simd_ne(u8x16::from_array(*right)).to_bitmask(), 16)
 }
 
 // How many of the eight bytes from this position on are the same in both, before the first that is not.

@@ -57,9 +57,9 @@ fn number_of_few(bytes: &[u8]) -> u64
     }
 }
 
-// Up to sixteen bytes, and zeros after them.
+/// Up to sixteen bytes, and zeros after them.
 #[inline(always)]
-fn with_zeros(bytes: &[u8]) -> u8x16
+pub(crate) fn with_zeros(bytes: &[u8]) -> u8x16
     requires { length bytes.now ≤ 16 }
     ensures { result ≡ bytes.now ++ replicate (16 - length bytes.now) 0 }
 {

@@ -8,9 +8,3 @@ invariant-loop-run l = (l.at + 2 * l.run ≤ length l.level) × ((k : ℕ) → k
 
 abbrev pub decreases-loop-run : goal.decreases-loop-run
 decreases-loop-run l = length l.level - (l.at + 2 * l.run)
-
-abbrev pub invariant-loop-run-2 : goal.invariant-loop-run-2
-invariant-loop-run-2 l = (l.at + 2 * l.run ≤ length l.level) × ((k : ℕ) → k < l.run → weight_of l.level (l.at + 2 * k) ≡ l.weight)
-
-abbrev pub decreases-loop-run-2 : goal.decreases-loop-run-2
-decreases-loop-run-2 l = length l.level - (l.at + 2 * l.run)
