@@ -4,7 +4,6 @@ ghost use Rattle.std.specs.Prelude.{◌≡◌, ◌-◌, ◌++◌, IfOk, OnOk, if
 ghost use Rattle.std.specs.Bool.{MatchBool};
 ghost use Rattle.std.specs.Char.{IsScalar};
 ghost use Rattle.std.specs.List.{AllByRecursion};
-ghost use Rattle.uca_weights.specs.declared.Weighting.TheVariants.{NonIgnorable, Shifted};
 ghost use Rattle.uca_order.specs.Levels.{level_count};
 ghost use Rattle.uca_order.specs.Depths.{ReadText, key_at};
 ghost use Rattle.uca_compact.specs.CompactKeys.{compact as compact_levels, compact_key, text_parts};
@@ -19,7 +18,7 @@ use crate::expander::expand;
 use crate::key_buffers::KeyBuffers;
 use crate::level_bytes::LevelBytes;
 use crate::stored::{push_points_after, split_key};
-use crate::written_levels::{put_four, put_three};
+use crate::written_levels::put_levels;
 use std::alloc::{AllocError, Allocator, Global};
 use std::marker::Model;
 use uca_books::Book;
@@ -176,53 +175,13 @@ fn push_levels<A: Allocator, B: Allocator>(
     ensures levels { OnOk result (out.new.items ≡ out.old.items ++ compact_levels plain_level (forms_of weighting book.now)
         (map weights_in (level_bytes_in weighting levels.now))) }
 {
-    match weighting {
-        Weighting::NonIgnorable => push_three(book, buffers, levels, out),
-        Weighting::Shifted => push_four(book, buffers, levels, out),
-    }
-}
-
-// Writes the compact key of three levels after the bytes.
-fn push_three<A: Allocator, B: Allocator>(
-    book: &Book<A>,
-    buffers: &mut KeyBuffers<A>,
-    levels: &LevelBytes,
-    out: &mut Vec<u8, B>,
-) -> Result<(), AllocError>
-    requires levels { AllByRecursion AreWeightBytes (level_bytes_in NonIgnorable levels.now) }
-    requires entries { AreTrueEntries (letters_form book.now 2) buffers.old.entries.items }
-    ensures entries { AreTrueEntries (letters_form book.now 2) buffers.new.entries.items }
-    ensures levels { OnOk result (out.new.items ≡ out.old.items ++ compact_levels plain_level (forms_of NonIgnorable book.now)
-        (map weights_in (level_bytes_in NonIgnorable levels.now))) }
-{
-    let later = levels.accents.len().saturating_add(levels.cases.len());
-    let len = levels.letters.len().saturating_add(later);
-    buffers.open(len.saturating_mul(2).saturating_add(3))?;
-    let codes = buffers.codes.as_mut_slice();
-    let entries = buffers.entries.as_mut_slice();
-    let size = put_three(codes, book, entries, &mut buffers.hints, levels);
-    out.extend_from_slice(&buffers.codes.as_slice()[..size])
-}
-
-// Writes the compact key of four levels after the bytes.
-fn push_four<A: Allocator, B: Allocator>(
-    book: &Book<A>,
-    buffers: &mut KeyBuffers<A>,
-    levels: &LevelBytes,
-    out: &mut Vec<u8, B>,
-) -> Result<(), AllocError>
-    requires levels { AllByRecursion AreWeightBytes (level_bytes_in Shifted levels.now) }
-    requires entries { AreTrueEntries (letters_form book.now 3) buffers.old.entries.items }
-    ensures entries { AreTrueEntries (letters_form book.now 3) buffers.new.entries.items }
-    ensures levels { OnOk result (out.new.items ≡ out.old.items ++ compact_levels plain_level (forms_of Shifted book.now)
-        (map weights_in (level_bytes_in Shifted levels.now))) }
-{
     let last = levels.cases.len().saturating_add(levels.variables.len());
     let later = levels.accents.len().saturating_add(last);
     let len = levels.letters.len().saturating_add(later);
     buffers.open(len.saturating_mul(2).saturating_add(4))?;
     let codes = buffers.codes.as_mut_slice();
     let entries = buffers.entries.as_mut_slice();
-    let size = put_four(codes, book, entries, &mut buffers.hints, levels);
+    let hints = buffers.hints.as_mut_slice();
+    let size = put_levels(weighting, codes, book, entries, hints, levels);
     out.extend_from_slice(&buffers.codes.as_slice()[..size])
 }

@@ -4,6 +4,7 @@ ghost use Rattle.std.specs.Prelude.{◌≡◌, ◌+◌, ◌-◌, ◌*◌, ◌<�
 ghost use Rattle.std.specs.List.{AllByRecursion};
 ghost use Rattle.std.specs.Ordering.{is_eq};
 ghost use Rattle.uca_weights.specs.declared.Weighting.TheVariants.{NonIgnorable, Shifted};
+ghost use Rattle.uca_order.specs.Levels.{level_count};
 ghost use Rattle.uca_compact.specs.CompactKeys as compact_keys;
 ghost use Rattle.uca_compact.specs.CompactKeys.{compact, level_code};
 ghost use Rattle.uca_compact.specs.Forms.{IsForm, forms_of, letters_form};
@@ -22,6 +23,7 @@ use crate::levels::LevelForm;
 use std::alloc::Allocator;
 use std::cmp::Ordering;
 use uca_books::Book;
+use uca_weights::Weighting;
 
 // The end of a level, by how the next level compares to the plain one. `more` is the end by the `later` levels after
 // that one.
@@ -68,8 +70,8 @@ fn put_later(
     }
 }
 
-/// Puts the compact key of three levels at the beginning. It returns how many bytes it has.
-pub(crate) fn put_three<A: Allocator>(
+// Puts the compact key of three levels at the beginning. It returns how many bytes it has.
+fn put_three<A: Allocator>(
     codes: &mut [u8],
     book: &Book<A>,
     entries: &mut [Entry],
@@ -97,8 +99,8 @@ pub(crate) fn put_three<A: Allocator>(
     put_later(codes, at, &cases_form(0), hints, levels.cases, third, 0)
 }
 
-/// Puts the compact key of four levels at the beginning. It returns how many bytes it has.
-pub(crate) fn put_four<A: Allocator>(
+// Puts the compact key of four levels at the beginning. It returns how many bytes it has.
+fn put_four<A: Allocator>(
     codes: &mut [u8],
     book: &Book<A>,
     entries: &mut [Entry],
@@ -138,4 +140,29 @@ pub(crate) fn put_four<A: Allocator>(
     let at = put_later(codes, at, &cases_form(1), hints, levels.cases, third, end);
     let form = variables_form(book);
     put_later(codes, at, &form, hints, levels.variables, fourth, 0)
+}
+
+/// Puts the compact key of these levels at the beginning. It returns how many bytes it has.
+pub(crate) fn put_levels<A: Allocator>(
+    weighting: Weighting,
+    codes: &mut [u8],
+    book: &Book<A>,
+    entries: &mut [Entry],
+    hints: &mut [u8],
+    levels: &LevelBytes,
+) -> usize
+    requires levels { AllByRecursion AreWeightBytes (level_bytes_in weighting levels.now) }
+    requires entries { length entries.old ≡ 2048 }
+    requires true_entries { AreTrueEntries (letters_form book.now (level_count weighting - 1)) entries.old }
+    requires hints { length hints.old ≡ 4096 }
+    requires room { 2 * (length levels.now.letters.now + length levels.now.accents.now + length levels.now.cases.now + length levels.now.variables.now) + 4
+        ≤ length codes.old }
+    ensures true_entries { AreTrueEntries (letters_form book.now (level_count weighting - 1)) entries.new }
+    ensures put { take result codes.new ≡ compact plain_level (forms_of weighting book.now) (map weights_in (level_bytes_in weighting levels.now)) }
+    ensures few { result ≤ length codes.new }
+{
+    match weighting {
+        Weighting::NonIgnorable => put_three(codes, book, entries, hints, levels),
+        Weighting::Shifted => put_four(codes, book, entries, hints, levels),
+    }
 }
