@@ -1,5 +1,6 @@
 -- Steps of putting the levels of a compact key.
-use Rattle.std.proofs.Common.{◌≡◌, ◌≢◌, ℕ, zero, suc, ◌+◌, ◌*◌, ◌-◌, ◌/◌, ◌<◌, ◌≤◌, List, [], ◌∷◌, ◌++◌, Bool, true, false, nat_eq, nat_lt, ◌&&◌, not, if◌then◌else◌, length, length-append, get_or, drop, take, refl, ap, ap₂, sym, subst, subst₂, ◌⊎◌, ⊎_elim, ◌∙◌, arith, append_assoc, append-nil}
+use Rattle.std.proofs.Common.{◌≡◌, ◌≢◌, ℕ, zero, suc, ◌+◌, ◌*◌, ◌-◌, ◌/◌, ◌<◌, ◌≤◌, List, [], ◌∷◌, ◌++◌, Bool, true, false, nat_eq, nat_lt, ◌&&◌, not, if◌then◌else◌, length, length-append, get_or, drop, min, take, refl, ap, ap₂, sym, subst, subst₂, ◌⊎◌, ⊎_elim, ◌∙◌, arith, append_assoc, append-nil}
+use Rattle.std.specs.Int.{w16, from_be_bytes}
 use Rattle.std.specs.List.{AllByRecursion}
 use Rattle.std.specs.Ordering.{nat_cmp}
 use Rattle.std.specs.declared.cmp.Ordering.{Ordering}
@@ -7,6 +8,7 @@ use Rattle.std.specs.declared.cmp.Ordering.TheVariants.{Greater}
 use Rattle.std.proofs.lemmas.Bool.Decides.{nat_tests}
 use Rattle.std.proofs.lemmas.List.{drop_all}
 use Rattle.uca_lanes.specs.Lanes.{IsSameRun}
+use Rattle.uca_lanes.specs.Pairs.{MarksPairs, IsPairRun}
 use Rattle.uca_order.specs.Levels.{lexicographic}
 use Rattle.uca_order.proofs.KeyOrder.{cmp_less, cmp_equal, cmp_greater}
 use Rattle.uca_compact.specs.Forms.{AreRising, Form, IsForm, step, full, first_cell}
@@ -39,6 +41,10 @@ more_before level front at w before within is =
           ∙ ap (λ (bytes : List ℕ). front ++ weights_in bytes) (sym (two_at level at within))
           ∙ before.upto;
     }
+
+-- the weight that two bytes are
+pub weight_read : (level : List ℕ) (at w : ℕ) → w ≡ from_be_bytes w16 (get_or level at 0 ∷ get_or level (at + 1) 0 ∷ []) → w ≡ weight_of level at
+weight_read level at w is = omega (arith, is)
 
 -- no position of a weight is that of the last byte
 pub two_left : (level front : List ℕ) (at : ℕ) → AreWeightBytes level → AreBefore level at front → at < length level → at + 1 < length level
@@ -239,6 +245,26 @@ run_ended bytes eight at n same w small small_eight few run are less is =
         let apart : 2 * (same / 2) ≢ same = grind (arith, nat_tests) in
         let odd : 2 * (same / 2) + 1 ≡ same = omega (arith, apart) in
         run.apart less (subst (λ (n : ℕ). get_or bytes (at + n) 0 ≡ get_or eight n 0) odd high ∙ ap (λ (n : ℕ). get_or eight n 0) zeroth)
+
+-- the run that the marks tell
+pub marked_run : (level : List ℕ) (weight marks at most least count first : ℕ) → MarksPairs level weight marks → 2 * (length level / 2) ≡ length level
+    → 2 * (at / 2) ≡ at → at ≤ length level → at < 64 → least ≡ min (length level) 64 → count ≡ min ((least - at) / 2) most
+    → ((bytes : List ℕ) (number : ℕ) → MarksPairs bytes number marks → at / 2 + count ≤ min 32 (length bytes / 2) → IsPairRun bytes number (2 * (at / 2)) count first)
+    → IsPairRun level weight at count first
+marked_run level weight marks at most least count first marked whole even within small all few found =
+    subst (λ (n : ℕ). IsPairRun level weight n count first) even (found level weight marked (omega (arith, whole, even, within, small, all, few)))
+
+-- a run, and those that follow it
+pub run_goes_on : (level : List ℕ) (weight at first next more k : ℕ) → ((j : ℕ) → j < first → weight_of level (at + 2 * j) ≡ weight) → at + 2 * first ≡ next
+    → ((j : ℕ) → j < more → weight_of level (next + 2 * j) ≡ weight) → k < first + more → weight_of level (at + 2 * k) ≡ weight
+run_goes_on level weight at first next more k are there more_so below = by_place (nat_lt k first) refl
+  where
+    by_place : (t : Bool) → nat_lt k first ≡ t → weight_of level (at + 2 * k) ≡ weight
+    by_place true is = are k (grind (arith, nat_tests))
+    by_place false is =
+        let from : first ≤ k = grind (arith, nat_tests) in
+        let place : next + 2 * (k - first) ≡ at + 2 * k = omega (arith, from, there) in
+        subst (λ (n : ℕ). weight_of level n ≡ weight) place (more_so (k - first) (omega (arith, from, below)))
 
 -- ---- How a level compares
 

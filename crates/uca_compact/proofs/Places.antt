@@ -1,7 +1,10 @@
 -- The place of a weight among cells.
-use Rattle.std.proofs.Common.{◌≡◌, ℕ, zero, suc, ◌+◌, ◌-◌, ◌<◌, ◌≤◌, List, [], ◌∷◌, ◌++◌, Bool, true, false, cond, nat_lt, length, length-drop, get_or, drop, take, set, refl, ap, sym, ◌∙◌, arith}
-use Rattle.std.proofs.lemmas.List.{drop_at, drop-take, get_or-drop}
+use Rattle.std.proofs.Common.{◌≡◌, ℕ, zero, suc, ◌+◌, ◌-◌, ◌<◌, ◌≤◌, List, [], ◌∷◌, ◌++◌, Bool, true, false, cond, nat_lt, length, length-drop, get_or, drop, take, set, refl, ap, ap₂, sym, ◌∙◌, arith}
+use Rattle.std.proofs.lemmas.List.{take_at, take-take, drop_at, drop-take, get_or-drop, length-take-le}
+use Rattle.std.proofs.lemmas.Slice.{take-put_mid}
 use Rattle.std.proofs.lemmas.Bool.Decides.{nat_tests}
+use borrow.Rule.Slice.PartMut.{put_mid}
+use lib.Seq.{take-add}
 use Rattle.uca_compact.specs.declared.key_buffers.Entry.{Entry}
 use Rattle.uca_compact.specs.Forms.{AreRising, Form}
 use Rattle.uca_compact.specs.CompactKeys.{offset_bytes, cell}
@@ -76,27 +79,27 @@ entry_kept f [] i entry all here = all
 entry_kept f (e ∷ entries) zero entry all here = (here, all.1)
 entry_kept f (e ∷ entries) (suc i) entry all here = (all.0, entry_kept f entries i entry all.1 here)
 
--- the next three of a list
-three_next : (xs : List ℕ) (n : ℕ) → n ≤ 3 → 3 ≤ length xs → take n (get_or xs 0 0 ∷ get_or xs 1 0 ∷ get_or xs 2 0 ∷ []) ≡ take n xs
-three_next xs zero few long = refl
-three_next [] (suc n) few long = absurd (omega (arith, long))
-three_next (a ∷ xs) (suc n) few long = ap (λ (l : List ℕ). a ∷ l) (two_next xs n (omega (arith, few)) (omega (arith, long)))
+-- the next three of a list, before others
+three_next : (xs others : List ℕ) (n : ℕ) → n ≤ 3 → 3 ≤ length xs → take n (get_or xs 0 0 ∷ get_or xs 1 0 ∷ get_or xs 2 0 ∷ others) ≡ take n xs
+three_next xs others zero few long = refl
+three_next [] others (suc n) few long = absurd (omega (arith, long))
+three_next (a ∷ xs) others (suc n) few long = ap (λ (l : List ℕ). a ∷ l) (two_next xs n (omega (arith, few)) (omega (arith, long)))
   where
-    one_next : (ys : List ℕ) (m : ℕ) → m ≤ 1 → 1 ≤ length ys → take m (get_or ys 0 0 ∷ []) ≡ take m ys
+    one_next : (ys : List ℕ) (m : ℕ) → m ≤ 1 → 1 ≤ length ys → take m (get_or ys 0 0 ∷ others) ≡ take m ys
     one_next ys zero le ge = refl
     one_next [] (suc m) le ge = absurd (omega (arith, ge))
     one_next (b ∷ ys) (suc zero) le ge = refl
     one_next (b ∷ ys) (suc (suc m)) le ge = absurd (omega (arith, le))
 
-    two_next : (ys : List ℕ) (m : ℕ) → m ≤ 2 → 2 ≤ length ys → take m (get_or ys 0 0 ∷ get_or ys 1 0 ∷ []) ≡ take m ys
+    two_next : (ys : List ℕ) (m : ℕ) → m ≤ 2 → 2 ≤ length ys → take m (get_or ys 0 0 ∷ get_or ys 1 0 ∷ others) ≡ take m ys
     two_next ys zero le ge = refl
     two_next [] (suc m) le ge = absurd (omega (arith, ge))
     two_next (b ∷ ys) (suc m) le ge = ap (λ (l : List ℕ). b ∷ l) (one_next ys m (omega (arith, le)) (omega (arith, ge)))
 
 -- what was put after others is what stands from there on
-pub put_there : (codes front put : List ℕ) (at next : ℕ) → at ≤ next → next ≤ at + 3 → at + 3 ≤ length codes → length front ≡ at → take next codes ≡ front ++ put
-    → put ≡ take (next - at) (get_or codes at 0 ∷ get_or codes (at + 1) 0 ∷ get_or codes (at + 2) 0 ∷ [])
-put_there codes front put at next from few room long whole =
+pub put_there : (codes front put others : List ℕ) (at next : ℕ) → at ≤ next → next ≤ at + 3 → at + 3 ≤ length codes → length front ≡ at → take next codes ≡ front ++ put
+    → put ≡ take (next - at) (get_or codes at 0 ∷ get_or codes (at + 1) 0 ∷ get_or codes (at + 2) 0 ∷ others)
+put_there codes front put others at next from few room long whole =
     let rest = drop at codes in
     let sum : at + (next - at) ≡ next = omega (arith, from) in
     let zeroth : get_or rest 0 0 ≡ get_or codes at 0 = get_or-drop at codes 0 0 ∙ (let e : at + 0 ≡ at = omega arith in ap (λ (n : ℕ). get_or codes n 0) e) in
@@ -106,7 +109,18 @@ put_there codes front put at next from few room long whole =
     ∙ ap (drop at) (sym whole)
     ∙ ap (λ (n : ℕ). drop at (take n codes)) (sym sum)
     ∙ drop-take at (next - at) codes
-    ∙ sym (three_next rest (next - at) (omega (arith, few)) (omega (arith, length-drop at codes, room)))
-    ∙ ap (λ (x : ℕ). take (next - at) (x ∷ get_or rest 1 0 ∷ get_or rest 2 0 ∷ [])) zeroth
-    ∙ ap (λ (x : ℕ). take (next - at) (get_or codes at 0 ∷ x ∷ get_or rest 2 0 ∷ [])) first
-    ∙ ap (λ (x : ℕ). take (next - at) (get_or codes at 0 ∷ get_or codes (at + 1) 0 ∷ x ∷ [])) second
+    ∙ sym (three_next rest others (next - at) (omega (arith, few)) (omega (arith, length-drop at codes, room)))
+    ∙ ap (λ (x : ℕ). take (next - at) (x ∷ get_or rest 1 0 ∷ get_or rest 2 0 ∷ others)) zeroth
+    ∙ ap (λ (x : ℕ). take (next - at) (get_or codes at 0 ∷ x ∷ get_or rest 2 0 ∷ others)) first
+    ∙ ap (λ (x : ℕ). take (next - at) (get_or codes at 0 ∷ get_or codes (at + 1) 0 ∷ x ∷ others)) second
+
+-- the first of some members that were written at once
+pub first_put : (codes code put : List ℕ) (at k n few : ℕ) → at ≤ length codes → put ≡ code → n ≡ few → n ≤ length put
+    → take (at + n) (put_mid at k codes put) ≡ take at codes ++ take few code
+first_put codes code put at k n few within is same some =
+    let front = length-take-le at codes within in
+    sym (take-take (at + n) (at + length put) (put_mid at k codes put) (omega (arith, some)))
+    ∙ ap (take (at + n)) (take-put_mid at k codes put (at + length put) refl within)
+    ∙ take-add at n (take at codes ++ put)
+    ∙ (λ i. take_at (take at codes) put at front i ++ take n (drop_at (take at codes) put at front i))
+    ∙ ap₂ (λ (m : ℕ) (xs : List ℕ). take at codes ++ take m xs) same is

@@ -15,19 +15,19 @@ pub(crate) const HINTS: usize = 4096;
 /// What a weight of level 1 is written as.
 #[derive(Clone, Copy)]
 pub(crate) struct Entry {
+    /// The bytes that it is written as, three at most, and others after them. All four are copied at once.
+    pub(crate) code: [u8; 4],
     /// The weight, or 0 where the entry says nothing.
     pub(crate) weight: u16,
     /// How many bytes it is written as.
     pub(crate) len: u8,
-    /// These bytes, and others after them.
-    pub(crate) code: [u8; 3],
 }
 
 /// An entry that says nothing.
 const NO_ENTRY: Entry = Entry {
+    code: [0; 4],
     weight: 0,
     len: 0,
-    code: [0; 3],
 };
 
 /// Memory that is used again for each compact key.

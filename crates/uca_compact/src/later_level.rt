@@ -1,6 +1,7 @@
 //! Compares a level after others to the plain one, and codes it. Mostly it is plain, and then nothing is written.
 
-ghost use Rattle.std.specs.Prelude.{◌≡◌, ◌≢◌, ℕ, ◌+◌, ◌*◌, ◌<◌, ◌≤◌, ◌++◌, get_or, length, take};
+ghost use Rattle.std.specs.Prelude.{◌≡◌, ◌≢◌, ℕ, ◌+◌, ◌-◌, ◌*◌, ◌/◌, ◌<◌, ◌≤◌, ◌++◌, get_or, length, min, take};
+ghost use Rattle.uca_lanes.specs.Pairs.{MarksPairs, IsPairRun};
 ghost use Rattle.uca_order.specs.Levels.{lexicographic};
 ghost use Rattle.uca_compact.specs.CompactKeys.{level_code};
 ghost use Rattle.uca_compact.specs.Forms.{IsForm};
@@ -13,7 +14,7 @@ ghost use Rattle.uca_compact.specs.inside.LevelsPut.{AreEight};
 use crate::levels::{LevelForm, put_weight};
 use crate::stored::weight_at;
 use std::cmp::Ordering;
-use uca_lanes::same_of_sixteen;
+use uca_lanes::{marks_of_pairs, same_of_sixteen, same_pairs};
 
 /// How a level compares to so many times one weight.
 #[derive(Clone, Copy)]
@@ -22,7 +23,12 @@ pub(crate) struct Compared {
     pub(crate) order: Ordering,
     /// How many times that weight is at the beginning of the level.
     pub(crate) run: usize,
+    /// Which of the first 32 weights are others, a bit for each.
+    pub(crate) marks: u64,
 }
+
+/// So many bytes have the first 32 weights.
+const MARKED: usize = 64;
 
 // A weight, eight times.
 fn eight_of(weight: u32) -> [u8; 16]
@@ -37,9 +43,9 @@ fn eight_of(weight: u32) -> [u8; 16]
     ]
 }
 
-// How many weights from this position on are this one, and at most `most`.
-#[inline(always)]
-fn run_of(level: &[u8], at: usize, weight: u32, most: usize) -> usize
+// How many weights from this position on are this one, and at most `most`, with no marks.
+#[inline(never)]
+fn run_after(level: &[u8], at: usize, weight: u32, most: usize) -> usize
     requires weight { weight < 65536 }
     requires within { at ≤ length level.now }
     ensures few { result ≤ most }
@@ -59,6 +65,46 @@ fn run_of(level: &[u8], at: usize, weight: u32, most: usize) -> usize
     run.min(most)
 }
 
+// How many weights from this position on are the one that the level was marked for, and at most `most`. Only weights with
+// marks count.
+#[inline(always)]
+fn run_of_marked(level: &[u8], marks: u64, at: usize, most: usize) -> usize
+    requires level { 2 * (length level.now / 2) ≡ length level.now }
+    requires at { 2 * (at / 2) ≡ at }
+    requires within { at ≤ length level.now }
+    requires marked { at < 64 }
+    ensures few { result ≤ most }
+    ensures within { at + 2 * result ≤ min (length level.now) 64 }
+    ensures run { (weight : ℕ) → MarksPairs level.now weight marks →
+        IsPairRun level.now weight at (min ((min (length level.now) 64 - at) / 2) most) result }
+{
+    let left = (level.len().min(MARKED) - at) / 2;
+    same_pairs(marks, at / 2, left.min(most))
+}
+
+// How many weights from this position on are this one, and at most `most`. The marks are those of the level.
+#[inline(always)]
+fn run_of(level: &[u8], marks: u64, at: usize, weight: u32, most: usize) -> usize
+    requires marks { MarksPairs level.now weight marks }
+    requires weight { weight < 65536 }
+    requires level { 2 * (length level.now / 2) ≡ length level.now }
+    requires at { 2 * (at / 2) ≡ at }
+    requires within { at ≤ length level.now }
+    ensures few { result ≤ most }
+    ensures within { at + 2 * result ≤ length level.now }
+    ensures are { (k : ℕ) → k < result → weight_of level.now (at + 2 * k) ≡ weight }
+    ensures apart { result < most → at + 2 * result + 1 < length level.now → weight_of level.now (at + 2 * result) ≢ weight }
+{
+    if at >= MARKED {
+        return run_after(level, at, weight, most);
+    }
+    let first = run_of_marked(level, marks, at, most);
+    if at + 2 * first < MARKED {
+        return first;
+    }
+    first + run_after(level, MARKED, weight, most - first)
+}
+
 /// Compares a level to `count` times one weight.
 #[inline(always)]
 pub(crate) fn compare_level(level: &[u8], weight: u16, count: usize) -> Compared
@@ -66,20 +112,22 @@ pub(crate) fn compare_level(level: &[u8], weight: u16, count: usize) -> Compared
     ensures order { result.order ≡ lexicographic (weights_in level.now) (copies weight count) }
     ensures within { 2 * result.run ≤ length level.now }
     ensures run { (k : ℕ) → k < result.run → weight_of level.now (2 * k) ≡ weight }
+    ensures marks { MarksPairs level.now weight result.marks }
 {
     let common = u32::from(weight);
-    let run = run_of(level, 0, common, level.len());
+    let marks = marks_of_pairs(level, weight);
+    let run = run_of(level, marks, 0, common, level.len());
     let len = level.len() / 2;
     let order = if run < len && run < count {
         weight_at(level, 2 * run).cmp(&common)
     } else {
         len.cmp(&count)
     };
-    Compared { order, run }
+    Compared { order, run, marks }
 }
 
-/// Puts a level at this position: its weights, and its end. It returns the position after it. It begins with the common
-/// weight `run` times, which is known.
+/// Puts a level at this position: its weights, and its end. It returns the position after it. It was compared to the common
+/// weight.
 #[inline(never)]
 pub(crate) fn put_level(
     codes: &mut [u8],
@@ -87,14 +135,15 @@ pub(crate) fn put_level(
     form: &LevelForm,
     hints: &mut [u8],
     level: &[u8],
-    run: usize,
+    compared: Compared,
     end: u8,
 ) -> usize
     requires form { IsForm (form_of form.now) }
     requires common { 0 < form.now.common }
     requires level { AreWeightBytes level.now }
-    requires within { 2 * run ≤ length level.now }
-    requires run { (k : ℕ) → k < run → weight_of level.now (2 * k) ≡ form.now.common }
+    requires within { 2 * compared.run ≤ length level.now }
+    requires run { (k : ℕ) → k < compared.run → weight_of level.now (2 * k) ≡ form.now.common }
+    requires marks { MarksPairs level.now form.now.common compared.marks }
     requires end { end < form.now.ends }
     requires room { at + 2 * length level.now + 1 ≤ length codes.old }
     ensures put { take result codes.new ≡ take at codes.old ++ level_code (form_of form.now) end 0 (weights_in level.now) }
@@ -103,12 +152,12 @@ pub(crate) fn put_level(
     let common = u32::from(form.common);
     let longest = usize::from(form.longest);
     let mut put = at;
-    let mut run = run.min(longest - 1);
+    let mut run = compared.run.min(longest - 1);
     let mut from = 2 * run;
     while from < level.len() {
         let weight = weight_at(level, from);
         if weight == common {
-            let more = run_of(level, from, common, longest - 1 - run);
+            let more = run_of(level, compared.marks, from, common, longest - 1 - run);
             if more > 0 {
                 run += more;
                 from += 2 * more;

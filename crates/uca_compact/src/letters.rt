@@ -12,7 +12,6 @@ ghost use Rattle.uca_compact.specs.inside.Places.{IsPlace, AreTrueEntries};
 use crate::key_buffers::{ENTRIES, Entry, HINTS};
 use crate::levels::{LevelForm, cell_index, put_in_cell};
 use crate::plain::{leads, with_letter};
-use crate::stored::weight_at;
 
 /// Level 1 that was put.
 #[derive(Clone, Copy)]
@@ -35,17 +34,16 @@ fn first_cell(form: &LevelForm) -> u8
     (longest * (u32::from(form.ends) + 1) + longest) as u8
 }
 
-// Puts what an entry says at this position. It returns the position after it.
+// Puts what an entry says at this position. It returns the position after it. Four bytes are written at once: those
+// after the new position mean nothing.
 #[inline(always)]
 fn put_entry(codes: &mut [u8], at: usize, entry: Entry) -> usize
     requires len { entry.len ≤ 3 }
-    requires room { at + 3 ≤ length codes.old }
+    requires room { at + 4 ≤ length codes.old }
     ensures put { take result codes.new ≡ take at codes.old ++ take entry.len entry.code }
     ensures few { result ≤ at + 3 }
 {
-    codes[at] = entry.code[0];
-    codes[at + 1] = entry.code[1];
-    codes[at + 2] = entry.code[2];
+    codes[at..at + 4].copy_from_slice(&entry.code);
     at + usize::from(entry.len)
 }
 
@@ -61,9 +59,9 @@ fn keep(entries: &mut [Entry], weight: u16, codes: &[u8], at: usize, next: usize
 {
     if weight < 0xFB00 {
         entries[usize::from(weight) % ENTRIES] = Entry {
+            code: [codes[at], codes[at + 1], codes[at + 2], 0],
             weight,
             len: (next - at) as u8,
-            code: [codes[at], codes[at + 1], codes[at + 2]],
         };
     }
 }
@@ -109,7 +107,7 @@ pub(crate) fn put_letters(
     requires form { IsForm (form_of form.now) }
     requires no_common { form.now.common ≡ 0 }
     requires level { AreWeightBytes level.now }
-    requires room { 3 * (length level.now / 2) ≤ length codes.old }
+    requires room { 3 * (length level.now / 2) + 1 ≤ length codes.old }
     requires entries { length entries.old ≡ 2048 }
     requires true_entries { AreTrueEntries (form_of form.now) entries.old }
     requires hints { length hints.old ≡ 4096 }
@@ -125,7 +123,7 @@ pub(crate) fn put_letters(
     let mut after_lead = false;
     let mut at = 0;
     while at < level.len() {
-        let weight = weight_at(level, at) as u16;
+        let weight = u16::from_be_bytes([level[at], level[at + 1]]);
         let entry = entries[usize::from(weight) % ENTRIES];
         if entry.weight == weight && !after_lead {
             size = put_entry(codes, size, entry);

@@ -4,6 +4,7 @@ ghost use Rattle.std.specs.Prelude.{◌≡◌, ◌+◌, ◌-◌, ◌*◌, ◌<�
 ghost use Rattle.std.specs.List.{AllByRecursion};
 ghost use Rattle.std.specs.Ordering.{is_eq};
 ghost use Rattle.uca_weights.specs.declared.Weighting.TheVariants.{NonIgnorable, Shifted};
+ghost use Rattle.uca_lanes.specs.Pairs.{MarksPairs};
 ghost use Rattle.uca_order.specs.Levels.{level_count};
 ghost use Rattle.uca_compact.specs.CompactKeys as compact_keys;
 ghost use Rattle.uca_compact.specs.CompactKeys.{compact, level_code};
@@ -56,6 +57,7 @@ fn put_later(
     requires level { AreWeightBytes level.now }
     requires within { 2 * compared.run ≤ length level.now }
     requires run { (k : ℕ) → k < compared.run → weight_of level.now (2 * k) ≡ form.now.common }
+    requires marks { MarksPairs level.now form.now.common compared.marks }
     requires end { end < form.now.ends }
     requires room { at + 2 * length level.now + 1 ≤ length codes.old }
     ensures put { take result codes.new ≡ take at codes.old ++
@@ -65,7 +67,7 @@ fn put_later(
     match compared.order {
         Ordering::Equal => at,
         Ordering::Less | Ordering::Greater => {
-            put_level(codes, at, form, hints, level, compared.run, end)
+            put_level(codes, at, form, hints, level, compared, end)
         }
     }
 }

@@ -14,7 +14,7 @@ use Rattle.uca_lanes.specs.inside.Marks.{first_set}
 abbrev differ : ℕ → ℕ → Bool
 differ a b = not (eqb a b)
 
-itself : (ms : List Bool) → ms ≡ map (λ b. b) ms
+pub itself : (ms : List Bool) → ms ≡ map (λ b. b) ms
 itself [] = refl
 itself (m ∷ ms) = ap (λ r. m ∷ r) (itself ms)
 

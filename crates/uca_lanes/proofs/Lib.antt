@@ -2,3 +2,4 @@ mod LaneSteps
 mod CodePoints
 mod MaskSteps
 mod Whole
+mod PairSteps

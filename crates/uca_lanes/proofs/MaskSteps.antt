@@ -34,7 +34,7 @@ half : (m : Bool) (n : ℕ) → (cond m 1 0 + 2 * n) / 2 ^ 1 ≡ n
 half true n = omega arith
 half false n = omega arith
 
-mask-drop : (k : ℕ) (ms : List Bool) → mask_l ms / 2 ^ k ≡ mask_l (drop k ms)
+pub mask-drop : (k : ℕ) (ms : List Bool) → mask_l ms / 2 ^ k ≡ mask_l (drop k ms)
 mask-drop zero ms = omega arith
 mask-drop (suc k) [] = zero-div (2 ^ suc k)
 mask-drop (suc k) (m ∷ ms) =
@@ -42,7 +42,7 @@ mask-drop (suc k) (m ∷ ms) =
     let e : suc k ≡ 1 + k = omega arith in
     ap (λ j. n / 2 ^ j) e ∙ sym (shr-shr n 1 k) ∙ ap (λ a. a / 2 ^ k) (half m (mask_l ms)) ∙ mask-drop k ms
 
-mask-append : (xs ys : List Bool) → mask_l (xs ++ ys) ≡ mask_l xs + mask_l ys * 2 ^ length xs
+pub mask-append : (xs ys : List Bool) → mask_l (xs ++ ys) ≡ mask_l xs + mask_l ys * 2 ^ length xs
 mask-append [] ys = omega arith
 mask-append (x ∷ xs) ys =
     let k = length xs in

@@ -8,15 +8,17 @@ ghost use Rattle.std.specs.Prelude.{◌≡◌, ◌≢◌, ℕ, ◌+◌, ◌-◌,
 ghost use Rattle.uca_lanes.specs.Lanes.{IsSameRun};
 ghost use Rattle.uca_lanes.specs.inside.Marks.{first_set};
 
+mod pairs;
 mod utf8;
 
 use std::simd::prelude::*;
+pub use pairs::{marks_of_pairs, same_pairs};
 pub use utf8::is_utf8;
 use utf8::with_zeros;
 
-// The place of the lowest bit that is set, or the number of lanes if none is.
+/// The place of the lowest bit that is set, or the number of lanes if none is.
 #[inline(always)]
-fn first_set(mask: u64, lanes: usize) -> usize
+pub(crate) fn first_set(mask: u64, lanes: usize) -> usize
     ensures { result ≡ first_set mask lanes }
 {
     if mask == 0 {

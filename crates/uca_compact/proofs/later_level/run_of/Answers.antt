@@ -1,31 +1,30 @@
--- Eight weights more, and the end of the run.
-use Rattle.std.proofs.Common.{ℕ, ◌≡◌, ◌+◌, ◌*◌, ◌/◌, subst, arith}
+-- The run among the weights that are marked, and the run after these.
+use Rattle.std.proofs.Common.{ℕ, ◌≡◌, ◌+◌, ◌*◌, subst, arith}
 use Rattle.uca_compact.specs.inside.StoredEnds.{weight_of}
-use Rattle.uca_compact.proofs.LevelsPut.{more_are, run_ended}
+use Rattle.uca_compact.proofs.LevelsPut.{run_goes_on}
 use Rattle.uca_compact.proofs.later_level.run_of.Goals as goal
 
-pub returns-then-same-lt16-clause-are : goal.returns-then-same-lt16-clause-are
-returns-then-same-lt16-clause-are c k below =
-    let least = c.min.ensures in
-    more_are c.args.level.now c.eight_of-eight.result c.args.at c.loop-run.run _ c.same_of_sixteen-same.result c.args.weight k c.loop-run.invariant.1 (omega arith)
-    c.same_of_sixteen-same.ensures c.eight_of-eight.ensures.are (omega (arith, below, least))
+pub returns-then-at-first-lt-MARKED-clause-are : goal.returns-then-at-first-lt-MARKED-clause-are
+returns-then-at-first-lt-MARKED-clause-are c = (c.run_of_marked-first.ensures.run c.args.weight c.requires.marks).are
 
-pub returns-then-same-lt16-clause-apart : goal.returns-then-same-lt16-clause-apart
-returns-then-same-lt16-clause-apart c less within is =
-    let run = c.loop-run.run in
-    let same = c.same_of_sixteen-same.result in
-    let least = c.min.ensures in
-    let few = c.if-same-lt16.true in
-    let there : c.args.at + 2 * c.min.result ≡ c.args.at + 2 * run + 2 * (same / 2) = omega (arith, less, least) in
-    run_ended c.args.level.now c.eight_of-eight.result (c.args.at + 2 * run) _ same c.args.weight (λ k. let fits = c.type_inv.level k in omega (arith, fits))
-    c.eight_of-eight.ensures.bytes (omega arith) c.same_of_sixteen-same.ensures c.eight_of-eight.ensures.are (omega (arith, few, within, there))
-    (subst (λ (n : ℕ). weight_of c.args.level.now n ≡ c.args.weight) there is)
+pub returns-then-at-first-lt-MARKED-clause-apart : goal.returns-then-at-first-lt-MARKED-clause-apart
+returns-then-at-first-lt-MARKED-clause-apart c less within =
+    let before = c.if-at-first-lt-MARKED.true in
+    let whole = c.requires.level in
+    let even = c.requires.at in
+    (c.run_of_marked-first.ensures.run c.args.weight c.requires.marks).apart (omega (arith, less, within, before, whole, even))
 
-pub loop-run-preserved : goal.loop-run-preserved
-loop-run-preserved c =
-    let same = c.same_of_sixteen-same.ensures.within in
-    let inside = c.loop-run.invariant.0 in (
-      omega (arith, same, inside),
-      λ k below. more_are c.args.level.now c.eight_of-eight.result c.args.at c.loop-run.run _ c.same_of_sixteen-same.result c.args.weight k c.loop-run.invariant.1 (omega arith)
-          c.same_of_sixteen-same.ensures c.eight_of-eight.ensures.are below,
-    )
+pub returns-clause-are : goal.returns-clause-are
+returns-clause-are c k below =
+    let upto = c.run_of_marked-first.ensures.within in
+    let from = c.if-at-first-lt-MARKED.false in
+    run_goes_on c.args.level.now c.args.weight c.args.at c.run_of_marked-first.result 64 c.run_after-2.result k (c.run_of_marked-first.ensures.run c.args.weight c.requires.marks).are
+    (omega (arith, upto, from)) c.run_after-2.ensures.are below
+
+pub returns-clause-apart : goal.returns-clause-apart
+returns-clause-apart c less within is =
+    let upto = c.run_of_marked-first.ensures.within in
+    let from = c.if-at-first-lt-MARKED.false in
+    let few = c.run_of_marked-first.ensures.few in
+    let place : c.args.at + 2 * (c.run_of_marked-first.result + c.run_after-2.result) ≡ 64 + 2 * c.run_after-2.result = omega (arith, upto, from) in
+    c.run_after-2.ensures.apart (omega (arith, less, few)) (omega (arith, within, place)) (subst (λ (n : ℕ). weight_of c.args.level.now n ≡ c.args.weight) place is)

@@ -1,4 +1,4 @@
-use Rattle.std.proofs.Common.{arith}
+use Rattle.std.proofs.Common.{[], ◌∷◌, arith}
 use Rattle.uca_compact.proofs.Places.{entry_kept, put_there}
 use Rattle.uca_compact.proofs.letters.keep.Goals as goal
 
@@ -8,5 +8,5 @@ returns-then-weight-lt64256 c f front all long put =
     (record {
       few = omega (arith, c.requires.few);
       no_lead = c.if-weight-lt64256.true;
-      code = λ some. put_there c.args.codes.now front _ c.args.at c.args.next c.requires.from c.requires.few c.requires.room long put;
+      code = λ some. put_there c.args.codes.now front _ (0 ∷ []) c.args.at c.args.next c.requires.from c.requires.few c.requires.room long put;
     })

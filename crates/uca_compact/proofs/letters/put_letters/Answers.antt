@@ -6,7 +6,7 @@ use Rattle.uca_compact.specs.CompactKeys.{cell}
 use Rattle.uca_compact.specs.Forms.{first_cell}
 use Rattle.uca_compact.specs.inside.Places.{AreTrueEntries}
 use Rattle.uca_compact.proofs.Places.{true_entry}
-use Rattle.uca_compact.proofs.LevelsPut.{none_put, letter_put, known_put, put_as, letters_put, letters_counted, two_left, some_there}
+use Rattle.uca_compact.proofs.LevelsPut.{weight_read, none_put, letter_put, known_put, put_as, letters_put, letters_counted, two_left, some_there}
 use Rattle.uca_compact.proofs.letters.put_letters.Goals as goal
 use Rattle.uca_compact.proofs.letters.put_letters.Goals.{then-entry-weight+then-not-after_lead, else-entry-weight}
 
@@ -29,7 +29,7 @@ pub put_found-size-requires-clause-weight : goal.put_found-size-requires-clause-
 put_found-size-requires-clause-weight c =
     let before = c.loop-at.invariant.put.before in
     let within = two_left c.args.level.now c.loop-at.invariant.put.weights c.loop-at.at c.requires.level before c.loop-at-test.true in
-    subst (λ (n : ℕ). 0 < n) (sym c.weight_at-weight.ensures.is)
+    subst (λ (n : ℕ). 0 < n) (sym (weight_read c.args.level.now c.loop-at.at _ c.from_be_bytes-weight.ensures))
     (some_there c.args.level.now c.loop-at.invariant.put.weights c.loop-at.at c.requires.level before within)
 
 pub loop-at-preserved : goal.loop-at-preserved
@@ -39,8 +39,8 @@ loop-at-preserved c =
     let i = c.loop-at.invariant in
     let at = c.loop-at.at in
     let so_far = i.put in
-    let v = c.weight_at-weight.result in
-    let is = c.weight_at-weight.ensures.is in
+    let v = c.from_be_bytes-weight.result in
+    let is = weight_read level at v c.from_be_bytes-weight.ensures in
     let within = two_left level so_far.weights at c.requires.level so_far.before c.loop-at-test.true in
     let some = subst (λ (n : ℕ). 0 < n) (sym is) (some_there level so_far.weights at c.requires.level so_far.before within) in
     let out = take c.loop-at.size c.loop-at.codes in
