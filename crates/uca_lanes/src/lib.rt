@@ -1,4 +1,5 @@
-//! Bytes, eight or sixteen at a time: whether they are UTF-8, and how many of them two texts have in common.
+//! Bytes, eight or sixteen at a time: whether they are UTF-8, how many of them two texts have in common, and how many
+//! pairs in a row spell one number.
 //!
 //! A loop over single bytes would end elsewhere for each text, and no processor foretells that. Where two texts are
 //! compared, fewer than eight bytes are taken one by one.
@@ -11,8 +12,8 @@ ghost use Rattle.uca_lanes.specs.inside.Marks.{first_set};
 mod pairs;
 mod utf8;
 
-use std::simd::prelude::*;
 pub use pairs::{marks_of_pairs, same_pairs};
+use std::simd::prelude::*;
 pub use utf8::is_utf8;
 use utf8::with_zeros;
 
