@@ -8,7 +8,7 @@ use std::cmp::Ordering;
 use std::cmp::Ordering::{Greater, Less};
 use std::test::Fail;
 use test_kit::{DATA, NUMBER_TABLE, data_of, holds, repeated, table_of};
-use uca_lanes::{is_utf8, shared_len};
+use uca_lanes::{is_utf8, marks_of_pairs, same_pairs, shared_len};
 use uca_match::{Collator, Lookup, Trie};
 use uca_text_comparer::TextComparison;
 use uca_weights::{Depth, Numbers, Settings, Source, Weighting};
@@ -134,6 +134,35 @@ const MALFORMED: [&[u8]; 45] = [
 /// How many ASCII bytes come before those of the two lists above.
 const BEFORE: [usize; 16] = [0, 1, 2, 3, 4, 5, 7, 8, 12, 13, 15, 16, 17, 29, 31, 32];
 
+/// How many pairs of bytes there are, which of them spells another number if there are so many, the first pair of a run,
+/// how many pairs it may have, and how many it has.
+const RUNS: [(usize, usize, usize, usize, usize); 15] = [
+    (0, 0, 0, 0, 0),
+    (1, 1, 0, 1, 1),
+    (1, 0, 0, 1, 0),
+    (7, 3, 4, 3, 3),
+    (8, 7, 0, 8, 7),
+    (8, 8, 3, 5, 5),
+    (9, 8, 0, 9, 8),
+    (9, 8, 8, 1, 0),
+    (16, 15, 2, 14, 13),
+    (17, 16, 0, 17, 16),
+    (17, 9, 10, 7, 7),
+    (24, 20, 17, 7, 3),
+    (32, 31, 0, 32, 31),
+    (40, 40, 30, 2, 2),
+    (40, 31, 31, 1, 0),
+];
+
+/// A number that two bytes spell, and another one: the same bytes turned, or one byte of two.
+const NUMBERS: [(u16, u16); 5] = [
+    (0x0020, 0x2000),
+    (0x0020, 0x0120),
+    (0x0020, 0x0021),
+    (0xFFFF, 0x0209),
+    (0x0000, 0x0001),
+];
+
 fn settings_by(numbers: Numbers) -> Settings {
     Settings {
         weighting: Weighting::NonIgnorable,
@@ -215,6 +244,40 @@ fn check_utf8(alloc: Global) -> Result<(), Fail> {
     Ok(())
 }
 
+/// The run of pairs from this one on, where all pairs spell one number, but one pair that spells another.
+fn run_of_pairs(
+    alloc: Global,
+    pairs: (usize, usize),
+    numbers: (u16, u16),
+    from: usize,
+    count: usize,
+) -> Result<Option<usize>, Fail> {
+    let mut bytes = Vec::new(alloc);
+    for pair in 0..pairs.0 {
+        let number = if pair == pairs.1 {
+            numbers.1
+        } else {
+            numbers.0
+        };
+        bytes.extend_from_slice(&number.to_be_bytes())?;
+    }
+    if bytes.len() % 2 != 0 || from >= 64 {
+        return Ok(None);
+    }
+    let marks = marks_of_pairs(bytes.as_slice(), numbers.0);
+    Ok(Some(same_pairs(marks, from, count)))
+}
+
+fn check_runs(alloc: Global) -> Result<(), Fail> {
+    for (all, apart, from, count, wanted) in RUNS {
+        for numbers in NUMBERS {
+            let found = run_of_pairs(alloc, (all, apart), numbers, from, count)?;
+            holds(found == Some(wanted), "a run of pairs")?;
+        }
+    }
+    Ok(())
+}
+
 /// A text of 32 bytes is short, and one of 33 is not.
 fn check_lengths(alloc: Global, comparison: &TextComparison) -> Result<(), Fail> {
     let short = repeated(alloc, "a", 32)?;
@@ -261,6 +324,7 @@ fn check_all<L: Lookup>(alloc: Global, collator: &Collator<L>) -> Result<(), Fai
     check_pairs(&comparison)?;
     check_known_beginnings(&comparison)?;
     check_utf8(alloc)?;
+    check_runs(alloc)?;
     check_lengths(alloc, &comparison)?;
     check_by_value(&comparison)
 }
