@@ -134,8 +134,8 @@ const MALFORMED: [&[u8]; 45] = [
 /// How many ASCII bytes come before those of the two lists above.
 const BEFORE: [usize; 16] = [0, 1, 2, 3, 4, 5, 7, 8, 12, 13, 15, 16, 17, 29, 31, 32];
 
-/// How many pairs of bytes there are, which of them spells another number if there are so many, the first pair of a run,
-/// how many pairs it may have, and how many it has.
+/// How many pairs of bytes there are, and which of them spells another number, if there are so many. Then the first pair of
+/// a run, how many pairs it may have, and how many it has.
 const RUNS: [(usize, usize, usize, usize, usize); 15] = [
     (0, 0, 0, 0, 0),
     (1, 1, 0, 1, 1),
