@@ -136,7 +136,7 @@ const BEFORE: [usize; 16] = [0, 1, 2, 3, 4, 5, 7, 8, 12, 13, 15, 16, 17, 29, 31,
 
 /// How many pairs of bytes there are, and which of them spells another number, if there are so many. Then the first pair of
 /// a run, how many pairs it may have, and how many it has.
-const RUNS: [(usize, usize, usize, usize, usize); 15] = [
+const RUNS: [(usize, usize, usize, usize, usize); 16] = [
     (0, 0, 0, 0, 0),
     (1, 1, 0, 1, 1),
     (1, 0, 0, 1, 0),
@@ -149,12 +149,13 @@ const RUNS: [(usize, usize, usize, usize, usize); 15] = [
     (17, 16, 0, 17, 16),
     (17, 9, 10, 7, 7),
     (24, 20, 17, 7, 3),
+    (27, 26, 16, 11, 10),
     (32, 31, 0, 32, 31),
     (40, 40, 30, 2, 2),
     (40, 31, 31, 1, 0),
 ];
 
-/// A number that two bytes spell, and another one: the same bytes turned, or one byte of two.
+/// A number that two bytes spell, and another one: the same bytes turned, one byte of two, or both.
 const NUMBERS: [(u16, u16); 5] = [
     (0x0020, 0x2000),
     (0x0020, 0x0120),

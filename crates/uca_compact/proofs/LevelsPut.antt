@@ -6,7 +6,7 @@ use Rattle.std.specs.Ordering.{nat_cmp}
 use Rattle.std.specs.declared.cmp.Ordering.{Ordering}
 use Rattle.std.specs.declared.cmp.Ordering.TheVariants.{Greater}
 use Rattle.std.proofs.lemmas.Bool.Decides.{nat_tests}
-use Rattle.std.proofs.lemmas.List.{drop_all}
+use Rattle.std.proofs.lemmas.List.{drop_all, length-drop}
 use Rattle.uca_lanes.specs.Lanes.{IsSameRun}
 use Rattle.uca_lanes.specs.Pairs.{MarksPairs, IsPairRun}
 use Rattle.uca_order.specs.Levels.{lexicographic}
@@ -16,7 +16,7 @@ use Rattle.uca_compact.specs.PlainLevels.{copies, is_lead, letters_after, letter
 use Rattle.uca_compact.specs.CompactKeys.{cell, written, run_after, level_code}
 use Rattle.uca_compact.specs.LevelBytes.{weights_in, AreWeightBytes}
 use Rattle.uca_compact.specs.inside.StoredEnds.{weight_of}
-use Rattle.uca_compact.specs.inside.LevelsPut.{AreBefore, IsPutTo, IsLaterTo, AreEight}
+use Rattle.uca_compact.specs.inside.LevelsPut.{AreBefore, IsPutTo, AreUpTo, IsLaterTo, AreEight}
 use Rattle.uca_compact.proofs.OnlyLevels.{weight_code}
 use Rattle.uca_compact.proofs.PlainSteps.{RunIs, longer_level, other_weight, same_weight, shorter_level}
 use Rattle.uca_compact.proofs.StoredSteps.{two_at}
@@ -180,16 +180,16 @@ eight_are h l w is (suc (suc (suc (suc (suc (suc (suc zero))))))) below = is
 eight_are h l w is (suc (suc (suc (suc (suc (suc (suc (suc k)))))))) below = absurd (omega arith)
 
 -- such bytes are one by one
-bytes_are : (xs : List ℕ) → AllByRecursion (λ (b : ℕ). b < 256) xs → (k : ℕ) → get_or xs k 0 < 256
-bytes_are [] all k = omega arith
-bytes_are (b ∷ xs) all zero = all.0
-bytes_are (b ∷ xs) all (suc k) = bytes_are xs all.1 k
+small_bytes : (xs : List ℕ) → AllByRecursion (λ (b : ℕ). b < 256) xs → (k : ℕ) → get_or xs k 0 < 256
+small_bytes [] all k = omega arith
+small_bytes (b ∷ xs) all zero = all.0
+small_bytes (b ∷ xs) all (suc k) = small_bytes xs all.1 k
 
 -- they are bytes
 pub eight_bytes : (h l : ℕ) → h < 256 → l < 256 → (k : ℕ)
     → get_or (h ∷ l ∷ h ∷ l ∷ h ∷ l ∷ h ∷ l ∷ h ∷ l ∷ h ∷ l ∷ h ∷ l ∷ h ∷ l ∷ []) k 0 < 256
 eight_bytes h l high low =
-    bytes_are (h ∷ l ∷ h ∷ l ∷ h ∷ l ∷ h ∷ l ∷ h ∷ l ∷ h ∷ l ∷ h ∷ l ∷ h ∷ l ∷ [])
+    small_bytes (h ∷ l ∷ h ∷ l ∷ h ∷ l ∷ h ∷ l ∷ h ∷ l ∷ h ∷ l ∷ h ∷ l ∷ h ∷ l ∷ [])
     (high, (low, (high, (low, (high, (low, (high, (low, (high, (low, (high, (low, (high, (low, (high, (low, tt))))))))))))))))
 
 -- the weights that have the same bytes are this one
@@ -345,20 +345,52 @@ lengths_decide level w count run whole are within end =
 
 -- ---- A later level
 
+-- no weight is before the first
+none_up_to : (level : List ℕ) → AreWeightBytes level → AreUpTo level level 0 []
+none_up_to level are = let whole = are.whole in record { size = omega arith; within = omega arith; even = refl; whole = omega (arith, whole); upto = refl }
+
+-- one weight more is before the next position
+one_up_to : (level rest ws : List ℕ) (at w : ℕ) → AreUpTo level rest at ws → at < length rest → w ≡ weight_of rest at → AreUpTo level rest (at + 2) (ws ++ w ∷ [])
+one_up_to level rest ws at w before inside is =
+    let size = before.size in
+    let even = before.even in
+    let whole = before.whole in
+    let longer : length (ws ++ w ∷ []) ≡ length ws + 1 = length-append ws (w ∷ []) in
+    let later = weights_in (drop (at + 2) rest) in
+    record {
+      size = omega (arith, longer, size);
+      within = omega (arith, inside, even, whole);
+      even = omega (arith, even);
+      whole = whole;
+      upto = append_assoc ws (w ∷ []) later
+          ∙ ap (λ (n : ℕ). ws ++ n ∷ later) is
+          ∙ ap (λ (bytes : List ℕ). ws ++ weights_in bytes) (sym (two_at rest at (omega (arith, inside, even, whole))))
+          ∙ before.upto;
+    }
+
+-- the weight there is not 0
+pub some_later : (level rest ws : List ℕ) (at : ℕ) → AreWeightBytes level → AreUpTo level rest at ws → at < length rest → 0 < weight_of rest at
+some_later level rest ws at are before inside =
+    let even = before.even in
+    let whole = before.whole in
+    among ws (weights_in (drop (at + 2) rest)) (weight_of rest at)
+    (subst (AllByRecursion (λ (v : ℕ). 0 < v))
+    (sym (ap (λ (bytes : List ℕ). ws ++ weights_in bytes) (sym (two_at rest at (omega (arith, inside, even, whole)))) ∙ before.upto)) are.some)
+
 -- nothing was put yet
-none_later : (f : Form) (end : ℕ) (level front : List ℕ) → 0 < f.longest → IsLaterTo f end level front front 0 0
-none_later f end level front some = record { weights = []; before = none_before level; short = some; code = λ more. refl }
+none_later : (f : Form) (end : ℕ) (level front : List ℕ) → AreWeightBytes level → 0 < f.longest → IsLaterTo f end level level front front 0 0
+none_later f end level front are some = record { weights = []; before = none_up_to level are; short = some; code = λ more. refl }
 
 -- one weight more was put
-pub one_later : (f : Form) (end : ℕ) (level front out new : List ℕ) (at run after w : ℕ) → IsLaterTo f end level front out at run
-    → at + 1 < length level → w ≡ weight_of level at
+pub one_later : (f : Form) (end : ℕ) (level rest front out new : List ℕ) (at run after w : ℕ) → IsLaterTo f end level rest front out at run
+    → at < length rest → w ≡ weight_of rest at
     → new ≡ out ++ written f run w (nat_cmp w f.common) → after ≡ run_after f run (nat_cmp w f.common) → after < f.longest
-    → IsLaterTo f end level front new (at + 2) after
-one_later f end level front out new at run after w so_far within is added runs short =
+    → IsLaterTo f end level rest front new (at + 2) after
+one_later f end level rest front out new at run after w so_far inside is added runs short =
     let ws = so_far.weights in
     record {
       weights = ws ++ w ∷ [];
-      before = more_before level ws at w so_far.before within is;
+      before = one_up_to level rest ws at w so_far.before inside is;
       short = short;
       code = λ more.
           ap (λ (xs : List ℕ). xs ++ level_code f end after more) added
@@ -369,45 +401,74 @@ one_later f end level front out new at run after w so_far within is added runs s
     }
 
 -- one common weight more makes a run longer
-common_later : (f : Form) (end : ℕ) (level front out : List ℕ) (at run : ℕ) → IsLaterTo f end level front out at run → at + 1 < length level
-    → weight_of level at ≡ f.common → run + 1 < f.longest → IsLaterTo f end level front out (at + 2) (run + 1)
-common_later f end level front out at run so_far within is short =
+common_later : (f : Form) (end : ℕ) (level rest front out : List ℕ) (at run : ℕ) → IsLaterTo f end level rest front out at run → at < length rest
+    → weight_of rest at ≡ f.common → run + 1 < f.longest → IsLaterTo f end level rest front out (at + 2) (run + 1)
+common_later f end level rest front out at run so_far inside is short =
     let equal = cmp_equal f.common f.common refl in
     let test : nat_eq (suc run) f.longest ≡ false = grind (arith, nat_tests) in
     let next : suc run ≡ run + 1 = omega arith in
-    one_later f end level front out out at run (run + 1) f.common so_far within (sym is)
+    one_later f end level rest front out out at run (run + 1) f.common so_far inside (sym is)
     (sym (ap (λ (o : Ordering). out ++ written f run f.common o) equal ∙ ap (λ (t : Bool). out ++ (if t then full f ∷ [] else [])) test ∙ append-nil out))
     (sym (ap (run_after f run) equal ∙ ap (λ (t : Bool). if t then 0 else suc run) test ∙ next))
     short
 
 -- so many more do
-pub run_later : (f : Form) (end : ℕ) (level front out : List ℕ) (at run more : ℕ) → IsLaterTo f end level front out at run
-    → ((k : ℕ) → k < more → weight_of level (at + 2 * k) ≡ f.common) → at + 2 * more ≤ length level → run + more < f.longest
-    → IsLaterTo f end level front out (at + 2 * more) (run + more)
-run_later f end level front out at run zero so_far are within short =
+pub run_later : (f : Form) (end : ℕ) (level rest front out : List ℕ) (at run more : ℕ) → IsLaterTo f end level rest front out at run
+    → ((k : ℕ) → k < more → weight_of rest (at + 2 * k) ≡ f.common) → at + 2 * more ≤ length rest → run + more < f.longest
+    → IsLaterTo f end level rest front out (at + 2 * more) (run + more)
+run_later f end level rest front out at run zero so_far are within short =
     let here : at ≡ at + 2 * 0 = omega arith in
     let same : run ≡ run + 0 = omega arith in
-    subst₂ (IsLaterTo f end level front out) here same so_far
-run_later f end level front out at run (suc n) so_far are within short =
+    subst₂ (IsLaterTo f end level rest front out) here same so_far
+run_later f end level rest front out at run (suc n) so_far are within short =
     let next : at + 2 * n + 2 ≡ at + 2 * suc n = omega arith in
     let longer : run + n + 1 ≡ run + suc n = omega arith in
-    subst₂ (IsLaterTo f end level front out) next longer
-    (common_later f end level front out (at + 2 * n) (run + n)
-    (run_later f end level front out at run n so_far (λ k below. are k (omega (arith, below))) (omega (arith, within)) (omega (arith, short)))
+    subst₂ (IsLaterTo f end level rest front out) next longer
+    (common_later f end level rest front out (at + 2 * n) (run + n)
+    (run_later f end level rest front out at run n so_far (λ k below. are k (omega (arith, below))) (omega (arith, within)) (omega (arith, short)))
     (omega (arith, within)) (are n (omega arith)) (omega (arith, short)))
 
 -- the run that the level begins with
-pub begun_later : (f : Form) (end : ℕ) (level front : List ℕ) (run : ℕ) → ((k : ℕ) → k < run → weight_of level (2 * k) ≡ f.common)
-    → 2 * run ≤ length level → run < f.longest → IsLaterTo f end level front front (2 * run) run
-begun_later f end level front run are within short =
+pub begun_later : (f : Form) (end : ℕ) (level front : List ℕ) (run : ℕ) → AreWeightBytes level → ((k : ℕ) → k < run → weight_of level (2 * k) ≡ f.common)
+    → 2 * run ≤ length level → run < f.longest → IsLaterTo f end level level front front (2 * run) run
+begun_later f end level front run whole are within short =
     let here : 0 + 2 * run ≡ 2 * run = omega arith in
     let same : 0 + run ≡ run = omega arith in
-    subst₂ (IsLaterTo f end level front front) here same
-    (run_later f end level front front 0 0 run (none_later f end level front (omega (arith, short))) (λ k below. to_first level f.common (2 * k) (are k below))
+    subst₂ (IsLaterTo f end level level front front) here same
+    (run_later f end level level front front 0 0 run (none_later f end level front whole (omega (arith, short))) (λ k below. to_first level f.common (2 * k) (are k below))
     (omega (arith, within)) (omega (arith, short)))
 
+-- where the same bytes follow, so many do
+pub as_many_follow : (rest also : List ℕ) (at there : ℕ) → drop there also ≡ drop at rest → at ≤ length rest → there ≤ length also
+    → length also + at ≡ length rest + there
+as_many_follow rest also at there same inside within =
+    let so_many : length (drop there also) ≡ length (drop at rest) = ap (λ (bytes : List ℕ). length bytes) same in
+    omega (arith, length-drop there also, length-drop at rest, so_many, inside, within)
+
+-- another rest, where the same weights follow
+pub moved_later : (f : Form) (end : ℕ) (level rest also front out : List ℕ) (at there run : ℕ) → IsLaterTo f end level rest front out at run
+    → drop there also ≡ drop at rest → there ≤ length also → 2 * (there / 2) ≡ there → 2 * (length also / 2) ≡ length also
+    → IsLaterTo f end level also front out there run
+moved_later f end level rest also front out at there run so_far same within even whole =
+    let size = so_far.before.size in
+    let follow = as_many_follow rest also at there same so_far.before.within within in
+    record {
+      weights = so_far.weights;
+      before = record {
+        size = omega (arith, size, follow);
+        within = within;
+        even = even;
+        whole = whole;
+        upto = ap (λ (bytes : List ℕ). so_far.weights ++ weights_in bytes) same ∙ so_far.before.upto;
+      };
+      short = so_far.short;
+      code = so_far.code;
+    }
+
 -- all weights were put, and the end
-pub later_put : (f : Form) (end : ℕ) (level front out new : List ℕ) (at run : ℕ) → IsLaterTo f end level front out at run → length level ≤ at
+pub later_put : (f : Form) (end : ℕ) (level rest front out new : List ℕ) (at run : ℕ) → IsLaterTo f end level rest front out at run → length rest ≤ at
     → new ≡ out ++ (run * step f + end) ∷ [] → new ≡ front ++ level_code f end 0 (weights_in level)
-later_put f end level front out new at run so_far last added =
-    added ∙ so_far.code [] ∙ ap (λ (ws : List ℕ). front ++ level_code f end 0 ws) (append-nil so_far.weights ∙ all_before level so_far.weights at so_far.before last)
+later_put f end level rest front out new at run so_far last added =
+    let ws = so_far.weights in
+    let all : ws ≡ weights_in level = sym (append-nil ws) ∙ ap (λ (bytes : List ℕ). ws ++ weights_in bytes) (sym (drop_all at rest last)) ∙ so_far.before.upto in
+    added ∙ so_far.code [] ∙ ap (λ (xs : List ℕ). front ++ level_code f end 0 xs) (append-nil ws ∙ all)

@@ -1,6 +1,6 @@
 //! Compares a level after others to the plain one, and codes it. Mostly it is plain, and then nothing is written.
 
-ghost use Rattle.std.specs.Prelude.{◌≡◌, ◌≢◌, ℕ, ◌+◌, ◌-◌, ◌*◌, ◌/◌, ◌<◌, ◌≤◌, ◌++◌, get_or, length, min, take};
+ghost use Rattle.std.specs.Prelude.{◌≡◌, ◌≢◌, ℕ, ◌+◌, ◌-◌, ◌*◌, ◌/◌, ◌<◌, ◌≤◌, ◌++◌, drop, get_or, length, min, take};
 ghost use Rattle.uca_lanes.specs.Pairs.{MarksPairs, IsPairRun};
 ghost use Rattle.uca_order.specs.Levels.{lexicographic};
 ghost use Rattle.uca_compact.specs.CompactKeys.{level_code};
@@ -23,12 +23,12 @@ pub(crate) struct Compared {
     pub(crate) order: Ordering,
     /// How many times that weight is at the beginning of the level.
     pub(crate) run: usize,
-    /// Which of the first 32 weights are others, a bit for each.
+    /// A bit for each of the first 32 weights, the lowest for the first: whether it is another one. Other bits mean nothing.
     pub(crate) marks: u64,
 }
 
-/// So many bytes have the first 32 weights.
-const MARKED: usize = 64;
+/// How many bytes the first 32 weights have.
+const MARKED_BYTES: usize = 64;
 
 // A weight, eight times.
 fn eight_of(weight: u32) -> [u8; 16]
@@ -43,9 +43,9 @@ fn eight_of(weight: u32) -> [u8; 16]
     ]
 }
 
-// How many weights from this position on are this one, and at most `most`, with no marks.
+// How many weights from this position on are this one, and at most `most`. It needs no marks.
 #[inline(never)]
-fn run_after(level: &[u8], at: usize, weight: u32, most: usize) -> usize
+fn run_without_marks(level: &[u8], at: usize, weight: u32, most: usize) -> usize
     requires weight { weight < 65536 }
     requires within { at ≤ length level.now }
     ensures few { result ≤ most }
@@ -78,11 +78,12 @@ fn run_of_marked(level: &[u8], marks: u64, at: usize, most: usize) -> usize
     ensures run { (weight : ℕ) → MarksPairs level.now weight marks →
         IsPairRun level.now weight at (min ((min (length level.now) 64 - at) / 2) most) result }
 {
-    let left = (level.len().min(MARKED) - at) / 2;
+    let left = (level.len().min(MARKED_BYTES) - at) / 2;
     same_pairs(marks, at / 2, left.min(most))
 }
 
-// How many weights from this position on are this one, and at most `most`. The marks are those of the level.
+// How many weights from this position on are this one, and at most `most`. The marks are those of the level
+// for this weight.
 #[inline(always)]
 fn run_of(level: &[u8], marks: u64, at: usize, weight: u32, most: usize) -> usize
     requires marks { MarksPairs level.now weight marks }
@@ -95,14 +96,14 @@ fn run_of(level: &[u8], marks: u64, at: usize, weight: u32, most: usize) -> usiz
     ensures are { (k : ℕ) → k < result → weight_of level.now (at + 2 * k) ≡ weight }
     ensures apart { result < most → at + 2 * result + 1 < length level.now → weight_of level.now (at + 2 * result) ≢ weight }
 {
-    if at >= MARKED {
-        return run_after(level, at, weight, most);
+    if at >= MARKED_BYTES {
+        return run_without_marks(level, at, weight, most);
     }
     let first = run_of_marked(level, marks, at, most);
-    if at + 2 * first < MARKED {
+    if at + 2 * first < MARKED_BYTES {
         return first;
     }
-    first + run_after(level, MARKED, weight, most - first)
+    first + run_without_marks(level, MARKED_BYTES, weight, most - first)
 }
 
 /// Compares a level to `count` times one weight.
@@ -126,8 +127,30 @@ pub(crate) fn compare_level(level: &[u8], weight: u16, count: usize) -> Compared
     Compared { order, run, marks }
 }
 
-/// Puts a level at this position: its weights, and its end. It returns the position after it. It was compared to the common
-/// weight.
+// The rest of a level, a position in it that is marked, and the marks. Where the position is not marked, the rest begins
+// there.
+#[inline(always)]
+fn with_marks(rest: &[u8], at: usize, marks: u64, weight: u16) -> (&[u8], usize, u64)
+    requires marks { MarksPairs rest.now weight marks }
+    requires rest { 2 * (length rest.now / 2) ≡ length rest.now }
+    requires at { 2 * (at / 2) ≡ at }
+    requires within { at ≤ length rest.now }
+    ensures marks { MarksPairs result.0.now weight result.2 }
+    ensures rest { 2 * (length result.0.now / 2) ≡ length result.0.now }
+    ensures at { 2 * (result.1 / 2) ≡ result.1 }
+    ensures within { result.1 ≤ length result.0.now }
+    ensures marked { result.1 < 64 }
+    ensures same { drop result.1 result.0.now ≡ drop at rest.now }
+{
+    if at < MARKED_BYTES {
+        return (rest, at, marks);
+    }
+    let rest = &rest[at..];
+    (rest, 0, marks_of_pairs(rest, weight))
+}
+
+/// Puts a level at this position: its weights, and its end. It returns the position after it. `compared` is how the level
+/// compares to copies of the common weight.
 #[inline(never)]
 pub(crate) fn put_level(
     codes: &mut [u8],
@@ -149,21 +172,21 @@ pub(crate) fn put_level(
     ensures put { take result codes.new ≡ take at codes.old ++ level_code (form_of form.now) end 0 (weights_in level.now) }
     ensures few { result ≤ at + 2 * length level.now + 1 }
 {
-    let common = u32::from(form.common);
     let longest = usize::from(form.longest);
     let mut put = at;
     let mut run = compared.run.min(longest - 1);
+    let mut rest = level;
     let mut from = 2 * run;
-    while from < level.len() {
-        let weight = weight_at(level, from);
-        if weight == common {
-            let more = run_of(level, compared.marks, from, common, longest - 1 - run);
-            if more > 0 {
-                run += more;
-                from += 2 * more;
-                continue;
-            }
+    let mut marks = compared.marks;
+    while from < rest.len() {
+        (rest, from, marks) = with_marks(rest, from, marks, form.common);
+        let more = run_of_marked(rest, marks, from, longest - 1 - run);
+        run += more;
+        from += 2 * more;
+        if from == rest.len() {
+            continue; // the level ends in a run
         }
+        let weight = weight_at(rest, from);
         let (next, after) = put_weight(codes, put, form, hints, run as u32, weight);
         put = next;
         run = after as usize;

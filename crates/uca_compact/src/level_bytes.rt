@@ -1,7 +1,7 @@
 //! `LevelBytes`: the levels of a key before they are joined.
 
 /// The levels of a key, each as its weights: two bytes for each, the high byte first. A key of the weighting
-/// `NonIgnorable` has no variables: what is there is not read.
+/// `NonIgnorable` has no variables: those that are there are not read, but room for them is taken.
 #[derive(Clone, Copy)]
 pub struct LevelBytes<'a> {
     /// Level 1.

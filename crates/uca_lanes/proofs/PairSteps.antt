@@ -101,8 +101,8 @@ module _ (bytes : List ℕ) (number end front back : ℕ) (is : end ≡ min 32 (
   abbrev pub both : ℕ
   both = (32 - end) / 2
 
-  abbrev joined : List Bool
-  joined = first.lanes ++ drop both last.lanes
+  abbrev joined_lanes : List Bool
+  joined_lanes = first.lanes ++ drop both last.lanes
 
   byte_of_first : (i : ℕ) → i < 16 → get_or (chunk 0 16 bytes) i 0 ≡ get_or bytes i 0
   byte_of_first i below = let e : 0 + i ≡ i = omega arith in get_or-chunk 0 16 bytes i 0 below ∙ ap (λ (n : ℕ). get_or bytes n 0) e
@@ -110,7 +110,7 @@ module _ (bytes : List ℕ) (number end front back : ℕ) (is : end ≡ min 32 (
   byte_of_last : (i at : ℕ) → i < 16 → end - 16 + i ≡ at → get_or (chunk (end - 16) 16 bytes) i 0 ≡ get_or bytes at 0
   byte_of_last i at below e = get_or-chunk (end - 16) 16 bytes i 0 below ∙ ap (λ (n : ℕ). get_or bytes n 0) e
 
-  lane_is : (k : ℕ) → k < end / 2 → (t : Bool) → nat_lt k 8 ≡ t → get_or joined k false ≡ not (nat_eq (pair_at bytes (2 * k)) number)
+  lane_is : (k : ℕ) → k < end / 2 → (t : Bool) → nat_lt k 8 ≡ t → get_or joined_lanes k false ≡ not (nat_eq (pair_at bytes (2 * k)) number)
   lane_is k below true test =
       let low : k < 8 = grind (arith, nat_tests) in
       get_or_append_left first.lanes (drop both last.lanes) false k (omega (arith, low, first.long))
@@ -131,7 +131,7 @@ module _ (bytes : List ℕ) (number end front back : ℕ) (is : end ≡ min 32 (
   more_marked =
       let all : end / 2 ≡ max 8 (min 32 (length bytes) / 2) = omega (arith, some, is) in
       subst (λ (n : ℕ). AreMarks bytes number n (front + back / 2 ^ both * 256)) all (record {
-        lanes = joined;
+        lanes = joined_lanes;
         mask =
             ap₂ (λ (m n : ℕ). m + n / 2 ^ both * 256) first.mask last.mask
             ∙ ap₂ (λ (m n : ℕ). mask_l first.lanes + m * 2 ^ n) (mask-drop both last.lanes) (sym first.long)

@@ -19,7 +19,7 @@ pub record AreMarks (bytes : List ℕ) (number count marks : ℕ) : Type 0 where
   pub long : length lanes ≡ count
   pub are : (k : ℕ) → k < count → get_or lanes k false ≡ not (pair_at bytes (2 * k) == number)
 
--- the bits are those of the first 32 pairs at least, or of all
+-- the bits are those of at least the first 32 pairs, or of all if there are fewer; some may be of zeros after the end
 pub record MarksPairs (bytes : List ℕ) (number bits : ℕ) : Type 0 where
   pub count : ℕ
   pub many : min 32 (length bytes / 2) ≤ count

@@ -1,7 +1,7 @@
 //! Pairs of bytes that spell numbers: how many of them in a row spell one number.
 //!
 //! The first 32 pairs are marked at once: a bit for each says whether it spells another number. So a run of equal pairs is
-//! found with no loop, from any pair on.
+//! found with no loop, from any of these on.
 
 ghost use Rattle.std.specs.Prelude.{◌≡◌, ℕ, ◌+◌, ◌*◌, ◌/◌, ◌<◌, ◌≤◌, List, length, min, max};
 ghost use Rattle.uca_lanes.specs.Pairs.{AreMarks, MarksPairs, IsPairRun};
@@ -22,7 +22,8 @@ fn marks_of_eight(bytes: u8x16, number: u16) -> u64
         .to_bitmask()
 }
 
-// A bit for each of the first sixteen pairs, and for those of zeros after fewer than eight.
+// A bit for each of the first sixteen pairs. Where there are fewer than eight, zeros follow, and these pairs have bits too.
+// Of the last eight pairs, those that are among the first eight fall out.
 #[inline(always)]
 fn marks_of_sixteen(bytes: &[u8], number: u16) -> u64
     requires { 2 * (length bytes.now / 2) ≡ length bytes.now }
@@ -39,7 +40,8 @@ fn marks_of_sixteen(bytes: &[u8], number: u16) -> u64
 }
 
 /// A bit for each of the first 32 pairs of bytes, the lowest for the first: whether it spells another number than this
-/// one. The high byte of a pair comes first. There may be bits for some pairs of zeros after the last one.
+/// one. The high byte of a pair comes first. The number of bytes has to be even. Where there are fewer than 32 pairs, zeros
+/// may follow the last one, and have bits too. All other bits are 0.
 #[inline(always)]
 pub fn marks_of_pairs(bytes: &[u8], number: u16) -> u64
     requires { 2 * (length bytes.now / 2) ≡ length bytes.now }
@@ -52,8 +54,9 @@ pub fn marks_of_pairs(bytes: &[u8], number: u16) -> u64
     first + marks_of_sixteen(&bytes[32..], number) * 0x1_0000
 }
 
-/// How many pairs spell one number, of so many from one on, by the marks of [`marks_of_pairs`]. All of them have to be
-/// among the pairs that are marked.
+/// How many of the next `count` pairs spell the number, before the first that does not, by the marks of
+/// [`marks_of_pairs`]. They begin with the pair `from`, which is less than 64, and the first pair is 0. Where some of them
+/// are not there, or not among the first 32, the result is at most `count`, and tells no more.
 #[inline(always)]
 pub fn same_pairs(marks: u64, from: usize, count: usize) -> usize
     requires { from < 64 }

@@ -2,7 +2,7 @@
 use Rattle.std.proofs.Common.{ℕ, ◌≡◌, ◌+◌, ◌*◌, ◌/◌, subst, arith}
 use Rattle.uca_compact.specs.inside.StoredEnds.{weight_of}
 use Rattle.uca_compact.proofs.LevelsPut.{more_are, run_ended}
-use Rattle.uca_compact.proofs.later_level.run_after.Goals as goal
+use Rattle.uca_compact.proofs.later_level.run_without_marks.Goals as goal
 
 pub returns-then-same-lt16-clause-are : goal.returns-then-same-lt16-clause-are
 returns-then-same-lt16-clause-are c k below =
