@@ -100,21 +100,25 @@ class Keys(ProgramTest):
             self.expect(words, f"{spaced}\tb 1C60\t1C60\n{compact}\n{compact}\t\n", out=f"{digits}\tb 1C60\t1C60\n{digits}\n{digits}\t\n")
 
     def test_runs_of_each_length(self):
-        """One other weight among common ones: an accent at level 2, or a space at level 4.
+        """One other weight among common ones: an accent at level 2, a capital at level 3, or a space at level 4.
 
         At level 2 a run of 20 is 0x50. A shorter one is 100 less its length before the accent, and four times its length and one at the end.
+        At level 3 a run of 32 is 0x40. A shorter one is 96 less its length before the capital, and twice its length at the end.
         At level 4 a run of 85 is 0xAA. A shorter one is twice its length and one before the space, and twice its length at the end."""
-        accents, spaces = [], []
+        accents, capitals, spaces = [], [], []
         for count in 0, 1, 7, 8, 9, 15, 16, 17, 24, 31, 32, 33, 48, 63, 64, 65, 100, 190:
             for before in range(count + 1):
                 after = count - before
                 run = f"{100 - before % 20:02X}" if before % 20 else ""
                 levels = "1C47" * count, "0020" * before + "0024" + "0020" * after, "0002" * (count + 1)
                 accents.append(("0000".join(levels), "08" * count + "04" + "50" * (before // 20) + run + "67" + "50" * (after // 20) + f"{after % 20 * 4 + 1:02X}"))
+                run = f"{96 - before % 32:02X}" if before % 32 else ""
+                levels = "1C47" * (count + 1), "0020" * (count + 1), "0002" * before + "0008" + "0002" * after
+                capitals.append(("0000".join(levels), "08" * (count + 1) + "03" + "40" * (before // 32) + run + "65" + "40" * (after // 32) + f"{after % 32 * 2:02X}"))
                 levels = "1C47" * count, "0020" * count, "0002" * count, "FFFF" * before + "0209" + "FFFF" * after
                 order = "02" if after else "04"  # less than the plain level, or the plain level and one weight more
                 spaces.append(("0000".join(levels), "0A" * count + order + "AA" * (before // 85) + f"{before % 85 * 2 + 1:02X}01" + "AA" * (after // 85) + f"{after % 85 * 2:02X}"))
-        for weighting, cases in ("non-ignorable", accents), ("shifted", spaces):
+        for weighting, cases in ("non-ignorable", accents), ("non-ignorable", capitals), ("shifted", spaces):
             keys, compact = ("".join(case[at] + "\n" for case in cases) for at in (0, 1))
             self.expect(["compact", "--weighting", weighting, "k"], keys, out=compact)
             self.expect(["expand", "--weighting", weighting, "k"], compact, out=keys)
