@@ -3,3 +3,4 @@ mod CodePoints
 mod MaskSteps
 mod Whole
 mod PairSteps
+mod ShortTexts

@@ -10,9 +10,11 @@ ghost use Rattle.uca_lanes.specs.Lanes.{IsSameRun};
 ghost use Rattle.uca_lanes.specs.inside.Marks.{first_set};
 
 mod pairs;
+mod short;
 mod utf8;
 
 pub use pairs::{marks_of_pairs, same_pairs};
+pub use short::shared_of_short;
 use std::simd::prelude::*;
 pub use utf8::is_utf8;
 use utf8::with_zeros;

@@ -144,9 +144,9 @@ fn seconds_agree(front: u8x16, back: u8x16, both: u64) -> bool
         & (after_f4 & from_90 == 0)
 }
 
-// Whether these bytes are UTF-8. Many are ASCII, and most others have no code point of more than two bytes.
+/// Whether these bytes are UTF-8. Many are ASCII, and most others have no code point of more than two bytes.
 #[inline(always)]
-fn are_utf8(front: u8x16, back: u8x16, both: u64) -> bool
+pub(crate) fn are_utf8(front: u8x16, back: u8x16, both: u64) -> bool
     requires { both ≤ 16 }
     ensures { IsTrue result ↔ IsUtf8 (joined front back both) }
 {

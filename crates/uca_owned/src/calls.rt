@@ -15,7 +15,7 @@ ghost use Rattle.uca_owned.specs.Owned.{keying_in, key_in};
 ghost use Rattle.uca_owned.specs.Causes.{IsAcceptedBy, IsAcceptedText, IsKeyCause, IsCompareCause};
 
 use crate::OwnedCollator;
-use crate::comparing::{compare_bytes, compare_same};
+use crate::comparing::compare_bytes;
 use crate::faults::{CompareFault, KeyFault};
 use crate::reading::read_text;
 use std::alloc::AllocError;
@@ -140,9 +140,6 @@ impl OwnedCollator {
         ensures keying { keying_in self.new ≡ keying_in self.old }
         ensures key { key_in self.new ≡ key_in self.old }
     {
-        if let Some(pair) = compare_same(left, right) {
-            return Ok(pair);
-        }
         compare_bytes(
             &*self.collation,
             &mut self.comparison,

@@ -1,9 +1,10 @@
 //! Comparing texts that are given as bytes.
 
 ghost use Rattle.std.specs.Prelude.{◌≡◌, chars, take, IfOk, IfErr, IfSome, OnOk};
-ghost use Rattle.uca_values.specs.Content.{properties_of};
+ghost use Rattle.uca_values.specs.Content.{Properties, properties_of};
 ghost use Rattle.uca_text.specs.Limits.{IsAccepted};
 ghost use Rattle.uca_text.specs.Faults.{IsCause};
+ghost use Rattle.uca_elements.specs.Collations.{Collation};
 ghost use Rattle.uca_order.specs.Depths.{written_text, texts_compared};
 ghost use Rattle.uca_order.specs.Keyings.{Keying, keying_by, bytes_compared};
 ghost use Rattle.uca_plain.specs.PointCache.{AreTrueEntries};
@@ -12,7 +13,7 @@ ghost use Rattle.uca_text_comparer.specs.Causes.{IsPairCause};
 ghost use Rattle.uca_owned.specs.Causes.{IsAcceptedText, IsAcceptedBy, IsKeyCause, IsCompareCause};
 
 use crate::faults::{CompareFault, KeyFault};
-use crate::reading::{read_after, read_text};
+use crate::reading::{read_after, read_short, read_text};
 use std::cmp::Ordering;
 use uca_lanes::shared_len;
 use uca_match::OwnedCollation;
@@ -23,9 +24,9 @@ use uca_weights::Settings;
 /// A text of so many bytes is accepted: what is read of it has at most 64 code points in Normalization Form D.
 const SHORT_TEXT: usize = 32;
 
-/// How a short text compares with itself. It is accepted, so none of its code points is looked up. There is no result
-/// for two other texts, for a long one, and for bytes that are no UTF-8.
-pub(crate) fn compare_same(left: &[u8], right: &[u8]) -> Option<(Ordering, u8)>
+// How a short text compares with itself. It is accepted, so none of its code points is looked up. There is no result
+// for two other texts, for a long one, and for bytes that are no UTF-8.
+fn compare_same(left: &[u8], right: &[u8]) -> Option<(Ordering, u8)>
     ensures compared { (k : Keying) → IfSome result (λ pair.
         let answer = bytes_compared k left.now right.now in (pair.0 ≡ answer.order) × (pair.1 ≡ answer.level)) }
     ensures accepted { (k : Keying) → IfSome result (λ _. IsAcceptedBy k left.now × IsAcceptedBy k right.now) }
@@ -39,11 +40,35 @@ pub(crate) fn compare_same(left: &[u8], right: &[u8]) -> Option<(Ordering, u8)>
     None
 }
 
+// How two texts of at most fifteen bytes compare, if they are equal, or differ at level 1 right after what they have in
+// common. Only what comes next in each is looked up. There is no result for others.
+#[inline(always)]
+fn compare_short(
+    comparison: &TextComparison,
+    settings: Settings,
+    left: &[u8],
+    right: &[u8],
+) -> Option<(Ordering, u8)>
+    ensures compared { (c : Collation) → AreTrueEntries c comparison.now.plain.points.entries.items → IfSome result (λ pair.
+        let answer = bytes_compared (keying_by c settings) left.now right.now in
+        (pair.0 ≡ answer.order) × (pair.1 ≡ answer.level)) }
+    ensures accepted { (properties : Properties) → IfSome result (λ _.
+        IsAcceptedText settings.numbers properties left.now × IsAcceptedText settings.numbers properties right.now) }
+{
+    let (left, right, shared) = read_short(left, right)?;
+    if shared == left.len() && shared == right.len() {
+        return Some((Ordering::Equal, 0));
+    }
+    let order = comparison.order_after(settings, left, right, shared)?;
+    Some((order, 1))
+}
+
 /// How two texts compare: their order, and the first level at which they differ, or 0.
 ///
 /// # Errors
 ///
 /// `Left` if the left text is rejected, or else `Right` if the right one is.
+#[inline(always)]
 pub(crate) fn compare_bytes(
     collation: &OwnedCollation,
     comparison: &mut TextComparison,
@@ -61,6 +86,34 @@ pub(crate) fn compare_bytes(
     ensures fault { let properties = properties_of collation.now.properties in
         IfErr result (IsCompareCause settings.numbers properties left.now right.now) }
 {
+    match compare_short(comparison, settings, left, right) {
+        Some(pair) => Ok(pair),
+        None => compare_all(collation, comparison, settings, left, right),
+    }
+}
+
+// How two texts compare, as `compare_bytes` says.
+#[inline(never)]
+fn compare_all(
+    collation: &OwnedCollation,
+    comparison: &mut TextComparison,
+    settings: Settings,
+    left: &[u8],
+    right: &[u8],
+) -> Result<(Ordering, u8), CompareFault>
+    requires { AreTrueEntries (owned_collation collation.now) comparison.old.plain.points.entries.items }
+    ensures known { AreTrueEntries (owned_collation collation.now) comparison.new.plain.points.entries.items }
+    ensures compared { IfOk result (λ pair.
+        let answer = bytes_compared (keying_by (owned_collation collation.now) settings) left.now right.now in
+        (pair.0 ≡ answer.order) × (pair.1 ≡ answer.level)) }
+    ensures accepted { let properties = properties_of collation.now.properties in OnOk result (
+        IsAcceptedText settings.numbers properties left.now × IsAcceptedText settings.numbers properties right.now) }
+    ensures fault { let properties = properties_of collation.now.properties in
+        IfErr result (IsCompareCause settings.numbers properties left.now right.now) }
+{
+    if let Some(pair) = compare_same(left, right) {
+        return Ok(pair);
+    }
     let Some(left_text) = read_text(left) else {
         return Err(CompareFault::Left(KeyFault::Utf8));
     };

@@ -1,9 +1,10 @@
-//! Texts that are given as bytes. Up to 32 bytes are judged at once.
+//! Texts that are given as bytes. Up to 32 bytes are judged at once, and so are two texts of up to fifteen.
 
-ghost use Rattle.std.specs.Prelude.{◌≡◌, ◌≤◌, length, take, MatchOption};
+ghost use Rattle.std.specs.Prelude.{◌≡◌, ◌≤◌, length, take, IfSome, MatchOption};
 ghost use Rattle.std.specs.Str.{IsUtf8};
+ghost use Rattle.uca_lanes.specs.Lanes.{IsSharedLen};
 
-use uca_lanes::is_utf8;
+use uca_lanes::{is_utf8, shared_of_short};
 
 // So many bytes are judged as fast as any part of them.
 const AT_ONCE: usize = 32;
@@ -37,4 +38,21 @@ pub(crate) fn read_after<'t>(text: &str, shared: usize, bytes: &'t [u8]) -> Opti
     } else {
         None
     }
+}
+
+/// Two texts of at most fifteen bytes, if both are UTF-8, and how many bytes they have in common at their beginning.
+#[inline(always)]
+pub(crate) fn read_short<'l, 'r>(
+    left: &'l [u8],
+    right: &'r [u8],
+) -> Option<(&'l str, &'r str, usize)>
+    ensures texts { IfSome result (λ read. (read.0.now ≡ left.now) × (read.1.now ≡ right.now)) }
+    ensures short { IfSome result (λ _. (length left.now ≤ 15) × (length right.now ≤ 15)) }
+    ensures utf8 { IfSome result (λ _. IsUtf8 left.now × IsUtf8 right.now) }
+    ensures shared { IfSome result (λ read. IsSharedLen left.now right.now read.2) }
+{
+    let shared = shared_of_short(left, right)?;
+    let left = unsafe { str::from_utf8_unchecked(left) };
+    let right = unsafe { str::from_utf8_unchecked(right) };
+    Some((left, right, shared))
 }

@@ -1,14 +1,13 @@
 -- Two texts go on side by side at level 1.
-use Rattle.std.proofs.Common.{◌≡◌, ℕ, suc, ◌+◌, ◌<◌, ◌≤◌, get_or, List, [], ◌∷◌, ◌++◌, length, Bool, true, false, nat_eq, map, min, Option, Some, None, is_some, not, slice_index_or, drop, inr, refl, sym, ap, subst, ◌∙◌, append-nil, append_assoc, arith}
+use Rattle.std.proofs.Common.{◌≡◌, ℕ, suc, ◌+◌, ◌<◌, ◌≤◌, get_or, drop-cons, List, [], ◌∷◌, ◌++◌, length, Bool, true, false, nat_eq, map, min, Option, Some, None, is_some, not, slice_index_or, drop, inr, refl, sym, ap, subst, ◌∙◌, append-nil, append_assoc, arith}
 use Rattle.std.specs.Prelude.{IfSome}
 use Rattle.std.specs.List.{flat_map}
 use Rattle.std.specs.Str.{chars, IsUtf8}
 use Rattle.std.specs.declared.cmp.Ordering.{Ordering}
 use Rattle.std.proofs.lemmas.Bool.{eqb-true}
-use Rattle.std.proofs.lemmas.Str.{chars_past_char, encode_ascii, IsUtf8-drop, IsUtf8-from_ascii, IsCharBoundary-from_take}
-use Rattle.std.proofs.lemmas.Str.Ascii.{IsAscii-cons}
+use Rattle.std.proofs.lemmas.Str.{chars_past_char, encode_ascii, chars-nil, IsUtf8-drop, IsCharBoundary-before_ascii}
 use Rattle.std.proofs.lemmas.Grind.{flat_map-append}
-use Rattle.std.proofs.lemmas.List.{length-map}
+use Rattle.std.proofs.lemmas.List.{length-map, length-drop, drop_all}
 use Rattle.unicode_normalization.specs.Forms.{nfd, Nfd}
 use Rattle.unicode_normalization.proofs.LengthLemmas.{length-normalize-chars}
 use Rattle.uca_weights.specs.declared.Element.{Element}
@@ -224,19 +223,23 @@ some_first c text ys x e es more utf8 short is plain are begin begins = record {
   runs = short_no_long_run c.properties.class text utf8 short;
 }
 
--- a text that begins with two ASCII bytes
-pub two_ascii : (text : List ℕ) (a b : ℕ) → IsUtf8 text → 2 ≤ length text → get_or text 0 0 ≡ a → get_or text 1 0 ≡ b → a < 128 → b < 128
-    → (ys : List ℕ) × (chars text ≡ a ∷ b ∷ ys)
-two_ascii [] a b utf8 long first second low low_too = absurd (omega (arith, long))
-two_ascii (x ∷ []) a b utf8 long first second low low_too = absurd (omega (arith, long))
-two_ascii (x ∷ y ∷ text) a b utf8 long first second low low_too =
-    let rest_utf8 : IsUtf8 (y ∷ text) = IsUtf8-drop (x ∷ y ∷ text) 1 utf8
-    (IsCharBoundary-from_take (x ∷ y ∷ text) 1 utf8 (omega arith) (IsUtf8-from_ascii (x ∷ []) (IsAscii-cons x [] (omega (arith, first, low)) (λ i. omega arith)))) in
-    let one : chars (x ∷ y ∷ text) ≡ x ∷ chars (y ∷ text) =
-    chars_past_char (x ∷ y ∷ text) (y ∷ text) x utf8 (sym (ap (λ l. l ++ y ∷ text) (encode_ascii x (omega (arith, first, low))))) in
-    let two : chars (y ∷ text) ≡ y ∷ chars text =
-    chars_past_char (y ∷ text) text y rest_utf8 (sym (ap (λ l. l ++ text) (encode_ascii y (omega (arith, second, low_too))))) in
-    (chars text, one ∙ ap (λ l. x ∷ l) two ∙ ap (λ n. n ∷ y ∷ chars text) first ∙ ap (λ n. a ∷ n ∷ chars text) second)
+-- where an ASCII byte comes next in a text, it is the next code point
+pub ascii_next : (text : List ℕ) (at a : ℕ) → IsUtf8 text → at < length text → get_or text at 0 ≡ a → a < 128
+    → IsUtf8 (drop at text) × (chars (drop at text) ≡ a ∷ chars (drop (at + 1) text))
+ascii_next text at a utf8 within is low =
+    let rest = IsUtf8-drop text at utf8 (IsCharBoundary-before_ascii text at within (omega (arith, is, low))) in
+    let next : suc at ≡ at + 1 = omega arith in
+    let split : drop at text ≡ a ∷ drop (at + 1) text = drop-cons text at 0 within ∙ ap (λ b. b ∷ drop (suc at) text) is ∙ ap (λ n. a ∷ drop n text) next in
+    (rest, chars_past_char (drop at text) (drop (at + 1) text) a rest (split ∙ sym (ap (λ l. l ++ drop (at + 1) text) (encode_ascii a low))))
+
+-- so a plain one begins what is left
+pub begins_there : (c : Collation) (text : List ℕ) (at a : ℕ) → IsUtf8 text → at < length text → get_or text at 0 ≡ a → a < 128 → IsPlain c a
+    → BeginsPlain c (chars (drop at text))
+begins_there c text at a utf8 within is low plain = subst (BeginsPlain c) (sym (ascii_next text at a utf8 within is low).1) plain
+
+-- and none begins where the text ends
+pub ends_there : (text : List ℕ) (at : ℕ) → length text ≤ at → chars (drop at text) ≡ []
+ends_there text at end = ap chars (drop_all at text end) ∙ chars-nil
 
 pub first_of_some : (es : List Element) (d : Element) → 1 ≤ length es → es ≡ slice_index_or es 0 d ∷ drop 1 es
 first_of_some [] d some = absurd (omega (arith, some))

@@ -126,6 +126,7 @@ impl<A: Allocator> TextComparison<A> {
 
     /// The order of two texts whose first bytes are the same, so many of them, as
     /// [`order_beginnings`](TextComparison::order_beginnings) tells it. There is no result if they share a code point more.
+    #[inline(always)]
     pub fn order_after(
         &self,
         settings: Settings,

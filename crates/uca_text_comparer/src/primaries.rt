@@ -1,7 +1,8 @@
 //! How two texts compare at level 1, code point by code point.
 
-ghost use Rattle.std.specs.Prelude.{◌≡◌, ◌<◌, ◌≤◌, ℕ, List, Bool, chars, length, IfSome, Some};
+ghost use Rattle.std.specs.Prelude.{◌≡◌, ◌<◌, ◌≤◌, ℕ, List, Bool, chars, drop, length, IfSome, Some};
 ghost use Rattle.std.specs.Bool.{OnTrue};
+ghost use Rattle.std.specs.Str.{IsCharBoundary};
 ghost use Rattle.uca_weights.specs.declared.Element.{Element};
 ghost use Rattle.uca_elements.specs.Collations.{Collation};
 ghost use Rattle.uca_comparison.specs.Fronts;
@@ -181,33 +182,59 @@ pub(crate) fn first_element<A: Allocator>(
     if text.len() > SHORT_REST {
         return None;
     }
-    match ascii_element(points, text) {
-        Some(first) => Some(Some(first)),
+    match ascii_element(points, text, 0) {
+        Some(first) => Some(first),
         None => any_element(points, text),
     }
 }
 
-// The first element of a short text that begins with two ASCII code points. Most texts do, and their first bytes are these
-// code points. There is no result if the first one has no element, or if one of both is not in the cache or not plain.
+/// The first element of what is left of a short text at this position, or none at its end. There is no result if the next
+/// code point or the one after it is no ASCII, as most are. The same is so if the first one has no element, or if one of both
+/// is not in the cache or not plain.
 #[inline(always)]
-fn ascii_element<A: Allocator>(points: &PointCache<A>, text: &str) -> Option<Element>
-    requires { length text.now ≤ 32 }
-    ensures { (c : Collation) → AreTrueEntries c points.now.entries.items →
-        IfSome result (λ first. HasFirst c (chars text.now) (Some first)) }
+pub(crate) fn ascii_element<A: Allocator>(
+    points: &PointCache<A>,
+    text: &str,
+    at: usize,
+) -> Option<Option<Element>>
+    requires short { length text.now ≤ 32 }
+    requires within { at ≤ length text.now }
+    ensures first { (c : Collation) → AreTrueEntries c points.now.entries.items →
+        IfSome result (HasFirst c (chars (drop at text.now))) }
+    ensures boundary { IfSome result (λ first. IsCharBoundary text.now at) }
 {
     let bytes = text.as_bytes();
-    if bytes.len() < 2 || bytes[0] >= 0x80 || bytes[1] >= 0x80 {
+    if at == bytes.len() {
+        return Some(None);
+    }
+    if bytes[at] >= 0x80 || !goes_on_plain(points, text, at + 1) {
         return None;
     }
-    let known = points.find(char::from(bytes[0]))?;
-    let next = points.find(char::from(bytes[1]))?;
-    if next.is_bound() {
-        return None;
-    }
+    let known = points.find(char::from(bytes[at]))?;
     let Some([first, ..]) = known.elements() else {
         return None;
     };
-    Some(*first)
+    Some(Some(*first))
+}
+
+// Whether a text ends at this position, or goes on there with an ASCII code point that is in the cache and plain.
+#[inline(always)]
+fn goes_on_plain<A: Allocator>(points: &PointCache<A>, text: &str, at: usize) -> bool
+    requires { at ≤ length text.now }
+    ensures { (c : Collation) → AreTrueEntries c points.now.entries.items →
+        OnTrue result (BeginsPlain c (chars (drop at text.now))) }
+{
+    let bytes = text.as_bytes();
+    if at == bytes.len() {
+        return true;
+    }
+    if bytes[at] >= 0x80 {
+        return false;
+    }
+    match points.find(char::from(bytes[at])) {
+        Some(known) => !known.is_bound(),
+        None => false,
+    }
 }
 
 // The first element of a short text, as `first_element` says.

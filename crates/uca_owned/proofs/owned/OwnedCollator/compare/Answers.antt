@@ -5,12 +5,6 @@ use Rattle.uca_order.specs.Keyings.{bytes_compared}
 use Rattle.uca_owned.specs.Owned.{OwnedState, keying_in}
 use Rattle.uca_owned.proofs.owned.OwnedCollator.compare.Goals as goal
 
-pub returns-in-Some-clause-compared : goal.returns-in-Some-clause-compared
-returns-in-Some-clause-compared c = c.in-Some.ensures.compared (keying_in c.args.self.now)
-
-pub returns-in-Some-clause-accepted : goal.returns-in-Some-clause-accepted
-returns-in-Some-clause-accepted c = c.in-Some.ensures.accepted (keying_in c.args.self.now)
-
 pub returns-clause-compared : goal.returns-clause-compared
 returns-clause-compared c =
     let left = c.args.left.now in

@@ -1,0 +1,73 @@
+-- Two short texts, with zeros after each.
+use Rattle.std.proofs.Common.{◌≡◌, ℕ, suc, ◌+◌, ◌-◌, ◌<◌, ◌≤◌, ◌↔◌, List, ◌++◌, length, length-append, get_or, min, replicate, refl, sym, subst, ap, ap₂, ◌∙◌, arith, append_assoc}
+use Rattle.std.specs.Str.{IsUtf8}
+use Rattle.std.proofs.lemmas.List.{get_or_append_left, get_or_at, take_at, drop_at}
+use Rattle.std.proofs.lemmas.Str.{IsUtf8-append, IsUtf8-take, IsUtf8-drop, IsCharBoundary-before_ascii}
+use Rattle.simdutf8.proofs.StepsLemmas.{IsUtf8-append_ascii, IsUtf8-after_ascii, IsAscii-replicate}
+use Rattle.uca_lanes.specs.Lanes.{IsSameRun, IsSharedLen}
+use Rattle.uca_lanes.specs.inside.Marks.{joined}
+use Rattle.uca_lanes.proofs.LaneSteps.{same_front}
+
+abbrev zeros : ℕ → List ℕ
+zeros n = replicate n 0
+
+-- so many bytes, with zeros up to sixteen
+abbrev padded : List ℕ → List ℕ
+padded bytes = bytes ++ zeros (16 - length bytes)
+
+-- ---- Whether both are UTF-8
+
+-- a zero parts a text in two
+zero_parts : (left rest : List ℕ) (n : ℕ) → IsUtf8 (left ++ (zeros (suc n) ++ rest)) → IsUtf8 left × IsUtf8 rest
+zero_parts left rest n text =
+    let all = left ++ (zeros (suc n) ++ rest) in
+    let here = IsCharBoundary-before_ascii all (length left) (omega (arith, length-append left (zeros (suc n) ++ rest)))
+    (omega (arith, get_or_at left 0 (zeros n ++ rest) 0 (length left) refl)) in (
+      subst IsUtf8 (take_at left (zeros (suc n) ++ rest) (length left) refl) (IsUtf8-take all (length left) text here),
+      (IsUtf8-after_ascii (zeros (suc n)) rest (IsAscii-replicate (suc n) 0 (omega arith))).0
+          (subst IsUtf8 (drop_at left (zeros (suc n) ++ rest) (length left) refl) (IsUtf8-drop all (length left) text here)),
+    )
+
+pub both_texts : (left right one other : List ℕ) → length left ≤ 15 → one ≡ padded left → other ≡ padded right
+    → IsUtf8 (joined one other 0) ↔ (IsUtf8 left × IsUtf8 right)
+both_texts left right one other few is is_too =
+    let n = 15 - length left in
+    let some : 16 - length left ≡ suc n = omega (arith, few) in
+    let zeros_after = IsUtf8-append_ascii right (zeros (16 - length right)) (IsAscii-replicate (16 - length right) 0 (omega arith)) in
+    let zeros_before = IsUtf8-after_ascii (zeros (suc n)) (padded right) (IsAscii-replicate (suc n) 0 (omega arith)) in
+    let same : joined one other 0 ≡ left ++ (zeros (suc n) ++ padded right) =
+    ap₂ (λ l m. l ++ m) (is ∙ ap (λ k. left ++ zeros k) some) is_too ∙ append_assoc left (zeros (suc n)) (padded right) in (
+      λ u. (let parts = zero_parts left (padded right) n (subst IsUtf8 same u) in (parts.0, zeros_after.0 parts.1)),
+      λ h. subst IsUtf8 (sym same) (IsUtf8-append left (zeros (suc n) ++ padded right) h.0 (zeros_before.1 (zeros_after.1 h.1))),
+    )
+
+-- ---- What they have in common
+
+in_padded : (bytes lanes : List ℕ) (i : ℕ) → lanes ≡ padded bytes → i < length bytes → get_or lanes i 0 ≡ get_or bytes i 0
+in_padded bytes lanes i is within = ap (λ l. get_or l i 0) is ∙ get_or_append_left bytes (zeros (16 - length bytes)) 0 i within
+
+pub shared_of_padded : (left right one other : List ℕ) (same shared : ℕ) → length left ≤ 15 → length right ≤ 15 → one ≡ padded left → other ≡ padded right
+    → IsSameRun one other 0 0 16 same → shared ≡ min (min same (length left)) (length right) → IsSharedLen left right shared
+shared_of_padded left right one other same shared few few_too is is_too run least = record {
+  in_left = omega (arith, least);
+  in_right = omega (arith, least);
+  same = same_front shared left right (omega (arith, least)) (omega (arith, least))
+      (λ i below. are i (omega (arith, least, below)) (omega (arith, least, below)) (omega (arith, least, below)));
+  apart = λ more more_too.
+      let all : shared ≡ same = omega (arith, least, more, more_too) in
+      subst (λ n. n < length left → n < length right → get_or left n 0 ≡ get_or right n 0 → ⊥) (sym all) apart_at more more_too;
+}
+  where
+    zeroth : (k : ℕ) → 0 + k ≡ k
+    zeroth k = omega arith
+
+    are : (i : ℕ) → i < same → i < length left → i < length right → get_or left i 0 ≡ get_or right i 0
+    are i below within within_too =
+        sym (in_padded left one i is within)
+        ∙ subst (λ n. get_or one n 0 ≡ get_or other n 0) (zeroth i) (run.are i below)
+        ∙ in_padded right other i is_too within_too
+
+    apart_at : same < length left → same < length right → get_or left same 0 ≡ get_or right same 0 → ⊥
+    apart_at within within_too equal =
+        run.apart (omega (arith, within, few)) (subst (λ n. get_or one n 0 ≡ get_or other n 0) (sym (zeroth same))
+        (in_padded left one same is within ∙ equal ∙ sym (in_padded right other same is_too within_too)))
