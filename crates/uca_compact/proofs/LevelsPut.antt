@@ -6,17 +6,15 @@ use Rattle.std.specs.Ordering.{nat_cmp}
 use Rattle.std.specs.declared.cmp.Ordering.{Ordering}
 use Rattle.std.specs.declared.cmp.Ordering.TheVariants.{Greater}
 use Rattle.std.proofs.lemmas.Bool.Decides.{nat_tests}
-use Rattle.std.proofs.lemmas.List.{drop_all, length-drop}
-use Rattle.uca_lanes.specs.Lanes.{IsSameRun}
-use Rattle.uca_lanes.specs.Pairs.{MarksPairs, IsPairRun}
+use Rattle.std.proofs.lemmas.List.{drop_all, get_or-drop, length-drop}
+use Rattle.uca_lanes.specs.Pairs.{pair_at, MarksPairs, IsPairRun}
 use Rattle.uca_order.specs.Levels.{lexicographic}
 use Rattle.uca_order.proofs.KeyOrder.{cmp_less, cmp_equal, cmp_greater}
 use Rattle.uca_compact.specs.Forms.{AreRising, Form, IsForm, step, full, first_cell}
 use Rattle.uca_compact.specs.PlainLevels.{copies, is_lead, letters_after, letter_count}
 use Rattle.uca_compact.specs.CompactKeys.{cell, written, run_after, level_code}
 use Rattle.uca_compact.specs.LevelBytes.{weights_in, AreWeightBytes}
-use Rattle.uca_compact.specs.inside.StoredEnds.{weight_of}
-use Rattle.uca_compact.specs.inside.LevelsPut.{AreBefore, IsPutTo, AreUpTo, IsLaterTo, AreEight}
+use Rattle.uca_compact.specs.inside.LevelsPut.{AreBefore, IsPutTo, AreUpTo, IsLaterTo}
 use Rattle.uca_compact.proofs.OnlyLevels.{weight_code}
 use Rattle.uca_compact.proofs.PlainSteps.{RunIs, longer_level, other_weight, same_weight, shorter_level}
 use Rattle.uca_compact.proofs.StoredSteps.{two_at}
@@ -28,7 +26,7 @@ pub none_before : (level : List ℕ) → AreBefore level 0 []
 none_before level = record { size = refl; within = omega arith; upto = refl }
 
 -- one weight more is before the next position
-pub more_before : (level front : List ℕ) (at w : ℕ) → AreBefore level at front → at + 1 < length level → w ≡ weight_of level at → AreBefore level (at + 2) (front ++ w ∷ [])
+pub more_before : (level front : List ℕ) (at w : ℕ) → AreBefore level at front → at + 1 < length level → w ≡ pair_at level at → AreBefore level (at + 2) (front ++ w ∷ [])
 more_before level front at w before within is =
     let size = before.size in
     let longer : length (front ++ w ∷ []) ≡ length front + 1 = length-append front (w ∷ []) in
@@ -43,7 +41,7 @@ more_before level front at w before within is =
     }
 
 -- the weight that two bytes are
-pub weight_read : (level : List ℕ) (at w : ℕ) → w ≡ from_be_bytes w16 (get_or level at 0 ∷ get_or level (at + 1) 0 ∷ []) → w ≡ weight_of level at
+pub weight_read : (level : List ℕ) (at w : ℕ) → w ≡ from_be_bytes w16 (get_or level at 0 ∷ get_or level (at + 1) 0 ∷ []) → w ≡ pair_at level at
 weight_read level at w is = omega (arith, is)
 
 -- no position of a weight is that of the last byte
@@ -56,9 +54,9 @@ among [] rest w all = all.0
 among (v ∷ front) rest w all = among front rest w all.1
 
 -- the weight there is not 0
-pub some_there : (level front : List ℕ) (at : ℕ) → AreWeightBytes level → AreBefore level at front → at + 1 < length level → 0 < weight_of level at
+pub some_there : (level front : List ℕ) (at : ℕ) → AreWeightBytes level → AreBefore level at front → at + 1 < length level → 0 < pair_at level at
 some_there level front at are before within =
-    among front (weights_in (drop (at + 2) level)) (weight_of level at)
+    among front (weights_in (drop (at + 2) level)) (pair_at level at)
     (subst (AllByRecursion (λ (v : ℕ). 0 < v)) (sym (ap (λ (bytes : List ℕ). front ++ weights_in bytes) (sym (two_at level at within)) ∙ before.upto)) are.some)
 
 -- all weights are before the end
@@ -67,7 +65,7 @@ all_before level front at before end =
     sym (append-nil front) ∙ ap (λ (bytes : List ℕ). front ++ weights_in bytes) (sym (drop_all at level end)) ∙ before.upto
 
 -- a weight by its number
-weight_in : (level : List ℕ) (k : ℕ) → 2 * k + 1 < length level → get_or (weights_in level) k 0 ≡ weight_of level (2 * k)
+weight_in : (level : List ℕ) (k : ℕ) → 2 * k + 1 < length level → get_or (weights_in level) k 0 ≡ pair_at level (2 * k)
 weight_in [] k within = absurd (omega arith)
 weight_in (a ∷ []) k within = absurd (omega (arith, within))
 weight_in (a ∷ b ∷ level) zero within = refl
@@ -116,7 +114,7 @@ count_fits false count more n one few = omega (arith, one)
 
 -- one weight more was put
 pub letter_put : (f : Form) (level out new : List ℕ) (at count more w : ℕ) (lead : Bool) → f.common ≡ 0 → IsPutTo f level out at count lead
-    → at + 1 < length level → w ≡ weight_of level at → 0 < w
+    → at + 1 < length level → w ≡ pair_at level at → 0 < w
     → new ≡ out ++ cell (first_cell f) 1 f.greater 65536 w → more ≡ count + (if lead then 0 else 1)
     → IsPutTo f level new (at + 2) more (not lead && is_lead w)
 letter_put f level out new at count more w lead none so_far within is some put one =
@@ -137,7 +135,7 @@ letter_put f level out new at count more w lead none so_far within is some put o
 
 -- one that is no lead, after no lead
 pub known_put : (f : Form) (level out new : List ℕ) (at count w : ℕ) (lead : Bool) → lead ≡ false → f.common ≡ 0
-    → IsPutTo f level out at count lead → at + 1 < length level → w ≡ weight_of level at → 0 < w → w < 0xFB00
+    → IsPutTo f level out at count lead → at + 1 < length level → w ≡ pair_at level at → 0 < w → w < 0xFB00
     → new ≡ out ++ cell (first_cell f) 1 f.greater 65536 w → IsPutTo f level new (at + 2) (count + 1) lead
 known_put f level out new at count w lead after_none none so_far within is some low put =
     let test : nat_lt w 0xFB00 ≡ true = grind (arith, nat_tests) in
@@ -166,86 +164,6 @@ letters_counted f level out at count lead so_far last =
 
 -- ---- Runs
 
--- a weight of two bytes, eight times
-pub eight_are : (h l w : ℕ) → 256 * h + l ≡ w
-    → AreEight (h ∷ l ∷ h ∷ l ∷ h ∷ l ∷ h ∷ l ∷ h ∷ l ∷ h ∷ l ∷ h ∷ l ∷ h ∷ l ∷ []) w
-eight_are h l w is zero below = is
-eight_are h l w is (suc zero) below = is
-eight_are h l w is (suc (suc zero)) below = is
-eight_are h l w is (suc (suc (suc zero))) below = is
-eight_are h l w is (suc (suc (suc (suc zero)))) below = is
-eight_are h l w is (suc (suc (suc (suc (suc zero))))) below = is
-eight_are h l w is (suc (suc (suc (suc (suc (suc zero)))))) below = is
-eight_are h l w is (suc (suc (suc (suc (suc (suc (suc zero))))))) below = is
-eight_are h l w is (suc (suc (suc (suc (suc (suc (suc (suc k)))))))) below = absurd (omega arith)
-
--- such bytes are one by one
-small_bytes : (xs : List ℕ) → AllByRecursion (λ (b : ℕ). b < 256) xs → (k : ℕ) → get_or xs k 0 < 256
-small_bytes [] all k = omega arith
-small_bytes (b ∷ xs) all zero = all.0
-small_bytes (b ∷ xs) all (suc k) = small_bytes xs all.1 k
-
--- they are bytes
-pub eight_bytes : (h l : ℕ) → h < 256 → l < 256 → (k : ℕ)
-    → get_or (h ∷ l ∷ h ∷ l ∷ h ∷ l ∷ h ∷ l ∷ h ∷ l ∷ h ∷ l ∷ h ∷ l ∷ h ∷ l ∷ []) k 0 < 256
-eight_bytes h l high low =
-    small_bytes (h ∷ l ∷ h ∷ l ∷ h ∷ l ∷ h ∷ l ∷ h ∷ l ∷ h ∷ l ∷ h ∷ l ∷ h ∷ l ∷ [])
-    (high, (low, (high, (low, (high, (low, (high, (low, (high, (low, (high, (low, (high, (low, (high, (low, tt))))))))))))))))
-
--- the weights that have the same bytes are this one
-run_are : (bytes eight : List ℕ) (at n same w k : ℕ) → n ≤ 16 → IsSameRun bytes eight at 0 n same → AreEight eight w → k < same / 2
-    → weight_of bytes (at + 2 * k) ≡ w
-run_are bytes eight at n same w k few run are below =
-    let here : 0 + 2 * k ≡ 2 * k = omega arith in
-    let beside : 0 + (2 * k + 1) ≡ 2 * k + 1 = omega arith in
-    let first = run.are (2 * k) (omega (arith, below)) ∙ ap (λ (n : ℕ). get_or eight n 0) here in
-    let second = run.are (2 * k + 1) (omega (arith, below)) ∙ ap (λ (n : ℕ). get_or eight n 0) beside in
-    let within = run.within in
-    let next : at + (2 * k + 1) ≡ at + 2 * k + 1 = omega arith in
-    ap₂ (λ (a b : ℕ). 256 * a + b) first (subst (λ (n : ℕ). get_or bytes n 0 ≡ get_or eight (2 * k + 1) 0) next second)
-    ∙ are k (omega (arith, below, within, few))
-
--- so many more are
-pub more_are : (bytes eight : List ℕ) (at run n same w k : ℕ) → ((j : ℕ) → j < run → weight_of bytes (at + 2 * j) ≡ w) → n ≤ 16
-    → IsSameRun bytes eight (at + 2 * run) 0 n same → AreEight eight w → k < run + same / 2 → weight_of bytes (at + 2 * k) ≡ w
-more_are bytes eight at run n same w k so_far few found are below = by_place (nat_lt k run) refl
-  where
-    by_place : (t : Bool) → nat_lt k run ≡ t → weight_of bytes (at + 2 * k) ≡ w
-    by_place true is = so_far k (grind (arith, nat_tests))
-    by_place false is =
-        let from : run ≤ k = grind (arith, nat_tests) in
-        let there : at + 2 * run + 2 * (k - run) ≡ at + 2 * k = omega (arith, from) in
-        subst (λ (n : ℕ). weight_of bytes n ≡ w) there (run_are bytes eight (at + 2 * run) n same w (k - run) few found are (omega (arith, from, below)))
-
--- the next one is not
-pub run_ended : (bytes eight : List ℕ) (at n same w : ℕ) → ((k : ℕ) → get_or bytes k 0 < 256) → ((k : ℕ) → get_or eight k 0 < 256)
-    → n ≤ 16 → IsSameRun bytes eight at 0 n same → AreEight eight w → same < n → weight_of bytes (at + 2 * (same / 2)) ≢ w
-run_ended bytes eight at n same w small small_eight few run are less is =
-    let k = same / 2 in
-    let there = are k (omega (arith, less, few)) in
-    let here : at + 2 * k + 1 ≡ at + (2 * k + 1) = omega arith in
-    let a = small (at + 2 * k) in
-    let b = small (at + 2 * k + 1) in
-    let c = small_eight (2 * k) in
-    let d = small_eight (2 * k + 1) in
-    let both : 256 * get_or bytes (at + 2 * k) 0 + get_or bytes (at + 2 * k + 1) 0 ≡ 256 * get_or eight (2 * k) 0 + get_or eight (2 * k + 1) 0 = is ∙ sym there in
-    let low : get_or bytes (at + 2 * k) 0 ≡ get_or eight (2 * k) 0 = omega (arith, both, a, b, c, d) in
-    let high : get_or bytes (at + 2 * k + 1) 0 ≡ get_or eight (2 * k + 1) 0 = omega (arith, both, a, b, c, d) in
-    by_rest (nat_eq (2 * k) same) refl low (subst (λ (n : ℕ). get_or bytes n 0 ≡ get_or eight (2 * k + 1) 0) here high)
-  where
-    zeroth : same ≡ 0 + same
-    zeroth = omega arith
-
-    by_rest : (t : Bool) → nat_eq (2 * (same / 2)) same ≡ t → get_or bytes (at + 2 * (same / 2)) 0 ≡ get_or eight (2 * (same / 2)) 0
-        → get_or bytes (at + (2 * (same / 2) + 1)) 0 ≡ get_or eight (2 * (same / 2) + 1) 0 → ⊥
-    by_rest true e low high =
-        let even : 2 * (same / 2) ≡ same = grind (arith, nat_tests) in
-        run.apart less (subst (λ (n : ℕ). get_or bytes (at + n) 0 ≡ get_or eight n 0) even low ∙ ap (λ (n : ℕ). get_or eight n 0) zeroth)
-    by_rest false e low high =
-        let apart : 2 * (same / 2) ≢ same = grind (arith, nat_tests) in
-        let odd : 2 * (same / 2) + 1 ≡ same = omega (arith, apart) in
-        run.apart less (subst (λ (n : ℕ). get_or bytes (at + n) 0 ≡ get_or eight n 0) odd high ∙ ap (λ (n : ℕ). get_or eight n 0) zeroth)
-
 -- the run that the marks tell
 pub marked_run : (level : List ℕ) (weight marks at most least count first : ℕ) → MarksPairs level weight marks → 2 * (length level / 2) ≡ length level
     → 2 * (at / 2) ≡ at → at ≤ length level → at < 64 → least ≡ min (length level) 64 → count ≡ min ((least - at) / 2) most
@@ -254,17 +172,40 @@ pub marked_run : (level : List ℕ) (weight marks at most least count first : �
 marked_run level weight marks at most least count first marked whole even within small all few found =
     subst (λ (n : ℕ). IsPairRun level weight n count first) even (found level weight marked (omega (arith, whole, even, within, small, all, few)))
 
--- a run, and those that follow it
-pub run_goes_on : (level : List ℕ) (weight at first next more k : ℕ) → ((j : ℕ) → j < first → weight_of level (at + 2 * j) ≡ weight) → at + 2 * first ≡ next
-    → ((j : ℕ) → j < more → weight_of level (next + 2 * j) ≡ weight) → k < first + more → weight_of level (at + 2 * k) ≡ weight
-run_goes_on level weight at first next more k are there more_so below = by_place (nat_lt k first) refl
+-- a run that ends among the weights that are marked
+pub short_run : (level : List ℕ) (weight first : ℕ) → IsPairRun level weight 0 (min ((min (length level) 64 - 0) / 2) 32) first → first < 32
+    → IsPairRun level weight 0 (length level / 2) first
+short_run level weight first run few =
+    let within = run.within in
+    record {
+      within = omega (arith, within);
+      are = run.are;
+      apart = λ less. run.apart (omega (arith, less, few));
+    }
+
+-- so many weights are this one, and a run follows them
+pub longer_run : (level rest : List ℕ) (weight first count all more : ℕ) → ((k : ℕ) → k < first → pair_at level (0 + 2 * k) ≡ weight)
+    → rest ≡ drop (2 * first) level → IsPairRun rest weight 0 count more → first + count ≡ all → IsPairRun level weight 0 all (first + more)
+longer_run level rest weight first count all more are is run sum =
+    let within = run.within in
+    record {
+      within = omega (arith, within, sum);
+      are = λ k below. by_place k below (nat_lt k first) refl;
+      apart = λ less same.
+          run.apart (omega (arith, less, sum)) (there (0 + 2 * more) (0 + 2 * (first + more)) (omega arith) ∙ same);
+    }
   where
-    by_place : (t : Bool) → nat_lt k first ≡ t → weight_of level (at + 2 * k) ≡ weight
-    by_place true is = are k (grind (arith, nat_tests))
-    by_place false is =
+    byte : (i at : ℕ) → 2 * first + i ≡ at → get_or rest i 0 ≡ get_or level at 0
+    byte i at e = ap (λ (bytes : List ℕ). get_or bytes i 0) is ∙ get_or-drop (2 * first) level i 0 ∙ ap (λ (n : ℕ). get_or level n 0) e
+
+    there : (i at : ℕ) → 2 * first + i ≡ at → pair_at rest i ≡ pair_at level at
+    there i at e = ap₂ (λ (a b : ℕ). 256 * a + b) (byte i at e) (byte (i + 1) (at + 1) (omega (arith, e)))
+
+    by_place : (k : ℕ) → k < first + more → (t : Bool) → nat_lt k first ≡ t → pair_at level (0 + 2 * k) ≡ weight
+    by_place k below true test = are k (grind (arith, nat_tests))
+    by_place k below false test =
         let from : first ≤ k = grind (arith, nat_tests) in
-        let place : next + 2 * (k - first) ≡ at + 2 * k = omega (arith, from, there) in
-        subst (λ (n : ℕ). weight_of level n ≡ weight) place (more_so (k - first) (omega (arith, from, below)))
+        sym (there (0 + 2 * (k - first)) (0 + 2 * k) (omega (arith, from))) ∙ run.are (k - first) (omega (arith, from, below))
 
 -- ---- How a level compares
 
@@ -279,31 +220,28 @@ runs_to ws w count (suc i) within fits are =
     (same_weight ws i w (count - i) (lexicographic ws (copies w count)) (omega (arith, within)) (λ none. omega (arith, none, fits)) (are i (omega arith))
     (runs_to ws w count i (omega (arith, within)) (omega (arith, fits)) (λ k below. are k (omega (arith, below)))))
 
--- from the first position on
-pub from_first : (level : List ℕ) (w n : ℕ) → weight_of level (0 + n) ≡ w → weight_of level n ≡ w
-from_first level w n is = let same : 0 + n ≡ n = omega arith in subst (λ (m : ℕ). weight_of level m ≡ w) same is
-
-to_first : (level : List ℕ) (w n : ℕ) → weight_of level n ≡ w → weight_of level (0 + n) ≡ w
-to_first level w n is = let same : n ≡ 0 + n = omega arith in subst (λ (m : ℕ). weight_of level m ≡ w) same is
+-- a weight by its number, and its place as that of a run says it
+from_first : (level : List ℕ) (k : ℕ) → 2 * k + 1 < length level → get_or (weights_in level) k 0 ≡ pair_at level (0 + 2 * k)
+from_first level k within = let same : 2 * k ≡ 0 + 2 * k = omega arith in weight_in level k within ∙ ap (pair_at level) same
 
 -- another weight decides
-pub other_decides : (level : List ℕ) (w count run : ℕ) → AreWeightBytes level → ((k : ℕ) → k < run → weight_of level (0 + 2 * k) ≡ w)
-    → (0 + 2 * run + 1 < length level → weight_of level (0 + 2 * run) ≢ w) → run < length level / 2 → run < count
-    → nat_cmp (weight_of level (2 * run)) w ≡ lexicographic (weights_in level) (copies w count)
-other_decides level w count run whole are apart within few =
+pub other_decides : (level : List ℕ) (w count run : ℕ) → AreWeightBytes level → IsPairRun level w 0 (length level / 2) run
+    → run < length level / 2 → run < count
+    → nat_cmp (pair_at level (2 * run)) w ≡ lexicographic (weights_in level) (copies w count)
+other_decides level w count run whole found within few =
     let half = half_of level whole in
-    let there : get_or (weights_in level) run 0 ≡ weight_of level (2 * run) = weight_in level run (omega (arith, within)) in
+    let there : get_or (weights_in level) run 0 ≡ pair_at level (2 * run) = weight_in level run (omega (arith, within)) in
     ap (λ (n : ℕ). nat_cmp n w) (sym there)
     ∙ other_weight (weights_in level) run w (count - run) (lexicographic (weights_in level) (copies w count)) (omega (arith, within, half)) (λ none. omega (arith, none, few))
-    (λ same. apart (omega (arith, within)) (to_first level w (2 * run) (sym there ∙ same)))
+    (λ same. found.apart within (sym (from_first level run (omega (arith, within))) ∙ same))
     (runs_to (weights_in level) w count run (omega (arith, within, half)) (omega (arith, few))
-    (λ k below. weight_in level k (omega (arith, within, below)) ∙ from_first level w (2 * k) (are k below)))
+    (λ k below. from_first level k (omega (arith, within, below)) ∙ found.are k below))
 
 -- else the lengths do
-pub lengths_decide : (level : List ℕ) (w count run : ℕ) → AreWeightBytes level → ((k : ℕ) → k < run → weight_of level (0 + 2 * k) ≡ w)
-    → 2 * run ≤ length level → (length level / 2 ≤ run) ⊎ (count ≤ run)
+pub lengths_decide : (level : List ℕ) (w count run : ℕ) → AreWeightBytes level → IsPairRun level w 0 (length level / 2) run
+    → (length level / 2 ≤ run) ⊎ (count ≤ run)
     → nat_cmp (length level / 2) count ≡ lexicographic (weights_in level) (copies w count)
-lengths_decide level w count run whole are within end =
+lengths_decide level w count run whole found end =
     let half = half_of level whole in
     ap (λ (n : ℕ). nat_cmp n count) half ∙ by_len (nat_lt count (length (weights_in level))) refl (nat_eq count (length (weights_in level))) refl
   where
@@ -311,7 +249,7 @@ lengths_decide level w count run whole are within end =
     all = lexicographic (weights_in level) (copies w count)
 
     same : (k : ℕ) → k < run → get_or (weights_in level) k 0 ≡ w
-    same k below = weight_in level k (omega (arith, within, below)) ∙ from_first level w (2 * k) (are k below)
+    same k below = let within = found.within in from_first level k (omega (arith, within, below)) ∙ found.are k below
 
     by_len : (t : Bool) → nat_lt count (length (weights_in level)) ≡ t → (e : Bool) → nat_eq count (length (weights_in level)) ≡ e
         → nat_cmp (length (weights_in level)) count ≡ all
@@ -350,7 +288,7 @@ none_up_to : (level : List ℕ) → AreWeightBytes level → AreUpTo level level
 none_up_to level are = let whole = are.whole in record { size = omega arith; within = omega arith; even = refl; whole = omega (arith, whole); upto = refl }
 
 -- one weight more is before the next position
-one_up_to : (level rest ws : List ℕ) (at w : ℕ) → AreUpTo level rest at ws → at < length rest → w ≡ weight_of rest at → AreUpTo level rest (at + 2) (ws ++ w ∷ [])
+one_up_to : (level rest ws : List ℕ) (at w : ℕ) → AreUpTo level rest at ws → at < length rest → w ≡ pair_at rest at → AreUpTo level rest (at + 2) (ws ++ w ∷ [])
 one_up_to level rest ws at w before inside is =
     let size = before.size in
     let even = before.even in
@@ -369,11 +307,11 @@ one_up_to level rest ws at w before inside is =
     }
 
 -- the weight there is not 0
-pub some_later : (level rest ws : List ℕ) (at : ℕ) → AreWeightBytes level → AreUpTo level rest at ws → at < length rest → 0 < weight_of rest at
+pub some_later : (level rest ws : List ℕ) (at : ℕ) → AreWeightBytes level → AreUpTo level rest at ws → at < length rest → 0 < pair_at rest at
 some_later level rest ws at are before inside =
     let even = before.even in
     let whole = before.whole in
-    among ws (weights_in (drop (at + 2) rest)) (weight_of rest at)
+    among ws (weights_in (drop (at + 2) rest)) (pair_at rest at)
     (subst (AllByRecursion (λ (v : ℕ). 0 < v))
     (sym (ap (λ (bytes : List ℕ). ws ++ weights_in bytes) (sym (two_at rest at (omega (arith, inside, even, whole)))) ∙ before.upto)) are.some)
 
@@ -383,7 +321,7 @@ none_later f end level front are some = record { weights = []; before = none_up_
 
 -- one weight more was put
 pub one_later : (f : Form) (end : ℕ) (level rest front out new : List ℕ) (at run after w : ℕ) → IsLaterTo f end level rest front out at run
-    → at < length rest → w ≡ weight_of rest at
+    → at < length rest → w ≡ pair_at rest at
     → new ≡ out ++ written f run w (nat_cmp w f.common) → after ≡ run_after f run (nat_cmp w f.common) → after < f.longest
     → IsLaterTo f end level rest front new (at + 2) after
 one_later f end level rest front out new at run after w so_far inside is added runs short =
@@ -402,7 +340,7 @@ one_later f end level rest front out new at run after w so_far inside is added r
 
 -- one common weight more makes a run longer
 common_later : (f : Form) (end : ℕ) (level rest front out : List ℕ) (at run : ℕ) → IsLaterTo f end level rest front out at run → at < length rest
-    → weight_of rest at ≡ f.common → run + 1 < f.longest → IsLaterTo f end level rest front out (at + 2) (run + 1)
+    → pair_at rest at ≡ f.common → run + 1 < f.longest → IsLaterTo f end level rest front out (at + 2) (run + 1)
 common_later f end level rest front out at run so_far inside is short =
     let equal = cmp_equal f.common f.common refl in
     let test : nat_eq (suc run) f.longest ≡ false = grind (arith, nat_tests) in
@@ -414,7 +352,7 @@ common_later f end level rest front out at run so_far inside is short =
 
 -- so many more do
 pub run_later : (f : Form) (end : ℕ) (level rest front out : List ℕ) (at run more : ℕ) → IsLaterTo f end level rest front out at run
-    → ((k : ℕ) → k < more → weight_of rest (at + 2 * k) ≡ f.common) → at + 2 * more ≤ length rest → run + more < f.longest
+    → ((k : ℕ) → k < more → pair_at rest (at + 2 * k) ≡ f.common) → at + 2 * more ≤ length rest → run + more < f.longest
     → IsLaterTo f end level rest front out (at + 2 * more) (run + more)
 run_later f end level rest front out at run zero so_far are within short =
     let here : at ≡ at + 2 * 0 = omega arith in
@@ -429,14 +367,13 @@ run_later f end level rest front out at run (suc n) so_far are within short =
     (omega (arith, within)) (are n (omega arith)) (omega (arith, short)))
 
 -- the run that the level begins with
-pub begun_later : (f : Form) (end : ℕ) (level front : List ℕ) (run : ℕ) → AreWeightBytes level → ((k : ℕ) → k < run → weight_of level (2 * k) ≡ f.common)
+pub begun_later : (f : Form) (end : ℕ) (level front : List ℕ) (run : ℕ) → AreWeightBytes level → ((k : ℕ) → k < run → pair_at level (0 + 2 * k) ≡ f.common)
     → 2 * run ≤ length level → run < f.longest → IsLaterTo f end level level front front (2 * run) run
 begun_later f end level front run whole are within short =
     let here : 0 + 2 * run ≡ 2 * run = omega arith in
     let same : 0 + run ≡ run = omega arith in
     subst₂ (IsLaterTo f end level level front front) here same
-    (run_later f end level level front front 0 0 run (none_later f end level front whole (omega (arith, short))) (λ k below. to_first level f.common (2 * k) (are k below))
-    (omega (arith, within)) (omega (arith, short)))
+    (run_later f end level level front front 0 0 run (none_later f end level front whole (omega (arith, short))) are (omega (arith, within)) (omega (arith, short)))
 
 -- where the same bytes follow, so many do
 pub as_many_follow : (rest also : List ℕ) (at there : ℕ) → drop there also ≡ drop at rest → at ≤ length rest → there ≤ length also

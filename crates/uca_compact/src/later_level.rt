@@ -1,6 +1,6 @@
 //! Compares a level after others to the plain one, and codes it. Mostly it is plain, and then nothing is written.
 
-ghost use Rattle.std.specs.Prelude.{◌≡◌, ◌≢◌, ℕ, ◌+◌, ◌-◌, ◌*◌, ◌/◌, ◌<◌, ◌≤◌, ◌++◌, drop, get_or, length, min, take};
+ghost use Rattle.std.specs.Prelude.{◌≡◌, ℕ, ◌+◌, ◌-◌, ◌*◌, ◌/◌, ◌<◌, ◌≤◌, ◌++◌, drop, length, min, take};
 ghost use Rattle.uca_lanes.specs.Pairs.{MarksPairs, IsPairRun};
 ghost use Rattle.uca_order.specs.Levels.{lexicographic};
 ghost use Rattle.uca_compact.specs.CompactKeys.{level_code};
@@ -8,13 +8,11 @@ ghost use Rattle.uca_compact.specs.Forms.{IsForm};
 ghost use Rattle.uca_compact.specs.LevelBytes.{AreWeightBytes, weights_in};
 ghost use Rattle.uca_compact.specs.PlainLevels.{copies};
 ghost use Rattle.uca_compact.specs.Programs.{form_of};
-ghost use Rattle.uca_compact.specs.inside.StoredEnds.{weight_of};
-ghost use Rattle.uca_compact.specs.inside.LevelsPut.{AreEight};
 
 use crate::levels::{LevelForm, put_weight};
 use crate::stored::weight_at;
 use std::cmp::Ordering;
-use uca_lanes::{marks_of_pairs, same_of_sixteen, same_pairs};
+use uca_lanes::{marks_of_pairs, same_pairs};
 
 /// How a level compares to so many times one weight.
 #[derive(Clone, Copy)]
@@ -27,43 +25,11 @@ pub(crate) struct Compared {
     pub(crate) marks: u64,
 }
 
-/// How many bytes the first 32 weights have.
-const MARKED_BYTES: usize = 64;
+/// How many weights are marked.
+const MARKED: usize = 32;
 
-// A weight, eight times.
-fn eight_of(weight: u32) -> [u8; 16]
-    requires { weight < 65536 }
-    ensures are { AreEight result weight }
-    ensures bytes { (k : ℕ) → get_or result k 0 < 256 }
-{
-    let high = (weight / 256) as u8;
-    let low = (weight % 256) as u8;
-    [
-        high, low, high, low, high, low, high, low, high, low, high, low, high, low, high, low,
-    ]
-}
-
-// How many weights from this position on are this one, and at most `most`. It needs no marks.
-#[inline(never)]
-fn run_without_marks(level: &[u8], at: usize, weight: u32, most: usize) -> usize
-    requires weight { weight < 65536 }
-    requires within { at ≤ length level.now }
-    ensures few { result ≤ most }
-    ensures within { at + 2 * result ≤ length level.now }
-    ensures are { (k : ℕ) → k < result → weight_of level.now (at + 2 * k) ≡ weight }
-    ensures apart { result < most → at + 2 * result + 1 < length level.now → weight_of level.now (at + 2 * result) ≢ weight }
-{
-    let eight = eight_of(weight);
-    let mut run = 0;
-    while run < most && at + 2 * run < level.len() {
-        let same = same_of_sixteen(level, at + 2 * run, &eight);
-        run += same / 2;
-        if same < 16 {
-            return run.min(most);
-        }
-    }
-    run.min(most)
-}
+/// How many bytes they have.
+const MARKED_BYTES: usize = 2 * MARKED;
 
 // How many weights from this position on are the one that the level was marked for, and at most `most`. Only weights with
 // marks count.
@@ -82,28 +48,35 @@ fn run_of_marked(level: &[u8], marks: u64, at: usize, most: usize) -> usize
     same_pairs(marks, at / 2, left.min(most))
 }
 
-// How many weights from this position on are this one, and at most `most`. The marks are those of the level
-// for this weight.
-#[inline(always)]
-fn run_of(level: &[u8], marks: u64, at: usize, weight: u32, most: usize) -> usize
-    requires marks { MarksPairs level.now weight marks }
-    requires weight { weight < 65536 }
-    requires level { 2 * (length level.now / 2) ≡ length level.now }
-    requires at { 2 * (at / 2) ≡ at }
-    requires within { at ≤ length level.now }
-    ensures few { result ≤ most }
-    ensures within { at + 2 * result ≤ length level.now }
-    ensures are { (k : ℕ) → k < result → weight_of level.now (at + 2 * k) ≡ weight }
-    ensures apart { result < most → at + 2 * result + 1 < length level.now → weight_of level.now (at + 2 * result) ≢ weight }
+// How many weights at the beginning of the level are this one. It marks them in turn.
+#[inline(never)]
+fn run_of_many(level: &[u8], weight: u16) -> usize
+    requires { 2 * (length level.now / 2) ≡ length level.now }
+    ensures { IsPairRun level.now weight 0 (length level.now / 2) result }
 {
-    if at >= MARKED_BYTES {
-        return run_without_marks(level, at, weight, most);
+    let mut run = 0;
+    loop {
+        let rest = &level[2 * run..];
+        let more = run_of_marked(rest, marks_of_pairs(rest, weight), 0, MARKED);
+        run += more;
+        if more < MARKED {
+            return run;
+        }
     }
-    let first = run_of_marked(level, marks, at, most);
-    if at + 2 * first < MARKED_BYTES {
-        return first;
+}
+
+// How many weights at the beginning of the level are this one. The marks are those of the level for this weight.
+#[inline(always)]
+fn first_run(level: &[u8], marks: u64, weight: u16) -> usize
+    requires level { 2 * (length level.now / 2) ≡ length level.now }
+    requires marks { MarksPairs level.now weight marks }
+    ensures { IsPairRun level.now weight 0 (length level.now / 2) result }
+{
+    let run = run_of_marked(level, marks, 0, MARKED);
+    if run < MARKED {
+        return run;
     }
-    first + run_without_marks(level, MARKED_BYTES, weight, most - first)
+    MARKED + run_of_many(&level[MARKED_BYTES..], weight)
 }
 
 /// Compares a level to `count` times one weight.
@@ -111,13 +84,12 @@ fn run_of(level: &[u8], marks: u64, at: usize, weight: u32, most: usize) -> usiz
 pub(crate) fn compare_level(level: &[u8], weight: u16, count: usize) -> Compared
     requires { AreWeightBytes level.now }
     ensures order { result.order ≡ lexicographic (weights_in level.now) (copies weight count) }
-    ensures within { 2 * result.run ≤ length level.now }
-    ensures run { (k : ℕ) → k < result.run → weight_of level.now (2 * k) ≡ weight }
+    ensures run { IsPairRun level.now weight 0 (length level.now / 2) result.run }
     ensures marks { MarksPairs level.now weight result.marks }
 {
     let common = u32::from(weight);
     let marks = marks_of_pairs(level, weight);
-    let run = run_of(level, marks, 0, common, level.len());
+    let run = first_run(level, marks, weight);
     let len = level.len() / 2;
     let order = if run < len && run < count {
         weight_at(level, 2 * run).cmp(&common)
@@ -164,8 +136,7 @@ pub(crate) fn put_level(
     requires form { IsForm (form_of form.now) }
     requires common { 0 < form.now.common }
     requires level { AreWeightBytes level.now }
-    requires within { 2 * compared.run ≤ length level.now }
-    requires run { (k : ℕ) → k < compared.run → weight_of level.now (2 * k) ≡ form.now.common }
+    requires run { IsPairRun level.now form.now.common 0 (length level.now / 2) compared.run }
     requires marks { MarksPairs level.now form.now.common compared.marks }
     requires end { end < form.now.ends }
     requires room { at + 2 * length level.now + 1 ≤ length codes.old }

@@ -3,9 +3,10 @@
 ghost use Rattle.std.specs.Prelude.{◌≡◌, ◌+◌, ◌<◌, ◌++◌, length, IfNone, IfOk, IfSome, OnOk, if◌then◌else◌, None, Some};
 ghost use Rattle.std.specs.Char.{encode_utf8};
 ghost use Rattle.std.specs.List.{AllByRecursion};
+ghost use Rattle.uca_lanes.specs.Pairs.{pair_at};
 ghost use Rattle.uca_compact.specs.LevelBytes.{AreWeightBytes, level_bytes_in, weights_in};
 ghost use Rattle.uca_compact.specs.StoredParts.{stored_level, stored_parts, stored_points};
-ghost use Rattle.uca_compact.specs.inside.StoredEnds.{level_of, parts_of, points_of, weight_of, with_points};
+ghost use Rattle.uca_compact.specs.inside.StoredEnds.{level_of, parts_of, points_of, with_points};
 
 use crate::level_bytes::LevelBytes;
 use std::alloc::{AllocError, Allocator};
@@ -35,7 +36,7 @@ pub(crate) enum StoredEnd<'a> {
 #[inline(always)]
 pub(crate) fn weight_at(bytes: &[u8], at: usize) -> u32
     requires { at + 1 < length bytes.now }
-    ensures is { result ≡ weight_of bytes.now at }
+    ensures is { result ≡ pair_at bytes.now at }
     ensures small { result < 65536 }
 {
     256 * u32::from(bytes[at]) + u32::from(bytes[at + 1])

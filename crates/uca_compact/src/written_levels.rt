@@ -1,10 +1,10 @@
 //! Puts the levels of a compact key: plain ones are left out.
 
-ghost use Rattle.std.specs.Prelude.{◌≡◌, ◌+◌, ◌-◌, ◌*◌, ◌<◌, ◌≤◌, ◌++◌, ℕ, [], ◌∷◌, length, take, map, if◌then◌else◌};
+ghost use Rattle.std.specs.Prelude.{◌≡◌, ◌+◌, ◌-◌, ◌*◌, ◌/◌, ◌<◌, ◌≤◌, ◌++◌, [], ◌∷◌, length, take, map, if◌then◌else◌};
 ghost use Rattle.std.specs.List.{AllByRecursion};
 ghost use Rattle.std.specs.Ordering.{is_eq};
 ghost use Rattle.uca_weights.specs.declared.Weighting.TheVariants.{NonIgnorable, Shifted};
-ghost use Rattle.uca_lanes.specs.Pairs.{MarksPairs};
+ghost use Rattle.uca_lanes.specs.Pairs.{MarksPairs, IsPairRun};
 ghost use Rattle.uca_order.specs.Levels.{level_count};
 ghost use Rattle.uca_compact.specs.CompactKeys as compact_keys;
 ghost use Rattle.uca_compact.specs.CompactKeys.{compact, level_code};
@@ -13,7 +13,6 @@ ghost use Rattle.uca_compact.specs.LevelBytes.{AreWeightBytes, level_bytes_in, w
 ghost use Rattle.uca_compact.specs.PlainLevels.{plain_level};
 ghost use Rattle.uca_compact.specs.Programs.{form_of};
 ghost use Rattle.uca_compact.specs.inside.Places.{AreTrueEntries};
-ghost use Rattle.uca_compact.specs.inside.StoredEnds.{weight_of};
 
 use crate::book_forms::{accents_form, cases_form, letters_form, variables_form};
 use crate::key_buffers::Entry;
@@ -55,8 +54,7 @@ fn put_later(
     requires form { IsForm (form_of form.now) }
     requires common { 0 < form.now.common }
     requires level { AreWeightBytes level.now }
-    requires within { 2 * compared.run ≤ length level.now }
-    requires run { (k : ℕ) → k < compared.run → weight_of level.now (2 * k) ≡ form.now.common }
+    requires run { IsPairRun level.now form.now.common 0 (length level.now / 2) compared.run }
     requires marks { MarksPairs level.now form.now.common compared.marks }
     requires end { end < form.now.ends }
     requires room { at + 2 * length level.now + 1 ≤ length codes.old }

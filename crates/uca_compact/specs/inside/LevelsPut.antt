@@ -4,7 +4,6 @@ use Rattle.uca_compact.specs.Forms.{Form}
 use Rattle.uca_compact.specs.PlainLevels.{letters_after, letter_count}
 use Rattle.uca_compact.specs.CompactKeys.{level_code}
 use Rattle.uca_compact.specs.LevelBytes.{weights_in}
-use Rattle.uca_compact.specs.inside.StoredEnds.{weight_of}
 
 -- these are the weights of a level before a position
 pub record AreBefore (level : List ℕ) (at : ℕ) (weights : List ℕ) : Type 0 where
@@ -34,7 +33,3 @@ pub record IsLaterTo (f : Form) (end : ℕ) (level rest front out : List ℕ) (a
   pub before : AreUpTo level rest at weights
   pub short : run < f.longest
   pub code : (more : List ℕ) → out ++ level_code f end run more ≡ front ++ level_code f end 0 (weights ++ more)
-
--- eight weights are all this one
-abbrev pub AreEight : (bytes : List ℕ) → (w : ℕ) → Type 0
-AreEight bytes w = (k : ℕ) → k < 8 → weight_of bytes (2 * k) ≡ w

@@ -1,5 +1,5 @@
 -- How a program finds the levels of stored keys.
-use Rattle.std.specs.Prelude.{◌≡◌, ℕ, ◌+◌, ◌*◌, ◌<◌, ◌≤◌, List, ◌++◌, map, length, take, drop, get_or, Option, Some, None, option_map}
+use Rattle.std.specs.Prelude.{◌≡◌, ℕ, ◌*◌, ◌<◌, ◌≤◌, List, ◌++◌, map, length, take, drop, Option, Some, None, option_map}
 use Rattle.std.specs.List.{AllByRecursion}
 use Rattle.std.specs.Str.{encode_utf8_all}
 use Rattle.uca_weights.specs.declared.Depth.{Depth}
@@ -10,10 +10,6 @@ use Rattle.uca_compact.specs.declared.stored.StoredEnd.TheVariants.{Next, Key, S
 use Rattle.uca_compact.specs.CompactKeys.{KeyParts}
 use Rattle.uca_compact.specs.LevelBytes.{weights_in, level_bytes_in}
 use Rattle.uca_compact.specs.StoredParts.{StoredLevel, stored_level, points_after}
-
--- the weight at this position of a key
-abbrev pub weight_of : (bytes : List ℕ) (at : ℕ) → ℕ
-weight_of bytes at = 256 * get_or bytes at 0 + get_or bytes (at + 1) 0
 
 -- the level with this end
 abbrev pub level_of : StoredEnd → List ℕ → Option StoredLevel

@@ -11,10 +11,10 @@ loop-from-init c =
     let least = c.min-run.ensures in
     let longest = c.from-longest.ensures in
     let some = c.requires.form.longest in
-    let within = c.requires.within in
+    let within = c.requires.run.within in
     record {
       written = begun_later (form_of c.args.form.now) c.args.end c.args.level.now (take c.args.at c.args.codes.now) c.min-run.result c.requires.level
-          (λ k below. c.requires.run k (omega (arith, below, least))) (omega (arith, within, least)) (omega (arith, least, longest, some));
+          (λ k below. c.requires.run.are k (omega (arith, below, least))) (omega (arith, within, least)) (omega (arith, least, longest, some));
       marks = c.requires.marks;
       room = omega arith;
       codes = refl;
