@@ -1,12 +1,11 @@
 -- From the mask of a load of bytes to the bytes.
-use Rattle.std.proofs.Common.{◌≡◌, ℕ, ◌+◌, ◌-◌, ◌%◌, ◌^◌, ◌<◌, ◌≤◌, Bool, false, not, cond, List, [], ◌∷◌, ◌++◌, map, length, get_or, drop, min, replicate, w8, eqb, eqb-true, refl, sym, ap, ap₂, subst, subst₂, ◌∙◌, arith, zero, suc, take, inl, inr}
+use Rattle.std.proofs.Common.{◌≡◌, ℕ, ◌+◌, ◌-◌, ◌%◌, ◌^◌, ◌<◌, ◌≤◌, Bool, false, not, cond, List, [], ◌∷◌, map, length, get_or, w8, eqb, eqb-true, refl, sym, ap, ap₂, subst, ◌∙◌, arith, zero, suc, take, inl, inr}
 use Rattle.std.specs.List.{prefix_len}
 use Rattle.std.proofs.lemmas.Bool.{cases_lt, not-true, not-false, eqb-false}
-use Rattle.std.proofs.lemmas.List.{get_or_append_left, get_or-drop, length-drop}
 use Rattle.std.proofs.lemmas.List.Sums.{prefix_len-le-length, prefix_len_passes, prefix_len_stops}
 use Rattle.std.proofs.lemmas.Simd.{mask_l-mod, length-chunk, get_or-chunk, length-zip2, get_or-zip2, tops_compared, first_set_mask_l}
 use lib.Lanes.{chunk, zip2, mask_l, top}
-use Rattle.uca_lanes.specs.Lanes.{IsSameRun}
+use Rattle.uca_lanes.specs.inside.Lanes.{IsSameRun}
 use Rattle.uca_lanes.specs.inside.Marks.{first_set}
 
 -- ---- Two texts
@@ -56,48 +55,6 @@ same_lanes n left right at other same room other_room few found = record {
     lane k inside =
         get_or-zip2 differ xs ys k 0 0 false (omega (arith, length-chunk at n left room)) (omega (arith, length-chunk other n right other_room))
         ∙ ap₂ differ (get_or-chunk at n left k 0 inside) (get_or-chunk other n right k 0 inside)
-
--- ---- The bytes that are left at a position
-
--- the first lanes are bytes from this position on
-lanes_run : (lanes left right : List ℕ) (at count same : ℕ) → count ≤ 16 → ((k : ℕ) → k < count → get_or lanes k 0 ≡ get_or left (at + k) 0)
-    → IsSameRun lanes right 0 0 16 same → IsSameRun left right at 0 count (min same count)
-lanes_run lanes left right at count same few are run = record {
-  within = omega arith;
-  are = λ k below. sym (are k (omega (arith, below))) ∙ subst (λ n. get_or lanes n 0 ≡ get_or right (0 + k) 0) (zeroth k) (run.are k (omega (arith, below)));
-  apart = λ less is.
-      let all : min same count ≡ same = omega (arith, less) in
-      let here = are same (omega (arith, less)) in
-      let same_too = subst (λ n. get_or left (at + n) 0 ≡ get_or right (0 + n) 0) all is in
-      run.apart (omega (arith, less, few)) (subst (λ n. get_or lanes n 0 ≡ get_or right (0 + same) 0) (sym (zeroth same)) (here ∙ same_too));
-}
-  where
-    zeroth : (k : ℕ) → 0 + k ≡ k
-    zeroth k = omega arith
-
--- sixteen of them were loaded
-pub loaded_run : (left right : List ℕ) (at same : ℕ) → at + 16 ≤ length left → IsSameRun (chunk at 16 left) right 0 0 16 same
-    → IsSameRun left right at 0 (min 16 (length left - at)) same
-loaded_run left right at same room run =
-    let all : 16 ≡ min 16 (length left - at) = omega (arith, room) in
-    let within = run.within in
-    let least : min same 16 ≡ same = omega (arith, within) in
-    subst₂ (IsSameRun left right at 0) all least
-    (lanes_run (chunk at 16 left) left right at 16 same (omega arith) (λ k below. get_or-chunk at 16 left k 0 below) run)
-
--- fewer were, and zeros after them
-pub padded_run : (left right lanes : List ℕ) (at same least : ℕ) → at ≤ length left → length left - at < 16
-    → lanes ≡ drop at left ++ replicate (16 - length (drop at left)) 0 → IsSameRun lanes right 0 0 16 same → least ≡ min same (length left - at)
-    → IsSameRun left right at 0 (min 16 (length left - at)) least
-padded_run left right lanes at same least from few padded run is =
-    let all : length left - at ≡ min 16 (length left - at) = omega (arith, few) in
-    subst₂ (IsSameRun left right at 0) all (sym is) (lanes_run lanes left right at (length left - at) same (omega (arith, few)) there run)
-  where
-    there : (k : ℕ) → k < length left - at → get_or lanes k 0 ≡ get_or left (at + k) 0
-    there k below =
-        ap (λ bytes. get_or bytes k 0) padded
-        ∙ get_or_append_left (drop at left) (replicate (16 - length (drop at left)) 0) 0 k (omega (arith, length-drop at left, below))
-        ∙ get_or-drop at left k 0
 
 -- ---- Beginnings
 

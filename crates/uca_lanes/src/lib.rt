@@ -5,8 +5,8 @@
 //! compared, fewer than eight bytes are taken one by one.
 #![tactic(auto)]
 
-ghost use Rattle.std.specs.Prelude.{◌≡◌, ◌≢◌, ℕ, ◌+◌, ◌-◌, ◌<◌, ◌≤◌, length, get_or, min, take};
-ghost use Rattle.uca_lanes.specs.Lanes.{IsSameRun};
+ghost use Rattle.std.specs.Prelude.{◌≡◌, ◌≢◌, ℕ, ◌+◌, ◌<◌, ◌≤◌, length, get_or, take};
+ghost use Rattle.uca_lanes.specs.inside.Lanes.{IsSameRun};
 ghost use Rattle.uca_lanes.specs.inside.Marks.{first_set};
 
 mod pairs;
@@ -17,7 +17,6 @@ pub use pairs::{marks_of_pairs, same_pairs};
 pub use short::shared_of_short;
 use std::simd::prelude::*;
 pub use utf8::is_utf8;
-use utf8::with_zeros;
 
 /// The place of the lowest bit that is set, or the number of lanes if none is.
 #[inline(always)]
@@ -29,28 +28,6 @@ pub(crate) fn first_set(mask: u64, lanes: usize) -> usize
     } else {
         mask.trailing_zeros() as usize
     }
-}
-
-/// How many of sixteen bytes are the same in both, before the first that is not: those of the left ones from a position
-/// on, and the right ones. If fewer than sixteen are left there, it is how many of these.
-#[inline(always)]
-pub fn same_of_sixteen(left: &[u8], at: usize, right: &[u8; 16]) -> usize
-    requires { at ≤ length left.now }
-    ensures { IsSameRun left.now right.now at 0 (min 16 (length left.now - at)) result }
-{
-    let rest = left.len() - at;
-    if rest >= 16 {
-        return same_in_lanes(u8x16::from_slice(&left[at..]), right);
-    }
-    same_in_lanes(with_zeros(&left[at..]), right).min(rest)
-}
-
-// How many of sixteen bytes are the same in both, before the first that is not.
-#[inline(always)]
-fn same_in_lanes(left: u8x16, right: &[u8; 16]) -> usize
-    ensures { IsSameRun left right.now 0 0 16 result }
-{
-    first_set(left.simd_ne(u8x16::from_array(*right)).to_bitmask(), 16)
 }
 
 // How many of the eight bytes from this position on are the same in both, before the first that is not.
