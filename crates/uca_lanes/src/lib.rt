@@ -1,8 +1,8 @@
 //! Bytes, eight or sixteen at a time: whether they are UTF-8, how many of them two texts have in common, and how many
 //! pairs in a row spell one number.
 //!
-//! A loop over single bytes would end elsewhere for each text, and no processor foretells that. Where two texts are
-//! compared, fewer than eight bytes are taken one by one.
+//! A loop over single bytes would end elsewhere for each text, and no processor foretells that. So two short texts are
+//! looked at together. Of longer ones that share fewer than eight bytes, bytes are taken one by one.
 #![tactic(auto)]
 
 ghost use Rattle.std.specs.Prelude.{◌≡◌, ◌≢◌, ℕ, ◌+◌, ◌<◌, ◌≤◌, length, get_or, take};

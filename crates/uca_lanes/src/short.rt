@@ -2,7 +2,8 @@
 
 ghost use Rattle.std.specs.Prelude.{◌≤◌, length, MatchOption};
 ghost use Rattle.std.specs.Str.{IsUtf8};
-ghost use Rattle.uca_lanes.specs.Lanes.{IsSameRun, IsSharedLen};
+ghost use Rattle.uca_lanes.specs.Shared.{IsSharedLen};
+ghost use Rattle.uca_lanes.specs.inside.Lanes.{IsSameRun};
 
 use crate::first_set;
 use crate::utf8::{are_utf8, with_zeros};

@@ -2,7 +2,7 @@
 
 ghost use Rattle.std.specs.Prelude.{◌≡◌, ◌≤◌, length, take, IfSome, MatchOption};
 ghost use Rattle.std.specs.Str.{IsUtf8};
-ghost use Rattle.uca_lanes.specs.Lanes.{IsSharedLen};
+ghost use Rattle.uca_lanes.specs.Shared.{IsSharedLen};
 
 use uca_lanes::{is_utf8, shared_of_short};
 

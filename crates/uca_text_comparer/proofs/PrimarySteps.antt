@@ -7,7 +7,7 @@ use Rattle.std.specs.declared.cmp.Ordering.{Ordering}
 use Rattle.std.proofs.lemmas.Bool.{eqb-true}
 use Rattle.std.proofs.lemmas.Str.{chars_past_char, encode_ascii, chars-nil, IsUtf8-drop, IsCharBoundary-before_ascii}
 use Rattle.std.proofs.lemmas.Grind.{flat_map-append}
-use Rattle.std.proofs.lemmas.List.{length-map, length-drop, drop_all}
+use Rattle.std.proofs.lemmas.List.{length-map, drop_all}
 use Rattle.unicode_normalization.specs.Forms.{nfd, Nfd}
 use Rattle.unicode_normalization.proofs.LengthLemmas.{length-normalize-chars}
 use Rattle.uca_weights.specs.declared.Element.{Element}

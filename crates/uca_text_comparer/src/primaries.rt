@@ -232,7 +232,7 @@ fn goes_on_plain<A: Allocator>(points: &PointCache<A>, text: &str, at: usize) ->
         return false;
     }
     match points.find(char::from(bytes[at])) {
-        Some(known) => !known.is_bound(),
+        Some(next) => !next.is_bound(),
         None => false,
     }
 }

@@ -20,9 +20,9 @@ returns-in-Some g c = λ collation entries.
     let text = c.args.text.now in
     let at = c.args.at in
     let value = c.as_bytes-bytes.ensures.value in
-    let known = c.in-Some.known.now in
+    let next = c.in-Some.next.now in
     let low = c.if-bytes-at-ge128.false in
     let within : at < length text = (let inside = c.if-at-bytes.false in omega (arith, inside, c.requires, ap length value)) in
     let first : get_or text at 0 ≡ c.from.result = sym (c.from.ensures ∙ ap (λ l. get_or l at 0) value) in
     OnTrue_from _ _ (λ not_so. begins_there collation text at c.from.result c.utf8.text within first (omega (arith, low, c.from.ensures))
-    (subst (IsPlain collation) c.in-Some.ensures.point (c.in-Some.ensures.entry collation entries (not_bound c.is_bound.result known.count c.is_bound.ensures not_so)).0))
+    (subst (IsPlain collation) c.in-Some.ensures.point (c.in-Some.ensures.entry collation entries (not_bound c.is_bound.result next.count c.is_bound.ensures not_so)).0))
