@@ -8,7 +8,7 @@ use std::cmp::Ordering;
 use std::cmp::Ordering::{Greater, Less};
 use std::test::Fail;
 use test_kit::{DATA, NUMBER_TABLE, data_of, holds, repeated, table_of};
-use uca_lanes::{is_utf8, marks_of_pairs, same_pairs, shared_len};
+use uca_lanes::{is_utf8, marks_of_pairs, same_pairs, shared_len, shared_of_short};
 use uca_match::{Collator, Lookup, Trie};
 use uca_text_comparer::TextComparison;
 use uca_weights::{Depth, Numbers, Settings, Source, Weighting};
@@ -155,6 +155,35 @@ const RUNS: [(usize, usize, usize, usize, usize); 16] = [
     (40, 31, 31, 1, 0),
 ];
 
+/// Two texts, and how many bytes they have in common, if each has at most fifteen and is UTF-8. A text that ends within a
+/// code point is none, also where the other one begins with the bytes that are missing.
+const SHORT: [(&[u8], &[u8], Option<usize>); 24] = [
+    (b"", b"", Some(0)),
+    (b"", b"a", Some(0)),
+    (b"cart", b"cast", Some(2)),
+    (b"a", b"ab", Some(1)),
+    (b"ab", b"a", Some(1)),
+    (b"\0", b"", Some(0)),
+    (b"a\0", b"a", Some(1)),
+    (b"\0\0", b"\0", Some(1)),
+    (b"\xC3\xA9", b"\xC3\xA8", Some(1)),
+    (b"abcdefgh", b"abcdefgh", Some(8)),
+    (b"abcdefgh", b"abcdefghi", Some(8)),
+    (b"abcdefghijklmno", b"abcdefghijklmno", Some(15)),
+    (b"abcdefghijklmno", b"abcdefghijklmnp", Some(14)),
+    (b"abcdefghijklmno", b"b", Some(0)),
+    (b"abcdefghijklmnop", b"", None),
+    (b"", b"abcdefghijklmnop", None),
+    (b"\xC3", b"\xA9", None),
+    (b"abcdefghijklmn\xC3", b"\xA9", None),
+    (b"a", b"a\x80", None),
+    (b"a\xFF", b"a", None),
+    (b"\xED\xA0\x80", b"\xED\xA0\x80", None),
+    (b"a", b"\xE0\x80\x80", None),
+    (b"\xF0\x9F\x98\x80", b"\xF0\x9F\x98\x81", Some(3)),
+    (b"\xF0\x9F\x98\x80", b"\xF4\x90\x80\x80", None),
+];
+
 /// A number that two bytes spell, and another one: the same bytes turned, one byte of two, or both.
 const NUMBERS: [(u16, u16); 5] = [
     (0x0020, 0x2000),
@@ -207,6 +236,16 @@ fn check_known_beginnings(comparison: &TextComparison) -> Result<(), Fail> {
         comparison.order_after(settings, "ab", "aa", 0).is_none(),
         "texts that have more in common",
     )
+}
+
+fn check_short() -> Result<(), Fail> {
+    for (left, right, wanted) in SHORT {
+        holds(
+            shared_of_short(left, right) == wanted,
+            "what short texts share",
+        )?;
+    }
+    Ok(())
 }
 
 /// Bytes after ASCII ones, and the same before an ASCII one too.
@@ -324,6 +363,7 @@ fn check_all<L: Lookup>(alloc: Global, collator: &Collator<L>) -> Result<(), Fai
     learn(&mut comparison, collator, KNOWN)?;
     check_pairs(&comparison)?;
     check_known_beginnings(&comparison)?;
+    check_short()?;
     check_utf8(alloc)?;
     check_runs(alloc)?;
     check_lengths(alloc, &comparison)?;

@@ -1,6 +1,8 @@
 //! Tests of an owned collator: keys of texts of many lengths and of many pages of code points, and the levels of a key.
-//! Beside these, one more collator that shares the table of another.
+//! Beside these, one more collator that shares the table of another, and comparisons of short texts.
 #![tactic(auto)]
 
 #[cfg(test)]
 mod collators;
+#[cfg(test)]
+mod comparisons;
