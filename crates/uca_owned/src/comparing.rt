@@ -40,10 +40,10 @@ fn compare_same(left: &[u8], right: &[u8]) -> Option<(Ordering, u8)>
     None
 }
 
-// How two texts of at most fifteen bytes compare, if they are equal, or differ at level 1 right after what they have in
-// common. Only what comes next in each is looked up. There is no result for others.
+/// How two texts of at most fifteen bytes compare, if they are equal, or differ at level 1 right after what they have in
+/// common. Only what comes next in each is looked up. There is no result for others.
 #[inline(always)]
-fn compare_short(
+pub(crate) fn compare_short(
     comparison: &TextComparison,
     settings: Settings,
     left: &[u8],
@@ -92,9 +92,9 @@ pub(crate) fn compare_bytes(
     }
 }
 
-// How two texts compare, as `compare_bytes` says.
+/// How two texts compare, as [`compare_bytes`] says. It asks nothing of `compare_short`.
 #[inline(never)]
-fn compare_all(
+pub(crate) fn compare_all(
     collation: &OwnedCollation,
     comparison: &mut TextComparison,
     settings: Settings,

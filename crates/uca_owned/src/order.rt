@@ -10,7 +10,7 @@ ghost use Rattle.uca_owned.specs.Causes.{IsAcceptedText, IsCompareCause, is_memo
 ghost use Rattle.uca_owned.specs.Orders.{IsOrder};
 
 use crate::OwnedCollator;
-use crate::comparing::{compare_bytes, judge};
+use crate::comparing::{compare_all, compare_short, judge};
 use crate::faults::{CompareFault, KeyFault};
 use std::alloc::AllocError;
 use std::cmp::Ordering;
@@ -31,7 +31,8 @@ fn is_memory(fault: KeyFault) -> bool
     }
 }
 
-// The order of two byte strings.
+// The order of two byte strings. Most pairs of short texts differ soon, so they are not compared to be the same first.
+#[inline(always)]
 fn order_bytes(
     collation: &OwnedCollation,
     comparison: &mut TextComparison,
@@ -43,7 +44,13 @@ fn order_bytes(
     ensures known { AreTrueEntries (owned_collation collation.now) comparison.new.plain.points.entries.items }
     ensures order { IfOk result (IsOrder (keying_by (owned_collation collation.now) settings) left.now right.now) }
 {
-    match compare_bytes(collation, comparison, settings, left, right) {
+    if let Some(pair) = compare_short(comparison, settings, left, right) {
+        return Ok(pair.0);
+    }
+    if left == right {
+        return Ok(Ordering::Equal);
+    }
+    match compare_all(collation, comparison, settings, left, right) {
         Ok(pair) => Ok(pair.0),
         Err(fault) => order_rejected(collation, comparison, settings, left, right, fault),
     }
@@ -116,9 +123,6 @@ impl OwnedCollator {
         ensures keying { keying_in self.new ≡ keying_in self.old }
         ensures key { key_in self.new ≡ key_in self.old }
     {
-        if left == right {
-            return Ok(Ordering::Equal);
-        }
         order_bytes(
             &*self.collation,
             &mut self.comparison,
