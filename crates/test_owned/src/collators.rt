@@ -155,3 +155,20 @@ fn levels_that_are_not_joined(rt: HostRuntime) -> Result<(), Fail> {
     check_no_levels(&mut collator)?;
     check_levels(&mut collator)
 }
+
+/// 518 for each byte, and 8 more, as far as there is room: 35,611,475,045,771,335 is the greatest length with room.
+fn check_bounds(collator: &OwnedCollator) -> Result<(), Fail> {
+    holds(collator.key_bound(0) == 8, "no byte")?;
+    holds(collator.key_bound(100) == 51_808, "a hundred bytes")?;
+    let most = 35_611_475_045_771_335;
+    holds(
+        collator.key_bound(most) == usize::MAX - 77,
+        "the most bytes",
+    )?;
+    holds(collator.key_bound(most + 1) == usize::MAX, "one byte more")
+}
+
+#[test]
+fn bounds_of_keys(rt: HostRuntime) -> Result<(), Fail> {
+    check_bounds(&opened(rt.alloc())?)
+}

@@ -1,5 +1,5 @@
-//! Tests of an owned collator: keys of texts of many lengths and of many pages of code points, and the levels of a key.
-//! Beside these, one more collator that shares the table of another, and comparisons of short texts.
+//! Tests of an owned collator: keys of texts of many lengths and of many pages of code points, the levels of a key, and
+//! the bound of keys. Beside these, one more collator that shares the table of another, and comparisons of short texts.
 #![tactic(auto)]
 
 #[cfg(test)]

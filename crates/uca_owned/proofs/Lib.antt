@@ -1,4 +1,5 @@
 pub mod InMemory
+mod KeyBounds
 mod OrderLemmas
 mod Rejected
 mod SharedBytes

@@ -1,3 +1,4 @@
+pub mod Bounds
 pub mod Causes
 pub mod Opening
 pub mod Orders

@@ -11,6 +11,7 @@ ghost use Rattle.uca_order.specs.Depths.{read_points};
 ghost use Rattle.uca_order.specs.Keyings.{keying_by, key_of_bytes, bytes_compared};
 ghost use Rattle.uca_key_writer.specs.KeyLevels.{AreLevelsOf, levels_in};
 ghost use Rattle.uca_key_writer.specs.Memories.{settings_in};
+ghost use Rattle.uca_owned.specs.Bounds.{BoundsKeys, key_bound};
 ghost use Rattle.uca_owned.specs.Owned.{keying_in, key_in};
 ghost use Rattle.uca_owned.specs.Causes.{IsAcceptedBy, IsAcceptedText, IsKeyCause, IsCompareCause};
 
@@ -22,6 +23,12 @@ use std::alloc::AllocError;
 use std::cmp::Ordering;
 use uca_key_writer::{KeyLevels, KeyMemory};
 use uca_match::OwnedCollation;
+
+// how many bytes a key has at most for each byte of its text
+const MOST_FOR_A_BYTE: usize = 518;
+
+// how many bytes the separators of the levels have at most
+const MOST_SEPARATORS: usize = 8;
 
 // Makes the key of a text that is given as bytes.
 fn write_key(collation: &OwnedCollation, keys: &mut KeyMemory, text: &[u8]) -> Result<(), KeyFault>
@@ -121,6 +128,21 @@ impl OwnedCollator {
         ensures { levels_in result ≡ self.now.levels }
     {
         self.keys.levels()
+    }
+
+    /// A bound of the length of sort keys (UTS #10, section 7.3). For example, no key of a text of ten bytes has more than
+    /// 5,188 bytes. No key that [`make_key`](OwnedCollator::make_key) makes of a text of at most `len` bytes has more bytes
+    /// than this. So a caller can have room for a key before it is made. Most keys are far shorter.
+    ///
+    /// A bound that is greater than `usize::MAX` becomes that: a longer key fits into no memory.
+    pub fn key_bound(&self, len: usize) -> usize
+        ensures value { result ≡ key_bound len }
+        ensures bounds { BoundsKeys (key_of_bytes (keying_in self.now)) len result }
+    {
+        // what it reads texts by has short rows
+        let _ = &self.collation;
+        len.saturating_mul(MOST_FOR_A_BYTE)
+            .saturating_add(MOST_SEPARATORS)
     }
 
     /// How two texts compare (UTS #10, section 1.1), without keys: their order, and the first level at which they

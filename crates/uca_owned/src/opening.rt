@@ -4,6 +4,7 @@ ghost use Rattle.std.specs.Prelude.{◌≡◌, [], IfOk, IfErr, MatchResult};
 ghost use Rattle.uca_values.specs.Content.{TableContent, Properties, properties_of};
 ghost use Rattle.uca_match.specs.NumberedKeys.{rows_at};
 ghost use Rattle.uca_order.specs.Keyings.{keying, keying_over};
+ghost use Rattle.uca_order.specs.Lengths.{HasShortRows};
 ghost use Rattle.uca_owned.specs.Owned.{keying_in, key_in};
 ghost use Rattle.uca_owned.specs.Opening.{MeanFiles, Opens, IsOpenCause, IsOpenStop};
 
@@ -14,6 +15,7 @@ use std::alloc::{AllocError, Global};
 use std::sync::Arc;
 use uca_key_writer::KeyMemory;
 use uca_match::{OwnedCollation, Trie};
+use uca_order::laws::rows_are_short;
 use uca_text_comparer::TextComparison;
 use uca_values::{Data, Header, PackedTable, Table};
 use uca_weights::Asked;
@@ -26,6 +28,7 @@ fn collator_of(
     properties: Data,
     asked: Asked,
 ) -> Result<OwnedCollator, AllocError>
+    requires short { HasShortRows (rows_at rows) }
     ensures keying { IfOk result (λ c. keying_in c ≡ keying_over (rows_at rows) header asked (properties_of properties)) }
     ensures key { IfOk result (λ c. key_in c ≡ []) }
 {
@@ -53,6 +56,9 @@ fn packed_collator(
     ensures keying { IfOk result (λ c. keying_in c ≡ keying asked table (properties_of properties)) }
     ensures key { IfOk result (λ c. key_in c ≡ []) }
 {
+    // The rows keep the limits of a table, so they are short.
+    let _ = &table.rows;
+    rows_are_short();
     let (header, rows) = Trie::of_table(alloc, table)?;
     collator_of(alloc, header, rows, properties, asked)
 }
@@ -73,6 +79,8 @@ impl OwnedCollator {
         ensures keying { IfOk result (λ c. keying_in c ≡ keying asked table (properties_of properties)) }
         ensures key { IfOk result (λ c. key_in c ≡ []) }
     {
+        // The rows keep the limits of a table, so they are short.
+        rows_are_short();
         let rows = Trie::new(alloc, &table)?;
         let Table { header, .. } = table;
         collator_of(alloc, header, rows, properties, asked)

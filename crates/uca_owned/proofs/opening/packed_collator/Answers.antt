@@ -2,10 +2,17 @@
 use Rattle.std.proofs.Common.{◌≡◌, subst}
 use Rattle.std.specs.Prelude.{IfOk}
 use Rattle.std.proofs.Math.Path.{fun_ext}
-use Rattle.uca_values.specs.Content.{properties_of}
+use Rattle.uca_values.specs.Content.{TableContent, AreRows, properties_of}
+use Rattle.uca_match.specs.NumberedKeys.{rows_at}
 use Rattle.uca_order.specs.Keyings.{Keying, keying_over}
 use Rattle.uca_owned.specs.Owned.{keying_in}
 use Rattle.uca_owned.proofs.opening.packed_collator.Goals as goal
+
+pub collator_of-requires : goal.collator_of-requires
+collator_of-requires c = record {
+  short = c.rows_are_short.ensures c.args.table.rows (rows_at c.in_ok-header.rows)
+      (subst (λ (t : TableContent). AreRows t.rows) c.table.view_is c.table.invariant) c.in_ok-header.ensures.rows;
+}
 
 pub returns-clause-keying : goal.returns-clause-keying
 returns-clause-keying c =
