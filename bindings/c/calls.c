@@ -793,6 +793,83 @@ static void check_key_beginnings(void)
     uca_close(&it);
 }
 
+/* Whether the key of a text has at most as many bytes as the bound says, and is made with as much room. */
+static bool is_bounded(uca_collator *collator, const uint8_t *text, size_t length)
+{
+    size_t bound = 77, needed = 77;
+    if (uca_key_bound(collator, length, &bound) != UCA_OK) {
+        return false;
+    }
+    uint8_t *key = malloc(bound);
+    if (!key) {
+        abort();
+    }
+    bool fits = uca_key(collator, text, length, key, bound, &needed) == UCA_OK && needed <= bound;
+    free(key);
+    return fits;
+}
+
+/* U+1D160 and U+0390 are three code points each in Normalization Form D. They have four bytes and two. */
+static bool are_bounded(uca_collator *collator)
+{
+    return is_bounded(collator, BYTES("")) && is_bounded(collator, BYTES("a")) && is_bounded(collator, BYTES("a b"))
+           && is_bounded(collator, BYTES("\xC3\xA1\xC3\xA1")) && is_bounded(collator, BYTES("\xF0\x9D\x85\xA0")) && is_bounded(collator, BYTES("\xCE\x90"))
+           && is_bounded(collator, BYTES("123456789123456789")) && is_bounded(collator, BYTES("\xEC\x98\xB7\xE4\xB8\x80"));
+}
+
+/* Adds a row of 32 elements, which is as many as there may be: 64 bytes at each of four levels. */
+static void add_long_row(char *table, const char *digit)
+{
+    strcat(table, digit);
+    for (size_t i = 0; i < 32; i++) {
+        strcat(table, "[.1C47.0020.0002]");
+    }
+    strcat(table, "\n");
+}
+
+/* By value `9` is read as `19`. So its key has 512 bytes of weights, three separators, and one more with a code point. */
+static bool is_near(uca_collator *collator)
+{
+    char table[2048] = "@version 1\n";
+    add_long_row(table, "0031 ; ");
+    add_long_row(table, "0039 ; ");
+    uca_error error;
+    uint8_t out[526];
+    size_t needed = 77, bound = 77;
+    bool is_made = opened(collator, table, DATA, UCA_SHIFTED, UCA_IDENTICAL | UCA_NUMERIC, &error) == UCA_OK
+                   && uca_key(collator, BYTES("9"), out, sizeof out, &needed) == UCA_OK && needed == 512 + 6 + 2 + 3;
+    is_made = is_made && uca_key_bound(collator, 1, &bound) == UCA_OK && bound == 526 && are_bounded(collator);
+    uca_close(collator);
+    return is_made;
+}
+
+static void check_bounds(void)
+{
+    uca_collator it = UCA_CLOSED_COLLATOR;
+    uca_error error;
+    size_t bound = 77;
+    CHECK(uca_key_bound(&it, 1, &bound) == UCA_CLOSED && bound == 0);
+    CHECK(is_near(&it));
+    CHECK(opened(&it, TABLE, DATA, UCA_NON_IGNORABLE, UCA_WEIGHTS, &error) == UCA_OK && are_bounded(&it));
+    CHECK(uca_key_bound(&it, 0, &bound) == UCA_OK && bound == 8);
+    CHECK(uca_key_bound(&it, 100, &bound) == UCA_OK && bound == 51808);
+    CHECK(uca_key_bound(&it, SIZE_MAX / 518, &bound) == UCA_OK && bound == SIZE_MAX / 518 * 518 + 8);
+    CHECK(uca_key_bound(&it, SIZE_MAX / 518 + 1, &bound) == UCA_OK && bound == SIZE_MAX);
+    CHECK(uca_key_bound(&it, SIZE_MAX, &bound) == UCA_OK && bound == SIZE_MAX && it.is_open);
+    uca_close(&it);
+    for (uint32_t depth = 0; depth < 4; depth++) {
+        CHECK(opened(&it, TABLE, DATA, UCA_SHIFTED, depth, &error) == UCA_OK && are_bounded(&it));
+        uca_close(&it);
+        CHECK(opened_compact(&it, TABLE, DATA, BOOK, UCA_SHIFTED, depth, &error) == UCA_OK && are_bounded(&it));
+        uca_close(&it);
+    }
+    CHECK(opened_compact(&it, TABLE, DATA, BOOK, UCA_NON_IGNORABLE, UCA_WEIGHTS, &error) == UCA_OK && are_bounded(&it));
+    CHECK(uca_key_bound(&it, 100, &bound) == UCA_OK && bound == 103617);
+    CHECK(uca_key_bound(&it, SIZE_MAX / 1036, &bound) == UCA_OK && bound == SIZE_MAX / 1036 * 1036 + 17);
+    CHECK(uca_key_bound(&it, SIZE_MAX, &bound) == UCA_OK && bound == SIZE_MAX);
+    uca_close(&it);
+}
+
 /* ---- Upgrades: the letter c comes between a and b, whose weight moves from 1C60 to 1C70 */
 
 static const char OLD[] = "@version 1\n0061 ; [.1C47.0020.0002]\n0062 ; [.1C60.0020.0002]\n0301 ; [.0000.0024.0002]\n";
@@ -1338,6 +1415,7 @@ int main(void)
     check_compact_fingerprint();
     check_positions();
     check_key_beginnings();
+    check_bounds();
     check_upgrades();
     check_tailoring();
     check_changes();

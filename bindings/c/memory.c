@@ -273,6 +273,8 @@ static bool use_texts(opened *opened)
                            : can_fail() && status == UCA_MEMORY && needed == 0 && key[0] == 0xEE);
     uint32_t other = uca_check_text(it, BYTES("a\xCC\x81"), &position);
     CHECK(position == 0 && (other == UCA_OK || (can_fail() && other == UCA_MEMORY)));
+    size_t bound = 7;
+    CHECK(uca_key_bound(it, 3, &bound) == UCA_OK && bound == 2 * (518 * 3 + 8) + 1);
     return status == UCA_OK && other == UCA_OK;
 }
 

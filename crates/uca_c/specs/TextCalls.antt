@@ -1,8 +1,10 @@
--- Calls with one text: whether it is accepted, and the beginning of its key.
-use Rattle.std.specs.Prelude.{◌≡◌, ◌⊎◌, ◌++◌, ℕ, List, length, take, drop}
+-- Calls with one text: whether it is accepted, the beginning of its key, and how many bytes keys have at most.
+use Rattle.std.specs.Prelude.{◌≡◌, ◌⊎◌, ◌++◌, ℕ, ◌+◌, ◌-◌, ◌*◌, ◌^◌, List, Option, Some, None, length, min, take, drop}
 use Rattle.std.specs.Str.{IsValidUpTo}
 use Rattle.uca_text.specs.declared.normalize.TextFault.TheVariants.{TooLong, LongRun, Memory}
 use Rattle.uca_order.specs.Keyings.{Keying}
+use Rattle.uca_books.specs.Books.{BookContent}
+use Rattle.uca_owned.specs.Bounds.{key_bound}
 use Rattle.uca_owned.specs.Causes.{IsAcceptedBy, IsKeyCause}
 use Rattle.uca_owned.specs.declared.faults.KeyFault.{KeyFault}
 use Rattle.uca_owned.specs.declared.faults.KeyFault.TheVariants.{Utf8, Text}
@@ -34,3 +36,8 @@ IsBeginningStatus k bytes status = (IsAcceptedBy k bytes × (status ≡ OK))
 pub record WritesBeginning (key before after : List ℕ) (count : ℕ) : Type 0 where
   pub needed : count ≡ length key
   pub written : after ≡ take (length before) key ++ drop (length key) before
+
+-- How many bytes a key of a text of so many bytes has at most. A compact key has at most one byte more than two whole keys.
+abbrev pub bound_by : Option BookContent → ℕ → ℕ
+bound_by None count = key_bound count
+bound_by (Some b) count = min (2 * key_bound count + 1) (2 ^ 64 - 1)

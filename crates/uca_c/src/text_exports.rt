@@ -1,8 +1,10 @@
-//! The calls with one text that C makes: the beginning of its key, and where it is rejected.
+//! The calls with one text that C makes: the beginning of its key, how many bytes a key has at most, and where a text is
+//! rejected.
 
-ghost use Rattle.std.specs.Prelude.{◌≡◌, ◌≢◌, ◌↔◌, true, false};
+ghost use Rattle.std.specs.Prelude.{◌≡◌, ◌≢◌, ◌↔◌, ◌⊎◌, true, false};
+ghost use Rattle.uca_owned.specs.Bounds.{BoundsKeys};
 ghost use Rattle.uca_c.specs.OpenCollators.{keying_at, key_by};
-ghost use Rattle.uca_c.specs.TextCalls.{IsBeginningStatus, IsJudged, WritesBeginning};
+ghost use Rattle.uca_c.specs.TextCalls.{IsBeginningStatus, IsJudged, WritesBeginning, bound_by};
 
 use crate::slot::{Slot, put, take};
 use crate::statuses::{CLOSED, OK};
@@ -36,6 +38,34 @@ pub extern "C" fn uca_key_beginning(
     let status = text_work::write_beginning(&mut opened, text, out, needed);
     put(collator, opened);
     status
+}
+
+/// Tells how many bytes the key of a text of at most `length` bytes has at most.
+#[unsafe(no_mangle)]
+pub extern "C" fn uca_key_bound(
+    alloc: Global,
+    collator: &mut Slot,
+    length: usize,
+    bound: &mut usize,
+) -> u32
+    ensures closed { (result ≡ CLOSED) ↔ (collator.old.full ≡ false) }
+    ensures statuses { (result ≡ OK) ⊎ (result ≡ CLOSED) }
+    ensures ok { result ≡ OK →
+        BoundsKeys (key_by (keying_at collator.old.handle.kept) collator.old.handle.kept.book) length bound.new }
+    ensures value { result ≡ OK → bound.new ≡ bound_by collator.old.handle.kept.book length }
+    ensures none { result ≢ OK → bound.new ≡ 0 }
+    ensures full { collator.new.full ≡ collator.old.full }
+    ensures keying { collator.old.full ≡ true → keying_at collator.new.handle.kept ≡ keying_at collator.old.handle.kept }
+    ensures book { collator.old.full ≡ true → collator.new.handle.kept.book ≡ collator.old.handle.kept.book }
+{
+    if !collator.full {
+        *bound = 0;
+        return CLOSED;
+    }
+    let opened = take(alloc, collator);
+    *bound = text_work::key_bound(&opened, length);
+    put(collator, opened);
+    OK
 }
 
 /// Tells whether a text is accepted, and where it is rejected. That is a byte where it is not UTF-8, or a code point where

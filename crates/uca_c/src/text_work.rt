@@ -1,8 +1,9 @@
 //! What a call does with one text of an open collator.
 
 ghost use Rattle.std.specs.Prelude.{◌≡◌, ◌≢◌};
+ghost use Rattle.uca_owned.specs.Bounds.{BoundsKeys};
 ghost use Rattle.uca_c.specs.OpenCollators.{keying_at, key_by};
-ghost use Rattle.uca_c.specs.TextCalls.{IsBeginningStatus, IsJudged, WritesBeginning};
+ghost use Rattle.uca_c.specs.TextCalls.{IsBeginningStatus, IsJudged, WritesBeginning, bound_by};
 
 use crate::open_collator::OpenCollator;
 use crate::statuses::{LONG_RUN, OK, UTF8, status_of_text};
@@ -50,6 +51,18 @@ pub fn write_beginning(
             }
             copy_beginning(made, out, needed)
         }
+    }
+}
+
+// How many bytes the key of a text of at most `length` bytes has at most.
+pub fn key_bound(collator: &OpenCollator, length: usize) -> usize
+    ensures bounds { BoundsKeys (key_by (keying_at collator.now) collator.now.book) length result }
+    ensures value { result ≡ bound_by collator.now.book length }
+{
+    let whole = collator.collator.key_bound(length);
+    match collator.compacter {
+        None => whole,
+        Some(_) => whole.saturating_mul(2).saturating_add(1),
     }
 }
 
