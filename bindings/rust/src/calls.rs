@@ -144,6 +144,7 @@ extern "C" {
         room: usize,
         needed: *mut usize,
     ) -> u32;
+    pub fn uca_key_bound(collator: *mut Collator, length: usize, bound: *mut usize) -> u32;
     pub fn uca_check_text(collator: *mut Collator, text: *const u8, length: usize, position: *mut usize) -> u32;
     pub fn uca_compact(
         collator: *mut Collator,

@@ -129,6 +129,15 @@ impl Collator {
         }
     }
 
+    /// How many bytes the sort key of a text of at most `length` bytes has at most. Most keys are far shorter. Where the
+    /// bound has no room in a `usize`, it is [`usize::MAX`].
+    pub fn key_bound(&mut self, length: usize) -> usize {
+        let mut bound = 0;
+        // SAFETY: the collator is open, and `bound` belongs to the call alone.
+        unsafe { calls::uca_key_bound(&mut self.inner, length, &mut bound) };
+        bound
+    }
+
     /// Whether a text is accepted. The error says where it is rejected.
     ///
     /// # Errors

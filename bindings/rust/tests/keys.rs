@@ -186,6 +186,13 @@ fn positions_of_errors() {
 }
 
 #[test]
+fn bounds_of_keys() {
+    assert_eq!(non_ignorable().key_bound(10), 5188);
+    assert_eq!(with_book().key_bound(10), 10377);
+    assert_eq!(with_book().key_bound(usize::MAX), usize::MAX);
+}
+
+#[test]
 fn beginnings_of_keys() {
     let mut out = [0xEE; 4];
     let mut collator = non_ignorable();
