@@ -255,7 +255,7 @@ static bool use_upgrade(opened *opened)
     return is_made(third, key, needed, NEW_KEY, sizeof NEW_KEY) && status == UCA_OK && other == UCA_OK;
 }
 
-/* Where a text is rejected, and the beginning of a key. Returns whether nothing failed. */
+/* Where a text is rejected, the beginning of a key, and the bound of keys. Returns whether nothing failed. */
 static bool use_texts(opened *opened)
 {
     uca_collator *it = &opened->collator;

@@ -254,8 +254,8 @@ uint32_t uca_key(uca_collator *collator, const uint8_t *text, size_t length, uin
 uint32_t uca_key_beginning(uca_collator *collator, const uint8_t *text, size_t length, uint8_t *out, size_t room, size_t *needed);
 
 /* How many bytes the key of a text of at most `length` bytes has at most. Room for so many is enough for every such text, so that
-   one call of uca_key makes the key. Most keys are far shorter: without a book the bound is 518 bytes for each byte of the text,
-   and 8 more. With a book it is twice that, and one more.
+   one call of uca_key makes the key. Most keys are far shorter: without a book the bound is 518 times `length`, and 8 more. With
+   a book it is twice that, and one more.
 
    UCA_OK: no key that uca_key makes of a text of at most `length` bytes has more than `*bound` bytes. Where the bound has no room
    in a size_t, it is SIZE_MAX.

@@ -156,8 +156,8 @@ const RUNS: [(usize, usize, usize, usize, usize); 16] = [
 ];
 
 /// Two texts, and how many bytes they have in common, if each has at most fifteen and is UTF-8. A text that ends within a
-/// code point is none, also where the other one begins with the bytes that are missing.
-const SHORT: [(&[u8], &[u8], Option<usize>); 24] = [
+/// code point is not UTF-8, also where the other one begins with the bytes that are missing.
+const SHORT: [(&[u8], &[u8], Option<usize>); 27] = [
     (b"", b"", Some(0)),
     (b"", b"a", Some(0)),
     (b"cart", b"cast", Some(2)),
@@ -180,6 +180,9 @@ const SHORT: [(&[u8], &[u8], Option<usize>); 24] = [
     (b"a\xFF", b"a", None),
     (b"\xED\xA0\x80", b"\xED\xA0\x80", None),
     (b"a", b"\xE0\x80\x80", None),
+    (b"a", b"\xA9", None),
+    (b"", b"abcdefghijklmn\xC3", None),
+    (b"", b"abcdefghijkl\xE1\x80\x80", Some(0)),
     (b"\xF0\x9F\x98\x80", b"\xF0\x9F\x98\x81", Some(3)),
     (b"\xF0\x9F\x98\x80", b"\xF4\x90\x80\x80", None),
 ];

@@ -37,7 +37,7 @@ pub record WritesBeginning (key before after : List ℕ) (count : ℕ) : Type 0 
   pub needed : count ≡ length key
   pub written : after ≡ take (length before) key ++ drop (length key) before
 
--- How many bytes a key of a text of so many bytes has at most. A compact key has at most one byte more than two whole keys.
+-- How many bytes a key of a text of so many bytes has at most. A compact key has at most one byte more than twice its whole key.
 abbrev pub bound_by : Option BookContent → ℕ → ℕ
 bound_by None count = key_bound count
 bound_by (Some b) count = min (2 * key_bound count + 1) (2 ^ 64 - 1)

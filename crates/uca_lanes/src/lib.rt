@@ -2,7 +2,7 @@
 //! pairs in a row spell one number.
 //!
 //! A loop over single bytes would end elsewhere for each text, and no processor foretells that. So two short texts are
-//! looked at together. Of longer ones that share fewer than eight bytes, bytes are taken one by one.
+//! looked at together. `shared_len` takes single bytes only where one of its two texts has fewer than eight.
 #![tactic(auto)]
 
 ghost use Rattle.std.specs.Prelude.{◌≡◌, ◌≢◌, ℕ, ◌+◌, ◌<◌, ◌≤◌, length, get_or, take};

@@ -23,7 +23,7 @@ fn same_of_sixteen(left: u8x16, right: u8x16) -> usize
 /// How many bytes two texts of at most fifteen bytes have in common at their beginning. For example, `cart` and `cast` have
 /// two. There is no result if a text has more bytes or is not UTF-8 (the Unicode Standard, section 3.9, table 3-7).
 ///
-/// Both texts are looked at once, with no loop. Zeros stand after the bytes of each, up to sixteen. So these 32 bytes are
+/// The two texts are judged together, with no loop. Zeros stand after the bytes of each, up to sixteen. So these 32 bytes are
 /// UTF-8 exactly if both texts are.
 #[inline(always)]
 pub fn shared_of_short(left: &[u8], right: &[u8]) -> Option<usize>

@@ -2,7 +2,8 @@
 use Rattle.std.specs.Prelude.{ℕ, ◌+◌, ◌-◌, ◌*◌, ◌^◌, ◌≤◌, List, length, min}
 use Rattle.std.specs.Str.{IsUtf8}
 
--- No key of a text of at most `count` bytes has more bytes. A key of 2^64 bytes or more fits into no memory, and counts as one of 2^64 - 1.
+-- No key of a text of at most `count` bytes has more than `bound` bytes. A key of 2^64 bytes or more fits into no memory, and counts
+-- as one of 2^64 - 1. So this says nothing where the bound is 2^64 - 1.
 abbrev pub BoundsKeys : (key_of : List ℕ → List ℕ) → (count bound : ℕ) → Type 0
 BoundsKeys key_of count bound = (text : List ℕ) → length text ≤ count → IsUtf8 text → min (length (key_of text)) (2 ^ 64 - 1) ≤ bound
 

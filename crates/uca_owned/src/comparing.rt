@@ -92,7 +92,7 @@ pub(crate) fn compare_bytes(
     }
 }
 
-/// How two texts compare, as [`compare_bytes`] says. It asks nothing of `compare_short`.
+/// How two texts compare, as [`compare_bytes`] says. It does not call `compare_short`.
 #[inline(never)]
 pub(crate) fn compare_all(
     collation: &OwnedCollation,

@@ -31,7 +31,8 @@ fn is_memory(fault: KeyFault) -> bool
     }
 }
 
-// The order of two byte strings. Most pairs of short texts differ soon, so they are not compared to be the same first.
+// The order of two byte strings. Most pairs of short texts differ soon. So all bytes are compared only where
+// `compare_short` has no result.
 #[inline(always)]
 fn order_bytes(
     collation: &OwnedCollation,

@@ -30,7 +30,7 @@ fn skip_same<'t>(left: &'t str, right: &'t str, shared: usize) -> Option<(&'t st
 }
 
 // The order of two texts by the first elements of what follows the code points with which both begin. There is no result if
-// these do not differ at level 1.
+// both have the same weight at level 1, or if one of these elements has none.
 #[inline(always)]
 fn order_of(
     weighting: Weighting,
@@ -48,7 +48,8 @@ fn order_of(
     }
 }
 
-// The order of two short texts that differ at level 1 in the ASCII code points at this position. Before it they are the same.
+// The order of two short texts that differ at level 1 in the ASCII code points at this position, or end there. Before it they
+// are the same. There is no result for others.
 #[inline(always)]
 fn order_ascii<A: Allocator>(
     points: &PointCache<A>,

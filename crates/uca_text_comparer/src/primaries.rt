@@ -188,9 +188,9 @@ pub(crate) fn first_element<A: Allocator>(
     }
 }
 
-/// The first element of what is left of a short text at this position, or none at its end. There is no result if the next
-/// code point or the one after it is no ASCII, as most are. The same is so if the first one has no element, or if one of both
-/// is not in the cache or not plain.
+/// The first element of what is left of a short text at this position, or none at its end. There is a result only if the
+/// next code point and the one after it, if there is one, are ASCII, as most are. Both have to be in the cache and plain, and
+/// the next one has to have an element.
 #[inline(always)]
 pub(crate) fn ascii_element<A: Allocator>(
     points: &PointCache<A>,
