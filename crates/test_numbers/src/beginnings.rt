@@ -236,7 +236,7 @@ fn check_known_beginnings(comparison: &TextComparison) -> Result<(), Fail> {
         )?;
     }
     holds(
-        comparison.order_after(settings, "ab", "aa", 0).is_none(),
+        comparison.order_after(settings, "ab", "aa", 0) == Some(Greater),
         "texts that have more in common",
     )
 }

@@ -63,7 +63,7 @@ const NO_LEFT: Result<(Ordering, u8), CompareFault> = Err(CompareFault::Left(Key
 
 const NO_RIGHT: Result<(Ordering, u8), CompareFault> = Err(CompareFault::Right(KeyFault::Utf8));
 
-const ROWS: [Row; 33] = [
+const ROWS: [Row; 37] = [
     (b"", b"", Ok((Equal, 0))),
     (b"", b"a", Ok((Less, 1))),
     (b"a", b"", Ok((Greater, 1))),
@@ -73,6 +73,10 @@ const ROWS: [Row; 33] = [
     (b"ba", b"bb", Ok((Less, 1))),
     (b"a", b"A", Ok((Less, 3))),
     (b"Ab", b"aa", Ok((Greater, 1))),
+    (b"A", b"ab", Ok((Less, 1))),
+    (b"Ab", b"a", Ok((Greater, 1))),
+    (b"Aab", b"aAd", Ok((Less, 1))),
+    (b"Ach", b"acb", Ok((Less, 1))),
     (b"ch", b"cb", Ok((Less, 1))),
     (b"ac", b"ach", Ok((Greater, 1))),
     (b"cha", b"d", Ok((Less, 1))),
@@ -100,7 +104,7 @@ const ROWS: [Row; 33] = [
 ];
 
 /// Under shifted, with an identical level.
-const IDENTICAL_ROWS: [Row; 9] = [
+const IDENTICAL_ROWS: [Row; 11] = [
     (b"a-b", b"aa", Ok((Greater, 1))),
     (b"aa", b"a-b", Ok((Less, 1))),
     (b"a\x01b", b"aa", Ok((Greater, 1))),
@@ -109,6 +113,8 @@ const IDENTICAL_ROWS: [Row; 9] = [
     (b"-a", b"a", Ok((Less, 4))),
     (b"-", b"", Ok((Greater, 4))),
     (b"a\x01", b"a", Ok((Greater, 5))),
+    (b"Ab", b"aa", Ok((Greater, 1))),
+    (b"A-b", b"aa", Ok((Greater, 1))),
     (b"a-", b"a-", Ok((Equal, 0))),
 ];
 

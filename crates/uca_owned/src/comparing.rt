@@ -40,8 +40,8 @@ fn compare_same(left: &[u8], right: &[u8]) -> Option<(Ordering, u8)>
     None
 }
 
-/// How two texts of at most fifteen bytes compare, if they are equal, or differ at level 1 right after what they have in
-/// common. Only what comes next in each is looked up. There is no result for others.
+/// How two texts of at most fifteen bytes compare, if they are equal, or differ at level 1 after what they have in common.
+/// Only what comes next in each is looked up. There is no result for others.
 #[inline(always)]
 pub(crate) fn compare_short(
     comparison: &TextComparison,

@@ -1,5 +1,5 @@
--- Two texts that differ at level 1 right after what they have in common at their begin.
-use Rattle.std.proofs.Common.{◌≡◌, ℕ, Option, Some, None, List, [], ◌∷◌, ◌++◌, length, take, drop, take-append-drop, take-take, false, refl, sym, ap, subst, ◌∙◌, append-nil, arith}
+-- Two texts that differ at level 1 after what they have in common at their begin.
+use Rattle.std.proofs.Common.{◌≡◌, ℕ, Option, Some, None, List, [], ◌∷◌, ◌++◌, length, map, take, drop, take-append-drop, take-take, false, refl, sym, ap, subst, ◌∙◌, append-nil, arith}
 use Rattle.std.specs.Prelude.{◌≤◌, IfSome}
 use Rattle.std.specs.Str.{chars, IsUtf8, IsCharBoundary}
 use Rattle.std.proofs.lemmas.Str.{chars-append, IsUtf8-take}
@@ -15,7 +15,9 @@ use Rattle.uca_elements.specs.Collations.{Collation}
 use Rattle.uca_order.specs.Depths.{compared_at, texts_compared}
 use Rattle.uca_comparison.specs.declared.walk.LevelsSoFar.{LevelsSoFar}
 use Rattle.uca_comparison.specs.Fronts.{FrontState, begun, counted, weight_here, is_ended, fetched}
-use Rattle.uca_comparison.specs.Walks.{Stands, Differs, none_decided}
+use Rattle.uca_order.specs.Levels.{weight_at, lexicographic}
+use Rattle.uca_order.specs.StreamedWeights.{weighted_after}
+use Rattle.uca_comparison.specs.Walks.{Stands, Differs, none_decided, non_zero, order_at}
 use Rattle.uca_comparison.specs.inside.Comparisons.{NothingElseDecides}
 use Rattle.uca_comparison.proofs.ComparisonLemmas.{compares_at}
 use Rattle.uca_comparison.proofs.WalkSteps.{stands_begun, stands_decided}
@@ -73,9 +75,18 @@ stands_cut c weighting xs ys left right shared left_is right_is begins begins_to
     (subst (λ l. Stands weighting es fs (begun l) (begun fs) (none_decided 1 1)) first begin) in
     stands_shared weighting es fs p (text_elements c left) (text_elements c right) false 0 (none_decided 1 1) (omega arith) (omega arith) split
 
+-- so level 1 compares as it goes on there
+pub goes_on_cut : (c : Collation) (weighting : Weighting) (xs ys left right : List ℕ) (rests : HaveRests xs ys left right) → BeginsPlain c left → BeginsPlain c right →
+    let flag = flag_after false (text_elements c rests.shared) in
+    let weights : List ℕ → List ℕ = λ rest. non_zero (map (weight_at 1) (weighted_after weighting flag (text_elements c rest))) in
+    lexicographic (weights left) (weights right) ≡ order_at weighting (text_elements c xs) (text_elements c ys) 1
+unfolding front_of
+goes_on_cut c weighting xs ys left right rests begins begins_too =
+    ((stands_cut c weighting xs ys left right rests.shared rests.left_is rests.right_is begins begins_too).through 1 (omega arith) (omega arith)).compares
+
 -- ---- The order
 
-none_else : (order : Ordering) (depth : Depth) (xs ys : List ℕ) → (order ≡ Equal → ⊥) → NothingElseDecides order depth xs ys
+pub none_else : (order : Ordering) (depth : Depth) (xs ys : List ℕ) → (order ≡ Equal → ⊥) → NothingElseDecides order depth xs ys
 none_else Less depth xs ys differ = tt
 none_else Greater depth xs ys differ = tt
 none_else Equal Weights xs ys differ = tt

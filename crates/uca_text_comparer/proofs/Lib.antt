@@ -4,4 +4,5 @@ pub mod PairSteps
 pub mod ComparerSteps
 pub mod PrimarySteps
 pub mod BeginningSteps
+pub mod LaterSteps
 pub mod ReadLengths

@@ -44,7 +44,7 @@ shifted_one true e false true marked is = rw marked (rw is (sym (eqb-true e.prim
 shifted_one false e false true marked is = rw marked (rw is refl)
 shifted_one flag e false false marked is = rw marked (rw is refl)
 
-level_one : (weighting : Weighting) (flag : Bool) (e : Element) → weight_at 1 (weights_of weighting flag e) ≡ primary_of weighting e
+pub level_one : (weighting : Weighting) (flag : Bool) (e : Element) → weight_at 1 (weights_of weighting flag e) ≡ primary_of weighting e
 level_one NonIgnorable flag e = refl
 level_one Shifted flag e = shifted_one flag e e.mark (nat_eq e.primary 0) refl refl
 

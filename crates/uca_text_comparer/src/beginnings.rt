@@ -1,15 +1,16 @@
-//! Two short texts that differ at level 1 right after the code points with which both begin.
+//! Two short texts that differ at level 1 after the code points with which both begin.
 //!
 //! For example, `cart` and `cast` both begin with `ca`, and `r` and `s` differ at level 1. No code point of `ca` is looked
-//! up: a text may be cut before a plain code point, whatever comes before it. How many elements that is stays unknown.
+//! up: a text may be cut before a plain code point, whatever comes before it. How many elements that is stays unknown. Code
+//! points that come next, and have the same weight at level 1, are passed too: `H` and `h` of `Haus` and `hat`.
 
 ghost use Rattle.std.specs.Prelude.{◌≡◌, ◌≤◌, ℕ, List, chars, length, take, IfSome};
 ghost use Rattle.uca_elements.specs.Collations.{Collation};
 ghost use Rattle.uca_plain.specs.PointCache.{AreTrueEntries};
 ghost use Rattle.uca_text_comparer.specs.inside.Beginnings.{HaveRests, DifferFirst};
-ghost use Rattle.uca_text_comparer.specs.inside.Shared.{HasFirst};
+ghost use Rattle.uca_text_comparer.specs.inside.Shared.{BeginsPlain, HasFirst};
 
-use crate::primaries::{ascii_element, first_element, first_weight};
+use crate::primaries::{ascii_element, compare_alone, first_element, first_weight};
 use std::alloc::Allocator;
 use std::cmp::Ordering;
 use uca_comparison::walk::{LevelStep, look_at};
@@ -71,7 +72,7 @@ fn order_ascii<A: Allocator>(
     order_of(weighting, left_first, right_first)
 }
 
-// The order of two texts that differ at level 1 right after the code points with which both begin, whatever comes next.
+// The order of two texts that differ at level 1 after the code points with which both begin, whatever comes next.
 #[inline(never)]
 fn order_cut<A: Allocator>(
     points: &PointCache<A>,
@@ -87,12 +88,36 @@ fn order_cut<A: Allocator>(
     let (left_rest, right_rest) = skip_same(left, right, shared)?;
     let left_first = first_element(points, left_rest)?;
     let right_first = first_element(points, right_rest)?;
-    order_of(weighting, left_first, right_first)
+    match order_of(weighting, left_first, right_first) {
+        Some(order) => Some(order),
+        None => order_later(points, weighting, left_rest, right_rest),
+    }
 }
 
-/// The order of two texts of at most 32 bytes that differ at level 1 right after the code points with which both begin. Their
-/// first bytes are the same, so many of them. There is no result for others, or if one of the next two code points of a
-/// text is not in the cache or not plain. Most of these are ASCII, and then no text is cut.
+// The order of two texts by what follows the code points with which both begin, if that differs at level 1 after some code
+// points that have the same weight there. For example, `Haus` and `hat` differ in `u` and `t`.
+#[inline(always)]
+fn order_later<A: Allocator>(
+    points: &PointCache<A>,
+    weighting: Weighting,
+    left: &str,
+    right: &str,
+) -> Option<Ordering>
+    ensures { (c : Collation) (xs ys : List ℕ) → AreTrueEntries c points.now.entries.items →
+        HaveRests xs ys (chars left.now) (chars right.now) → BeginsPlain c (chars left.now) → BeginsPlain c (chars right.now) →
+        IfSome result (DifferFirst c weighting xs ys) }
+{
+    let walked = compare_alone(points, weighting, left, right)?;
+    if walked.level == 1 {
+        Some(walked.order)
+    } else {
+        None
+    }
+}
+
+/// The order of two texts of at most 32 bytes that differ at level 1 after the code points with which both begin. Their first
+/// bytes are the same, so many of them. There is no result for others, or if a code point up to the one after the difference
+/// is not in the cache or not plain. Most of these are ASCII, and then no text is cut.
 #[inline(always)]
 pub(crate) fn order_rests<A: Allocator>(
     points: &PointCache<A>,

@@ -109,9 +109,10 @@ impl<A: Allocator> TextComparison<A> {
         }
     }
 
-    /// The order of two texts of at most 32 bytes that differ at level 1 right after the code points with which both
-    /// begin. Only those that come next are looked up. There is no result for other texts, for numbers by value if one
-    /// of the texts has a digit, and if nothing is known of a code point yet.
+    /// The order of two texts of at most 32 bytes that differ at level 1 after the code points with which both begin. For
+    /// example, `Haus` comes before `hut`. Only code points that come next are looked up: up to the first ones that have
+    /// other weights at level 1. There is no result for other texts, for numbers by value if one of the texts has a digit,
+    /// and if nothing is known of a code point yet.
     pub fn order_beginnings(&self, settings: Settings, left: &str, right: &str) -> Option<Ordering>
         ensures compared { (c : Collation) → AreTrueEntries c self.now.plain.points.entries.items → IfSome result (λ order.
             let answer = texts_compared c settings (chars left.now) (chars right.now) in
@@ -125,7 +126,7 @@ impl<A: Allocator> TextComparison<A> {
     }
 
     /// The order of two texts whose first bytes are the same, so many of them, as
-    /// [`order_beginnings`](TextComparison::order_beginnings) tells it. There is no result if they share a code point more.
+    /// [`order_beginnings`](TextComparison::order_beginnings) tells it. If they share a code point more, that is looked up.
     #[inline(always)]
     pub fn order_after(
         &self,

@@ -56,6 +56,26 @@ pub(crate) fn compare_primaries<A: Allocator>(
     }
 }
 
+/// How two texts compare if they differ at level 1 after some code points that have the same weight there, as
+/// `compare_primaries` says of what is left of two texts.
+pub(crate) fn compare_alone<A: Allocator>(
+    points: &PointCache<A>,
+    weighting: Weighting,
+    left: &str,
+    right: &str,
+) -> Option<Walked>
+    ensures { (c : Collation) → AreTrueEntries c points.now.entries.items →
+        IfSome result (ComparesTexts c weighting (chars left.now) (chars right.now)) }
+{
+    let begin = Pair {
+        left,
+        right,
+        passed_left: 0,
+        passed_right: 0,
+    };
+    compare_later(points, weighting, &begin)
+}
+
 // How two texts compare if they differ at level 1 after some code points that have the same weight there.
 #[inline(never)]
 fn compare_later<A: Allocator>(

@@ -1,4 +1,4 @@
--- Two texts that differ at level 1 right after what they have in common at their begin.
+-- Two texts that differ at level 1 after what they have in common at their begin.
 use Rattle.std.specs.Prelude.{◌≡◌, ℕ, List, ◌++◌}
 use Rattle.std.specs.declared.cmp.Ordering.{Ordering}
 use Rattle.uca_weights.specs.declared.Depth.{Depth}
