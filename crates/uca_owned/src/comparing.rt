@@ -1,10 +1,9 @@
 //! Comparing texts that are given as bytes.
 
 ghost use Rattle.std.specs.Prelude.{◌≡◌, chars, take, IfOk, IfErr, IfSome, OnOk};
-ghost use Rattle.uca_values.specs.Content.{Properties, properties_of};
+ghost use Rattle.uca_values.specs.Content.{properties_of};
 ghost use Rattle.uca_text.specs.Limits.{IsAccepted};
 ghost use Rattle.uca_text.specs.Faults.{IsCause};
-ghost use Rattle.uca_elements.specs.Collations.{Collation};
 ghost use Rattle.uca_order.specs.Depths.{written_text, texts_compared};
 ghost use Rattle.uca_order.specs.Keyings.{Keying, keying_by, bytes_compared};
 ghost use Rattle.uca_plain.specs.PointCache.{AreTrueEntries};
@@ -40,29 +39,6 @@ fn compare_same(left: &[u8], right: &[u8]) -> Option<(Ordering, u8)>
     None
 }
 
-/// How two texts of at most fifteen bytes compare, if they are equal, or differ at level 1 after what they have in common.
-/// Only what comes next in each is looked up. There is no result for others.
-#[inline(always)]
-pub(crate) fn compare_short(
-    comparison: &TextComparison,
-    settings: Settings,
-    left: &[u8],
-    right: &[u8],
-) -> Option<(Ordering, u8)>
-    ensures compared { (c : Collation) → AreTrueEntries c comparison.now.plain.points.entries.items → IfSome result (λ pair.
-        let answer = bytes_compared (keying_by c settings) left.now right.now in
-        (pair.0 ≡ answer.order) × (pair.1 ≡ answer.level)) }
-    ensures accepted { (properties : Properties) → IfSome result (λ _.
-        IsAcceptedText settings.numbers properties left.now × IsAcceptedText settings.numbers properties right.now) }
-{
-    let (left, right, shared) = read_short(left, right)?;
-    if shared == left.len() && shared == right.len() {
-        return Some((Ordering::Equal, 0));
-    }
-    let order = comparison.order_after(settings, left, right, shared)?;
-    Some((order, 1))
-}
-
 /// How two texts compare: their order, and the first level at which they differ, or 0.
 ///
 /// # Errors
@@ -86,15 +62,20 @@ pub(crate) fn compare_bytes(
     ensures fault { let properties = properties_of collation.now.properties in
         IfErr result (IsCompareCause settings.numbers properties left.now right.now) }
 {
-    match compare_short(comparison, settings, left, right) {
-        Some(pair) => Ok(pair),
-        None => compare_all(collation, comparison, settings, left, right),
+    let Some((left_text, right_text, shared)) = read_short(left, right) else {
+        return compare_all(collation, comparison, settings, left, right);
+    };
+    if shared == left.len() && shared == right.len() {
+        return Ok((Ordering::Equal, 0));
     }
+    compare_read(
+        collation, comparison, settings, left_text, right_text, shared,
+    )
 }
 
-/// How two texts compare, as [`compare_bytes`] says. It does not call `compare_short`.
+// How two texts compare, as `compare_bytes` says, whatever they are.
 #[inline(never)]
-pub(crate) fn compare_all(
+fn compare_all(
     collation: &OwnedCollation,
     comparison: &mut TextComparison,
     settings: Settings,
@@ -124,9 +105,33 @@ pub(crate) fn compare_all(
             Err(fault) => Err(CompareFault::Left(KeyFault::Text(fault))),
         };
     };
-    match compare_texts(
+    compare_read(
         collation, comparison, settings, left_text, right_text, shared,
-    ) {
+    )
+}
+
+// How two texts compare that are UTF-8, as `compare_bytes` says. Their first bytes are the same, so many of them.
+#[inline(always)]
+fn compare_read(
+    collation: &OwnedCollation,
+    comparison: &mut TextComparison,
+    settings: Settings,
+    left: &str,
+    right: &str,
+    shared: usize,
+) -> Result<(Ordering, u8), CompareFault>
+    requires same { take shared left.now ≡ take shared right.now }
+    requires entries { AreTrueEntries (owned_collation collation.now) comparison.old.plain.points.entries.items }
+    ensures known { AreTrueEntries (owned_collation collation.now) comparison.new.plain.points.entries.items }
+    ensures compared { IfOk result (λ pair.
+        let answer = bytes_compared (keying_by (owned_collation collation.now) settings) left.now right.now in
+        (pair.0 ≡ answer.order) × (pair.1 ≡ answer.level)) }
+    ensures accepted { let properties = properties_of collation.now.properties in OnOk result (
+        IsAcceptedText settings.numbers properties left.now × IsAcceptedText settings.numbers properties right.now) }
+    ensures fault { let properties = properties_of collation.now.properties in
+        IfErr result (IsCompareCause settings.numbers properties left.now right.now) }
+{
+    match compare_texts(collation, comparison, settings, left, right, shared) {
         Ok(pair) => Ok(pair),
         Err(PairFault::Left(fault)) => Err(CompareFault::Left(KeyFault::Text(fault))),
         Err(PairFault::Right(fault)) => Err(CompareFault::Right(KeyFault::Text(fault))),
@@ -181,7 +186,9 @@ fn judge_text(
     }
 }
 
-// How two texts compare that are UTF-8, and whose first bytes are the same, so many of them.
+// How two texts compare that are UTF-8, and whose first bytes are the same, so many of them. Only what comes next in each is
+// looked up, if that decides.
+#[inline(always)]
 fn compare_texts(
     collation: &OwnedCollation,
     comparison: &mut TextComparison,
@@ -206,6 +213,30 @@ fn compare_texts(
     if let Some(order) = comparison.order_after(settings, left, right, shared) {
         return Ok((order, 1));
     }
+    compare_whole(collation, comparison, settings, left, right)
+}
+
+// How two texts compare that are UTF-8, by all that they have.
+#[inline(never)]
+fn compare_whole(
+    collation: &OwnedCollation,
+    comparison: &mut TextComparison,
+    settings: Settings,
+    left: &str,
+    right: &str,
+) -> Result<(Ordering, u8), PairFault>
+    requires { AreTrueEntries (owned_collation collation.now) comparison.old.plain.points.entries.items }
+    ensures known { AreTrueEntries (owned_collation collation.now) comparison.new.plain.points.entries.items }
+    ensures compared { IfOk result (λ pair.
+        let answer = texts_compared (owned_collation collation.now) settings (chars left.now) (chars right.now) in
+        (pair.0 ≡ answer.order) × (pair.1 ≡ answer.level)) }
+    ensures accepted { let properties = properties_of collation.now.properties in OnOk result (
+        IsAccepted (written_text settings.numbers properties (chars left.now))
+        × IsAccepted (written_text settings.numbers properties (chars right.now))) }
+    ensures fault { let properties = properties_of collation.now.properties in IfErr result (IsPairCause
+        (written_text settings.numbers properties (chars left.now))
+        (written_text settings.numbers properties (chars right.now))) }
+{
     let collator = collation.collator();
     let compared = comparison.compare(&collator, settings, left, right)?;
     Ok((compared.order, compared.level))

@@ -10,7 +10,7 @@ ghost use Rattle.uca_owned.specs.Causes.{IsAcceptedText, IsCompareCause, is_memo
 ghost use Rattle.uca_owned.specs.Orders.{IsOrder};
 
 use crate::OwnedCollator;
-use crate::comparing::{compare_all, compare_short, judge};
+use crate::comparing::{compare_bytes, judge};
 use crate::faults::{CompareFault, KeyFault};
 use std::alloc::AllocError;
 use std::cmp::Ordering;
@@ -31,8 +31,10 @@ fn is_memory(fault: KeyFault) -> bool
     }
 }
 
-// The order of two byte strings. Most pairs of short texts differ soon. So all bytes are compared only where
-// `compare_short` has no result.
+// So few bytes are compared as fast as they are found out to be the same.
+const SHORT: usize = 15;
+
+// The order of two byte strings.
 #[inline(always)]
 fn order_bytes(
     collation: &OwnedCollation,
@@ -45,13 +47,10 @@ fn order_bytes(
     ensures known { AreTrueEntries (owned_collation collation.now) comparison.new.plain.points.entries.items }
     ensures order { IfOk result (IsOrder (keying_by (owned_collation collation.now) settings) left.now right.now) }
 {
-    if let Some(pair) = compare_short(comparison, settings, left, right) {
-        return Ok(pair.0);
-    }
-    if left == right {
+    if left.len() > SHORT && left == right {
         return Ok(Ordering::Equal);
     }
-    match compare_all(collation, comparison, settings, left, right) {
+    match compare_bytes(collation, comparison, settings, left, right) {
         Ok(pair) => Ok(pair.0),
         Err(fault) => order_rejected(collation, comparison, settings, left, right, fault),
     }

@@ -2,19 +2,11 @@
 use Rattle.std.proofs.Common.{List, ℕ, sym, subst}
 use Rattle.std.proofs.lemmas.Slice.Eq.{bytes_eq-Decides}
 use Rattle.std.specs.declared.cmp.Ordering.TheVariants.{Equal}
-use Rattle.uca_values.specs.Content.{properties_of}
 use Rattle.uca_order.specs.Keyings.{keying_by}
 use Rattle.uca_match.specs.OwnedCollations.{owned_collation}
 use Rattle.uca_owned.specs.Orders.{IsOrder}
 use Rattle.uca_owned.proofs.OrderLemmas.{accepted_order, same_order}
 use Rattle.uca_owned.proofs.order.order_bytes.Goals as goal
-
-pub returns-in-Some-clause-order : goal.returns-in-Some-clause-order
-returns-in-Some-clause-order c =
-    let collation = owned_collation c.args.collation.now in
-    let accepted = c.in-Some.ensures.accepted (properties_of c.args.collation.now.properties) in
-    accepted_order (keying_by collation c.args.settings) c.args.left.now c.args.right.now c.in-Some.pair.0
-    accepted.0 accepted.1 (c.in-Some.ensures.compared collation c.requires).0
 
 pub returns-then-eq-clause-order : goal.returns-then-eq-clause-order
 returns-then-eq-clause-order c =
