@@ -31,7 +31,7 @@ fn is_memory(fault: KeyFault) -> bool
     }
 }
 
-// So few bytes are compared as fast as they are found out to be the same.
+// Of two longer texts, it is found out first whether they are the same.
 const SHORT: usize = 15;
 
 // The order of two byte strings.
