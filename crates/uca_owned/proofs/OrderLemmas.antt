@@ -1,17 +1,20 @@
 -- The order of all byte strings is that of lists: 0 before the key of an accepted text, and 1 before all other bytes.
-use Rattle.std.proofs.Common.{◌≡◌, ◌⊎◌, ℕ, ◌≤◌, List, ◌∷◌, length, ◌∙◌, sym, ap, refl, chars, inl, inr}
+use Rattle.std.proofs.Common.{◌≡◌, ◌⊎◌, ℕ, ◌≤◌, List, ◌∷◌, length, ◌∙◌, sym, ap, subst, refl, chars, inl, inr}
 use Rattle.std.specs.Str.{IsUtf8}
 use Rattle.std.specs.declared.cmp.Ordering.{Ordering}
 use Rattle.std.specs.declared.cmp.Ordering.TheVariants.{Less, Equal, Greater}
 use Rattle.std.specs.Ordering.{ordering_reverse}
 use Rattle.std.proofs.lemmas.Cmp.{nat_list_cmp_total}
 use Rattle.uca_order.specs.Levels.{lexicographic}
-use Rattle.uca_order.specs.Depths.{read_points, lists_at}
+use Rattle.uca_weights.specs.declared.Numbers.{Numbers}
+use Rattle.uca_values.specs.Content.{Properties}
+use Rattle.uca_text.specs.Limits.{IsAccepted}
+use Rattle.uca_order.specs.Depths.{read_points, lists_at, written_text}
 use Rattle.uca_order.specs.Laws.{StoredKeysCompareAsTexts}
 use Rattle.uca_order.proofs.KeyOrder.{lexicographic_itself, lists_themselves}
 use Rattle.uca_text_comparer.proofs.ReadLengths.{short_text_accepted}
 use Rattle.uca_order.specs.Keyings.{Keying, key_of_bytes, bytes_compared}
-use Rattle.uca_owned.specs.Causes.{IsAcceptedBy}
+use Rattle.uca_owned.specs.Causes.{IsAcceptedBy, IsAcceptedText}
 use Rattle.uca_owned.specs.Orders.{IsOrder, OrdersAreTotal}
 
 -- two orders that cannot differ are one
@@ -49,6 +52,14 @@ pub short_accepted : (k : Keying) (bytes : List ℕ) → IsUtf8 bytes → length
 short_accepted k bytes utf8 short = record {
   utf8 = utf8;
   accepted = short_text_accepted k.settings.numbers k.collation.properties bytes utf8 short;
+}
+
+-- bytes of a text that is accepted
+pub accepted_bytes : (numbers : Numbers) (properties : Properties) (text bytes : List ℕ) → text ≡ bytes → IsUtf8 bytes
+    → IsAccepted (written_text numbers properties (chars text)) → IsAcceptedText numbers properties bytes
+accepted_bytes numbers properties text bytes same utf8 accepted = record {
+  utf8 = utf8;
+  accepted = subst (λ (l : List ℕ). IsAccepted (written_text numbers properties (chars l))) same accepted;
 }
 
 -- the order of two texts that are accepted

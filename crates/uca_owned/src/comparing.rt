@@ -68,9 +68,10 @@ pub(crate) fn compare_bytes(
     if shared == left.len() && shared == right.len() {
         return Ok((Ordering::Equal, 0));
     }
-    compare_read(
-        collation, comparison, settings, left_text, right_text, shared,
-    )
+    if let Some(order) = comparison.order_after(settings, left_text, right_text, shared) {
+        return Ok((order, 1));
+    }
+    compare_whole(collation, comparison, settings, left_text, right_text)
 }
 
 // How two texts compare, as `compare_bytes` says, whatever they are.
@@ -105,36 +106,9 @@ fn compare_all(
             Err(fault) => Err(CompareFault::Left(KeyFault::Text(fault))),
         };
     };
-    compare_read(
-        collation, comparison, settings, left_text, right_text, shared,
-    )
-}
-
-// How two texts compare that are UTF-8, as `compare_bytes` says. Their first bytes are the same, so many of them.
-#[inline(always)]
-fn compare_read(
-    collation: &OwnedCollation,
-    comparison: &mut TextComparison,
-    settings: Settings,
-    left: &str,
-    right: &str,
-    shared: usize,
-) -> Result<(Ordering, u8), CompareFault>
-    requires same { take shared left.now ≡ take shared right.now }
-    requires entries { AreTrueEntries (owned_collation collation.now) comparison.old.plain.points.entries.items }
-    ensures known { AreTrueEntries (owned_collation collation.now) comparison.new.plain.points.entries.items }
-    ensures compared { IfOk result (λ pair.
-        let answer = bytes_compared (keying_by (owned_collation collation.now) settings) left.now right.now in
-        (pair.0 ≡ answer.order) × (pair.1 ≡ answer.level)) }
-    ensures accepted { let properties = properties_of collation.now.properties in OnOk result (
-        IsAcceptedText settings.numbers properties left.now × IsAcceptedText settings.numbers properties right.now) }
-    ensures fault { let properties = properties_of collation.now.properties in
-        IfErr result (IsCompareCause settings.numbers properties left.now right.now) }
-{
-    match compare_texts(collation, comparison, settings, left, right, shared) {
-        Ok(pair) => Ok(pair),
-        Err(PairFault::Left(fault)) => Err(CompareFault::Left(KeyFault::Text(fault))),
-        Err(PairFault::Right(fault)) => Err(CompareFault::Right(KeyFault::Text(fault))),
+    match comparison.order_after(settings, left_text, right_text, shared) {
+        Some(order) => Ok((order, 1)),
+        None => compare_whole(collation, comparison, settings, left_text, right_text),
     }
 }
 
@@ -186,37 +160,7 @@ fn judge_text(
     }
 }
 
-// How two texts compare that are UTF-8, and whose first bytes are the same, so many of them. Only what comes next in each is
-// looked up, if that decides.
-#[inline(always)]
-fn compare_texts(
-    collation: &OwnedCollation,
-    comparison: &mut TextComparison,
-    settings: Settings,
-    left: &str,
-    right: &str,
-    shared: usize,
-) -> Result<(Ordering, u8), PairFault>
-    requires same { take shared left.now ≡ take shared right.now }
-    requires entries { AreTrueEntries (owned_collation collation.now) comparison.old.plain.points.entries.items }
-    ensures known { AreTrueEntries (owned_collation collation.now) comparison.new.plain.points.entries.items }
-    ensures compared { IfOk result (λ pair.
-        let answer = texts_compared (owned_collation collation.now) settings (chars left.now) (chars right.now) in
-        (pair.0 ≡ answer.order) × (pair.1 ≡ answer.level)) }
-    ensures accepted { let properties = properties_of collation.now.properties in OnOk result (
-        IsAccepted (written_text settings.numbers properties (chars left.now))
-        × IsAccepted (written_text settings.numbers properties (chars right.now))) }
-    ensures fault { let properties = properties_of collation.now.properties in IfErr result (IsPairCause
-        (written_text settings.numbers properties (chars left.now))
-        (written_text settings.numbers properties (chars right.now))) }
-{
-    if let Some(order) = comparison.order_after(settings, left, right, shared) {
-        return Ok((order, 1));
-    }
-    compare_whole(collation, comparison, settings, left, right)
-}
-
-// How two texts compare that are UTF-8, by all that they have.
+// How two texts compare that are UTF-8, as `compare_bytes` says, by all that they have.
 #[inline(never)]
 fn compare_whole(
     collation: &OwnedCollation,
@@ -224,20 +168,21 @@ fn compare_whole(
     settings: Settings,
     left: &str,
     right: &str,
-) -> Result<(Ordering, u8), PairFault>
+) -> Result<(Ordering, u8), CompareFault>
     requires { AreTrueEntries (owned_collation collation.now) comparison.old.plain.points.entries.items }
     ensures known { AreTrueEntries (owned_collation collation.now) comparison.new.plain.points.entries.items }
     ensures compared { IfOk result (λ pair.
-        let answer = texts_compared (owned_collation collation.now) settings (chars left.now) (chars right.now) in
+        let answer = bytes_compared (keying_by (owned_collation collation.now) settings) left.now right.now in
         (pair.0 ≡ answer.order) × (pair.1 ≡ answer.level)) }
     ensures accepted { let properties = properties_of collation.now.properties in OnOk result (
-        IsAccepted (written_text settings.numbers properties (chars left.now))
-        × IsAccepted (written_text settings.numbers properties (chars right.now))) }
-    ensures fault { let properties = properties_of collation.now.properties in IfErr result (IsPairCause
-        (written_text settings.numbers properties (chars left.now))
-        (written_text settings.numbers properties (chars right.now))) }
+        IsAcceptedText settings.numbers properties left.now × IsAcceptedText settings.numbers properties right.now) }
+    ensures fault { let properties = properties_of collation.now.properties in
+        IfErr result (IsCompareCause settings.numbers properties left.now right.now) }
 {
     let collator = collation.collator();
-    let compared = comparison.compare(&collator, settings, left, right)?;
-    Ok((compared.order, compared.level))
+    match comparison.compare(&collator, settings, left, right) {
+        Ok(compared) => Ok((compared.order, compared.level)),
+        Err(PairFault::Left(fault)) => Err(CompareFault::Left(KeyFault::Text(fault))),
+        Err(PairFault::Right(fault)) => Err(CompareFault::Right(KeyFault::Text(fault))),
+    }
 }

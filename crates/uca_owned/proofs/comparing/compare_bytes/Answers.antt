@@ -26,3 +26,10 @@ returns-then-shared-right-clause-accepted c =
     let utf8 = c.in-Some.ensures.utf8 in
     let short = c.in-Some.ensures.short in
     (short_accepted k c.args.left.now utf8.0 (omega (arith, short.0)), short_accepted k c.args.right.now utf8.1 (omega (arith, short.1)))
+
+pub returns-in-Some-order_after-clause-accepted : goal.returns-in-Some-order_after-clause-accepted
+returns-in-Some-order_after-clause-accepted c =
+    let k = keying_by (owned_collation c.args.collation.now) c.args.settings in
+    let utf8 = c.in-Some.ensures.utf8 in
+    let short = c.in-Some.ensures.short in
+    (short_accepted k c.args.left.now utf8.0 (omega (arith, short.0)), short_accepted k c.args.right.now utf8.1 (omega (arith, short.1)))
