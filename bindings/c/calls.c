@@ -127,6 +127,75 @@ static void check_compare(uca_collator *it)
     CHECK(uca_compare(it, BYTES("a\xC3\xA1"), BYTES("a\xC3"), &found) == UCA_UTF8 && found.order == 0);
     CHECK(uca_compare(it, BYTES("a\xC3"), BYTES("a\xC3\xA1"), &found) == UCA_UTF8 && found.order == 0);
     CHECK(uca_compare(it, BYTES("a\xC3\xA1"), BYTES("a\xC3\xC3\xA1"), &found) == UCA_UTF8 && found.order == 0);
+    /* the right text may begin with the bytes that the left one lacks */
+    CHECK(uca_compare(it, BYTES("\xC3"), BYTES("\xA1"), &found) == UCA_UTF8 && found.order == 0);
+    CHECK(uca_compare(it, BYTES("\xC3"), BYTES("\xC3"), &found) == UCA_UTF8 && found.order == 0);
+    CHECK(uca_compare(it, BYTES("aaaaaaaaaaaaaa\xC3"), BYTES("\xA1"), &found) == UCA_UTF8 && found.order == 0);
+    CHECK(uca_compare(it, BYTES("b"), BYTES("\xED\xA0\x80"), &found) == UCA_UTF8 && found.order == 0);
+}
+
+/* Two texts, their order, and the level at which they differ. */
+typedef struct pair {
+    const char *left, *right;
+    size_t left_length, right_length;
+    int32_t order;
+    uint32_t level;
+} pair;
+
+#define PAIR(left, right, order, level) {left, right, sizeof(left) - 1, sizeof(right) - 1, order, level}
+
+/* `A` has the weight of `a` at level 1. `ch` is one element, which is less than that of `c`. U+0001 has no weight, the hyphen is
+   variable, and U+0000 has no row, and so an implicit weight. U+00F8 has two bytes. */
+static const char PAIR_TABLE[] =
+    "@version 1\n0001 ; [.0000.0000.0000]\n002D ; [*020D.0020.0002]\n0030 ; [.1C3D.0020.0002]\n0031 ; [.1C3E.0020.0002]\n"
+    "0032 ; [.1C3F.0020.0002]\n0033 ; [.1C40.0020.0002]\n0034 ; [.1C41.0020.0002]\n0035 ; [.1C42.0020.0002]\n"
+    "0036 ; [.1C43.0020.0002]\n0037 ; [.1C44.0020.0002]\n0038 ; [.1C45.0020.0002]\n0039 ; [.1C46.0020.0002]\n"
+    "0061 ; [.1C47.0020.0002]\n0041 ; [.1C47.0020.0008]\n0062 ; [.1C60.0020.0002]\n0063 0068 ; [.1C70.0020.0002]\n"
+    "0064 ; [.1C75.0020.0002]\n0063 ; [.1C7A.0020.0002]\n0068 ; [.1D18.0020.0002]\n00F8 ; [.1CAA.0020.0002]\n";
+
+static const pair PAIRS[] = {
+    PAIR("", "", 0, 0), PAIR("", "a", -1, 1), PAIR("a", "", 1, 1), PAIR("a", "a", 0, 0), PAIR("a", "b", -1, 1), PAIR("ab", "a", 1, 1),
+    PAIR("ba", "bb", -1, 1), PAIR("a", "A", -1, 3), PAIR("Ab", "aa", 1, 1), PAIR("A", "ab", -1, 1), PAIR("Ab", "a", 1, 1),
+    PAIR("Aab", "aAd", -1, 1), PAIR("Ach", "acb", -1, 1), PAIR("ch", "cb", -1, 1), PAIR("ac", "ach", 1, 1), PAIR("cha", "d", -1, 1),
+    PAIR("ach", "ad", -1, 1), PAIR("ch", "ch", 0, 0), PAIR("a\0", "a", 1, 1), PAIR("a", "a\0", -1, 1), PAIR("a-", "a", 1, 1),
+    PAIR("a\x01", "a", 0, 0), PAIR("a\001b", "aa", 1, 1), PAIR("a9", "a10", 1, 1), PAIR("aaaaaaaaaaaaaaa", "aaaaaaaaaaaaaaa", 0, 0),
+    PAIR("aaaaaaaaaaaaaab", "aaaaaaaaaaaaaaa", 1, 1), PAIR("aaaaaaaaaaaaaaaa", "aaaaaaaaaaaaaaab", -1, 1), PAIR("\xC3\xB8", "b", 1, 1),
+    PAIR("a\xC3\xB8", "ab", 1, 1), PAIR("\xC3\xB8", "\xC3\xB8", 0, 0),
+};
+
+/* under shifted, with an identical level */
+static const pair IDENTICAL_PAIRS[] = {
+    PAIR("a-b", "aa", 1, 1), PAIR("aa", "a-b", -1, 1), PAIR("a\001b", "aa", 1, 1), PAIR("a", "A", -1, 3), PAIR("a-", "a", 1, 4),
+    PAIR("-a", "a", -1, 4), PAIR("-", "", 1, 4), PAIR("a\x01", "a", 1, 5), PAIR("Ab", "aa", 1, 1), PAIR("A-b", "aa", 1, 1), PAIR("a-", "a-", 0, 0),
+};
+
+/* with numbers by value */
+static const pair NUMBER_PAIRS[] = {
+    PAIR("a9", "a10", -1, 1), PAIR("a10", "a9", 1, 1), PAIR("007", "7", 0, 0), PAIR("19", "1a", 1, 1), PAIR("9", "9", 0, 0), PAIR("ab", "aa", 1, 1),
+};
+
+/* At first nothing is known of any code point, and then all are known. */
+static void check_pairs(uint32_t weighting, uint32_t depth, const pair *pairs, size_t count)
+{
+    uca_collator it = UCA_CLOSED_COLLATOR;
+    uca_error error;
+    CHECK(opened(&it, PAIR_TABLE, DATA, weighting, depth, &error) == UCA_OK);
+    for (size_t i = 0; i < 2 * count; i++) {
+        const pair *at = &pairs[i % count];
+        const uint8_t *left = (const uint8_t *)at->left, *right = (const uint8_t *)at->right;
+        uca_comparison found = {7, 7};
+        int32_t order = 7;
+        CHECK(uca_compare(&it, left, at->left_length, right, at->right_length, &found) == UCA_OK && found.order == at->order && found.level == at->level);
+        CHECK(uca_order(&it, left, at->left_length, right, at->right_length, &order) == UCA_OK && order == at->order);
+    }
+    uca_close(&it);
+}
+
+static void check_short_texts(void)
+{
+    check_pairs(UCA_NON_IGNORABLE, UCA_WEIGHTS, PAIRS, sizeof PAIRS / sizeof *PAIRS);
+    check_pairs(UCA_SHIFTED, UCA_IDENTICAL, IDENTICAL_PAIRS, sizeof IDENTICAL_PAIRS / sizeof *IDENTICAL_PAIRS);
+    check_pairs(UCA_NON_IGNORABLE, UCA_NUMERIC, NUMBER_PAIRS, sizeof NUMBER_PAIRS / sizeof *NUMBER_PAIRS);
 }
 
 static bool is_order(uca_collator *collator, const uint8_t *left, size_t left_length, const uint8_t *right, size_t right_length, int32_t order)
@@ -1394,6 +1463,7 @@ int main(void)
     check_keys(&it);
     check_compare(&it);
     check_order(&it);
+    check_short_texts();
     check_stored_keys();
     check_limits(&it);
     check_threads(&it);

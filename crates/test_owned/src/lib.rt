@@ -1,8 +1,6 @@
 //! Tests of an owned collator: keys of texts of many lengths and of many pages of code points, the levels of a key, and
-//! the bound of keys. Beside these, one more collator that shares the table of another, and comparisons of short texts.
+//! the bound of keys. Beside these, one more collator that shares the table of another.
 #![tactic(auto)]
 
 #[cfg(test)]
 mod collators;
-#[cfg(test)]
-mod comparisons;
