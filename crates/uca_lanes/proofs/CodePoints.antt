@@ -496,12 +496,3 @@ few-IsUtf8 bs short = (λ h. (agree-IsUtf8 bs).0 (counts h.0 h.1, seconds), λ u
       after_f0 = none_and _ _ (absent 0xf0 (omega arith)) ∙ sym (absent 0xf0 (omega arith));
       after_f4 = none_and _ _ (absent 0xf4 (omega arith));
     }
-
--- ---- ASCII
-
-pub ascii-IsUtf8 : (bs : List ℕ) → marks_from 0x80 bs ≡ 0 → IsUtf8 bs
-ascii-IsUtf8 bs none =
-    let starts : marks_from 0xc0 bs ≡ 0 = omega (arith, none, falls_all 0x80 0xc0 bs (omega arith)) in
-    let leads : marks_from 0xc2 bs ≡ 0 = omega (arith, none, falls_all 0x80 0xc2 bs (omega arith)) in
-    let long : marks_from 0xe0 bs ≡ 0 = omega (arith, none, falls_all 0x80 0xe0 bs (omega arith)) in
-    (few-IsUtf8 bs long).0 (starts ∙ sym leads, omega (arith, none, starts, leads))

@@ -144,19 +144,17 @@ fn seconds_agree(front: u8x16, back: u8x16, both: u64) -> bool
         & (after_f4 & from_90 == 0)
 }
 
-/// Whether these bytes are UTF-8. Many are ASCII, and most others have no code point of more than two bytes.
+/// Whether these bytes are UTF-8. Most have no code point of more than two bytes. It is not asked whether all are ASCII: where
+/// only some texts are, that takes more time than it saves.
 #[inline(always)]
 pub(crate) fn are_utf8(front: u8x16, back: u8x16, both: u64) -> bool
     requires { both ≤ 16 }
     ensures { IsTrue result ↔ IsUtf8 (joined front back both) }
 {
-    let high = marks_from(front, back, both, 0x80);
-    if high == 0 {
-        return true;
-    }
     if marks_from(front, back, both, 0xE0) != 0 {
         return counts_agree(front, back, both) & seconds_agree(front, back, both);
     }
+    let high = marks_from(front, back, both, 0x80);
     let starts = marks_from(front, back, both, 0xC0);
     let leads = marks_from(front, back, both, 0xC2);
     (starts == leads) & (2 * leads + starts == high)

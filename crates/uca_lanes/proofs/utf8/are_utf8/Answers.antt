@@ -1,11 +1,8 @@
 use Rattle.std.proofs.Common.{ℕ, ◌≡◌, ◌↔◌, ◌&&◌, ◌+◌, ◌*◌, ◌∙◌, IsTrue, nat_eq, refl, sym, ap₂, arith, eq-eqb, eqb-true}
 use Rattle.std.proofs.lemmas.Bool.{and_parts, and_from}
 use Rattle.uca_lanes.specs.inside.Marks.{joined}
-use Rattle.uca_lanes.proofs.CodePoints.{agree-IsUtf8, few-IsUtf8, ascii-IsUtf8}
+use Rattle.uca_lanes.proofs.CodePoints.{agree-IsUtf8, few-IsUtf8}
 use Rattle.uca_lanes.proofs.utf8.are_utf8.Goals as goal
-
-pub returns-then-high-eq0 : goal.returns-then-high-eq0
-returns-then-high-eq0 c = (λ _. ascii-IsUtf8 (joined c.args.front c.args.back c.args.both) (sym c.marks_from-high.ensures.marks ∙ omega (arith, c.if-high-eq0.true)), λ _. refl)
 
 pub returns-then-marks_from-ne0 : goal.returns-then-marks_from-ne0
 returns-then-marks_from-ne0 c =
