@@ -1,7 +1,7 @@
 //! Two short texts that are ordered by what comes right after the code points with which both begin.
 
 ghost use Rattle.uca_elements.specs.Collations.{collation_of};
-ghost use Rattle.uca_plain.specs.PointCache.{AreTrueEntries};
+ghost use Rattle.uca_text_comparer.specs.Heads.{Knows};
 
 use std::alloc::Global;
 use std::cmp::Ordering;
@@ -16,10 +16,9 @@ use uca_weights::{Depth, Numbers, Settings, Source, Weighting};
 /// All code points of the texts below, but `c`, the accent and the letters with one.
 const KNOWN: &str = "ab019\u{4e01}\u{4e02}";
 
-/// Two texts and their order, if the next code points of both decide it. That of `a` before an accent is a letter with an
-/// accent, which is not plain, and so is the letter that is written as one code point. The ideographs have the same first
-/// weight, and the same first bytes.
-const PAIRS: [(&str, &str, Option<Ordering>); 13] = [
+/// Two texts and their order, if the next code points of both decide it. `a` before an accent is not read alone. The
+/// ideographs have the same first weight, and the same first bytes.
+const PAIRS: [(&str, &str, Option<Ordering>); 11] = [
     ("aa", "ab", Some(Less)),
     ("ab", "aa", Some(Greater)),
     ("a", "ab", Some(Less)),
@@ -30,23 +29,27 @@ const PAIRS: [(&str, &str, Option<Ordering>); 13] = [
     ("", "", None),
     ("ab\u{301}", "aa", None),
     ("a\u{301}", "ab", None),
-    ("\u{e1}", "b", None),
-    ("c", "b", None),
     ("a\u{4e01}", "a\u{4e02}", None),
 ];
 
-/// Two texts, how many bytes they have in common at their beginning, and their order after these. A code point may have
-/// some of these bytes, as U+00E1 and U+00E9 have C3. Fewer than eight bytes are taken one by one, and others eight at a
+/// Two texts with a code point that is not known at first, how many bytes they have in common, and their order once it is
+/// known. U+00E1 and U+00E9 have the first byte C3.
+const LATER: [(&str, &str, usize, Ordering); 4] = [
+    ("\u{e1}", "b", 0, Less),
+    ("c", "b", 0, Greater),
+    ("abc", "ab", 2, Greater),
+    ("a\u{e1}", "a\u{e9}", 2, Less),
+];
+
+/// Two texts, how many bytes they have in common at their beginning, and their order after these. Fewer than eight bytes are taken one by one, and others eight at a
 /// time: the last eight may overlap those before.
-const BEGINNINGS: [(&str, &str, usize, Option<Ordering>); 17] = [
+const BEGINNINGS: [(&str, &str, usize, Option<Ordering>); 15] = [
     ("", "", 0, None),
     ("", "a", 0, Some(Less)),
     ("a", "", 0, Some(Greater)),
     ("a", "b", 0, Some(Less)),
     ("ab", "ab", 2, None),
-    ("abc", "ab", 2, None),
     ("aba", "abb", 2, Some(Less)),
-    ("a\u{e1}", "a\u{e9}", 2, None),
     ("aaaaaaaa", "aaaaaaaa", 8, None),
     ("baaaaaaa", "aaaaaaaa", 0, Some(Greater)),
     ("aaaaaaab", "aaaaaaaa", 7, Some(Greater)),
@@ -56,6 +59,37 @@ const BEGINNINGS: [(&str, &str, usize, Option<Ordering>); 17] = [
     ("ababababababababa", "ababababababababb", 16, Some(Less)),
     ("ababababa", "abababab", 8, Some(Greater)),
     ("aaaaaaaa\u{4e01}", "aaaaaaaa\u{4e02}", 10, None),
+];
+
+/// Rows of a table, after those of the digits. They are of a capital letter with the weight of the small one, a variable
+/// hyphen, and a letter with two weights. Then come two letters of two bytes, and one of three bytes.
+const MORE_ROWS: &str = "0041 ; [.1C47.0020.0008]\n\
+    002D ; [*020D.0020.0002]\n\
+    00DF ; [.1C60.0020.0004][.0000.0024.0004][.1C60.0020.0004]\n\
+    03B1 ; [.1C70.0020.0002]\n\
+    03B2 ; [.1C71.0020.0002]\n\
+    0905 ; [.1C80.0020.0002]\n";
+
+/// Two texts and their order, first where variable elements are non-ignorable, and then where they are shifted: a hyphen has
+/// no weight at level 1 then. Where the next code points have the same weight, those after them decide. Two letters may have
+/// their first byte in common.
+const HEADS: [(&str, &str, Option<Ordering>, Option<Ordering>); 16] = [
+    ("Ab", "aa", Some(Greater), Some(Greater)),
+    ("aAa", "aab", Some(Less), Some(Less)),
+    ("A", "ab", Some(Less), Some(Less)),
+    ("A", "a", None, None),
+    ("\u{3b1}", "\u{3b2}", Some(Less), Some(Less)),
+    ("A\u{3b2}", "a\u{3b1}b", Some(Greater), Some(Greater)),
+    ("\u{3b1}", "b", Some(Greater), Some(Greater)),
+    ("\u{3b1}\u{301}", "\u{3b2}", None, None),
+    ("\u{3b1}", "\u{3b2}\u{301}", None, None),
+    ("-", "a", Some(Less), None),
+    ("a-b", "aab", Some(Less), None),
+    ("b-", "a-", Some(Greater), Some(Greater)),
+    ("\u{df}", "a", Some(Greater), Some(Greater)),
+    ("\u{df}a", "bb", None, None),
+    ("b\u{df}", "a\u{df}", Some(Greater), Some(Greater)),
+    ("\u{905}", "a", Some(Greater), Some(Greater)),
 ];
 
 /// Each row of table 3-7 of the Unicode Standard, by its first and its last code point.
@@ -210,8 +244,8 @@ fn learn<L: Lookup>(
     collator: &Collator<L>,
     text: &str,
 ) -> Result<(), Fail>
-    requires { AreTrueEntries (collation_of L.content collator.now) comparison.old.plain.points.entries.items }
-    ensures { AreTrueEntries (collation_of L.content collator.now) comparison.new.plain.points.entries.items }
+    requires { Knows (collation_of L.content collator.now) comparison.old }
+    ensures { Knows (collation_of L.content collator.now) comparison.new }
 {
     comparison.compare(collator, settings_by(Numbers::AsText), text, text)?;
     Ok(())
@@ -239,6 +273,20 @@ fn check_known_beginnings(comparison: &TextComparison) -> Result<(), Fail> {
         comparison.order_after(settings, "ab", "aa", 0) == Some(Greater),
         "texts that have more in common",
     )
+}
+
+fn check_later(comparison: &TextComparison, is_known: bool) -> Result<(), Fail> {
+    let settings = settings_by(Numbers::AsText);
+    for (left, right, wanted, order) in LATER {
+        let shared = shared_len(left.as_bytes(), right.as_bytes());
+        holds(shared == wanted, left)?;
+        let order = if is_known { Some(order) } else { None };
+        holds(
+            comparison.order_after(settings, left, right, shared) == order,
+            right,
+        )?;
+    }
+    Ok(())
 }
 
 fn check_short() -> Result<(), Fail> {
@@ -356,6 +404,34 @@ fn check_by_value(comparison: &TextComparison) -> Result<(), Fail> {
     Ok(())
 }
 
+fn check_heads(comparison: &TextComparison, weighting: Weighting) -> Result<(), Fail> {
+    let settings = Settings {
+        weighting,
+        ..settings_by(Numbers::AsText)
+    };
+    for (left, right, not_ignored, shifted) in HEADS {
+        let wanted = match weighting {
+            Weighting::NonIgnorable => not_ignored,
+            Weighting::Shifted => shifted,
+        };
+        let found = comparison.order_beginnings(settings, left, right);
+        holds(found == wanted, left)?;
+    }
+    Ok(())
+}
+
+/// What is known under one weighting is not asked under the other one.
+fn check_weightings<L: Lookup>(alloc: Global, collator: &Collator<L>) -> Result<(), Fail> {
+    let mut comparison = TextComparison::new(alloc, alloc);
+    learn(&mut comparison, collator, "\u{905}")?;
+    for weighting in [Weighting::NonIgnorable, Weighting::Shifted] {
+        comparison.learn_heads(collator, weighting)?;
+        check_heads(&comparison, Weighting::NonIgnorable)?;
+        check_heads(&comparison, Weighting::Shifted)?;
+    }
+    Ok(())
+}
+
 fn check_all<L: Lookup>(alloc: Global, collator: &Collator<L>) -> Result<(), Fail> {
     let mut comparison = TextComparison::new(alloc, alloc);
     let settings = settings_by(Numbers::AsText);
@@ -366,6 +442,11 @@ fn check_all<L: Lookup>(alloc: Global, collator: &Collator<L>) -> Result<(), Fai
     learn(&mut comparison, collator, KNOWN)?;
     check_pairs(&comparison)?;
     check_known_beginnings(&comparison)?;
+    check_later(&comparison, false)?;
+    comparison.learn_heads(collator, settings.weighting)?;
+    check_pairs(&comparison)?;
+    check_known_beginnings(&comparison)?;
+    check_later(&comparison, true)?;
     check_short()?;
     check_utf8(alloc)?;
     check_runs(alloc)?;
@@ -380,4 +461,14 @@ fn orders_texts_by_what_comes_after_their_beginning(rt: HostRuntime) -> Result<(
     let data = data_of(alloc, &mut Source::new(DATA.as_bytes()))?;
     let trie = Trie::new(alloc, &table)?;
     check_all(alloc, &Collator::new(&trie, &table.header, &data))
+}
+
+#[test]
+fn orders_texts_by_the_weights_of_the_first_code_points(rt: HostRuntime) -> Result<(), Fail> {
+    let alloc = rt.alloc();
+    let file = format!(in alloc; "{NUMBER_TABLE}{MORE_ROWS}")?;
+    let table = table_of(alloc, &mut Source::new(file.as_bytes()))?;
+    let data = data_of(alloc, &mut Source::new(DATA.as_bytes()))?;
+    let trie = Trie::new(alloc, &table)?;
+    check_weightings(alloc, &Collator::new(&trie, &table.header, &data))
 }

@@ -123,7 +123,7 @@ both_on vs ws f g order m n same on = at (nat_eq (first_of vs) 0) refl
     at false is = some_on vs ws f g order m n (λ e. let t : nat_eq (first_of vs) 0 ≡ true = eq-eqb (first_of vs) 0 e in cc) same on
 
 -- of two weights that differ the order is theirs
-then_apart : (v w : ℕ) (later : Ordering) → v ≢ w → ordering_then (nat_cmp v w) later ≡ nat_cmp v w
+pub then_apart : (v w : ℕ) (later : Ordering) → v ≢ w → ordering_then (nat_cmp v w) later ≡ nat_cmp v w
 then_apart v w later other =
     by_ranked (v < w) (v ≡ w) (w < v) (nat_cmp v w) (ranked v w (nat_cmp v w) refl)
     (λ e h. ap (λ o. ordering_then o later) e ∙ sym e)

@@ -101,7 +101,7 @@ ended_here : (weighting : Weighting) (level : ℕ) (f : FrontState) → (weight_
     → first_of (weights_left weighting level f) ≡ 0 → weights_left weighting level f ≡ []
 ended_here weighting level f ended none = front_ended weighting level f (ended none)
 
-not_equal : (v w : ℕ) (order : Ordering) → order ≡ nat_cmp v w → v ≢ w → order ≢ Equal
+pub not_equal : (v w : ℕ) (order : Ordering) → order ≡ nat_cmp v w → v ≢ w → order ≢ Equal
 not_equal v w order is apart equal =
     by_ranked (v < w) (v ≡ w) (w < v) (nat_cmp v w) (ranked v w (nat_cmp v w) refl)
     (λ e h. let no : Less ≡ Equal = sym e ∙ sym is ∙ equal in absurd cc)

@@ -1,5 +1,5 @@
 -- The order of all byte strings is that of lists: 0 before the key of an accepted text, and 1 before all other bytes.
-use Rattle.std.proofs.Common.{◌≡◌, ◌⊎◌, ℕ, ◌≤◌, List, ◌∷◌, length, ◌∙◌, sym, ap, subst, refl, chars, inl, inr}
+use Rattle.std.proofs.Common.{◌≡◌, ◌⊎◌, ℕ, ◌≤◌, List, ◌∷◌, length, ◌∙◌, sym, ap, subst, refl, chars, inl, inr, arith}
 use Rattle.std.specs.Str.{IsUtf8}
 use Rattle.std.specs.declared.cmp.Ordering.{Ordering}
 use Rattle.std.specs.declared.cmp.Ordering.TheVariants.{Less, Equal, Greater}
@@ -54,6 +54,12 @@ short_accepted k bytes utf8 short = record {
   accepted = short_text_accepted k.settings.numbers k.collation.properties bytes utf8 short;
 }
 
+-- so are two of at most fifteen bytes
+pub shorts_accepted : (k : Keying) (left right : List ℕ) → IsUtf8 left × IsUtf8 right → (length left ≤ 15) × (length right ≤ 15)
+    → IsAcceptedBy k left × IsAcceptedBy k right
+shorts_accepted k left right utf8 short =
+    (short_accepted k left utf8.0 (omega (arith, short.0)), short_accepted k right utf8.1 (omega (arith, short.1)))
+
 -- bytes of a text that is accepted
 pub accepted_bytes : (numbers : Numbers) (properties : Properties) (text bytes : List ℕ) → text ≡ bytes → IsUtf8 bytes
     → IsAccepted (written_text numbers properties (chars text)) → IsAcceptedText numbers properties bytes
@@ -79,14 +85,6 @@ left_alone_order k left right o taken left_out same = record {
   left_alone = λ _ _. same;
   right_alone = λ other _. absurd (other taken);
   neither = λ other _. absurd (other taken);
-}
-
-pub right_alone_order : (k : Keying) (left right : List ℕ) (o : Ordering) → ¬ (IsAcceptedBy k left) → IsAcceptedBy k right → o ≡ Greater → IsOrder k left right o
-right_alone_order k left right o left_out taken same = record {
-  both = λ other _. absurd (left_out other);
-  left_alone = λ other _. absurd (left_out other);
-  right_alone = λ _ _. same;
-  neither = λ _ other. absurd (other taken);
 }
 
 -- and where both are

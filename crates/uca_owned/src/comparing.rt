@@ -2,13 +2,14 @@
 
 ghost use Rattle.std.specs.Prelude.{◌≡◌, chars, take, IfOk, IfErr, IfSome, OnOk};
 ghost use Rattle.uca_values.specs.Content.{properties_of};
+ghost use Rattle.uca_elements.specs.Collations.{Collation};
 ghost use Rattle.uca_text.specs.Limits.{IsAccepted};
 ghost use Rattle.uca_text.specs.Faults.{IsCause};
 ghost use Rattle.uca_order.specs.Depths.{written_text, texts_compared};
 ghost use Rattle.uca_order.specs.Keyings.{Keying, keying_by, bytes_compared};
-ghost use Rattle.uca_plain.specs.PointCache.{AreTrueEntries};
 ghost use Rattle.uca_match.specs.OwnedCollations.{owned_collation};
 ghost use Rattle.uca_text_comparer.specs.Causes.{IsPairCause};
+ghost use Rattle.uca_text_comparer.specs.Heads.{Knows};
 ghost use Rattle.uca_owned.specs.Causes.{IsAcceptedText, IsAcceptedBy, IsKeyCause, IsCompareCause};
 
 use crate::faults::{CompareFault, KeyFault};
@@ -52,8 +53,8 @@ pub(crate) fn compare_bytes(
     left: &[u8],
     right: &[u8],
 ) -> Result<(Ordering, u8), CompareFault>
-    requires { AreTrueEntries (owned_collation collation.now) comparison.old.plain.points.entries.items }
-    ensures known { AreTrueEntries (owned_collation collation.now) comparison.new.plain.points.entries.items }
+    requires { Knows (owned_collation collation.now) comparison.old }
+    ensures known { Knows (owned_collation collation.now) comparison.new }
     ensures compared { IfOk result (λ pair.
         let answer = bytes_compared (keying_by (owned_collation collation.now) settings) left.now right.now in
         (pair.0 ≡ answer.order) × (pair.1 ≡ answer.level)) }
@@ -62,16 +63,33 @@ pub(crate) fn compare_bytes(
     ensures fault { let properties = properties_of collation.now.properties in
         IfErr result (IsCompareCause settings.numbers properties left.now right.now) }
 {
-    let Some((left_text, right_text, shared)) = read_short(left, right) else {
-        return compare_all(collation, comparison, settings, left, right);
-    };
+    if let Some(pair) = compare_short(comparison, settings, left, right) {
+        return Ok(pair);
+    }
+    // taken apart, so that the result of `compare_short` stays in registers
+    let pair = compare_all(collation, comparison, settings, left, right)?;
+    Ok(pair)
+}
+
+// How two texts of at most fifteen bytes compare, if they are the same, or differ at level 1 after the code points with which
+// both begin. There is no result for others, and where nothing is known of a code point yet.
+#[inline(always)]
+fn compare_short(
+    comparison: &TextComparison,
+    settings: Settings,
+    left: &[u8],
+    right: &[u8],
+) -> Option<(Ordering, u8)>
+    ensures compared { (c : Collation) → Knows c comparison.now → IfSome result (λ pair.
+        let answer = bytes_compared (keying_by c settings) left.now right.now in (pair.0 ≡ answer.order) × (pair.1 ≡ answer.level)) }
+    ensures accepted { (k : Keying) → IfSome result (λ _. IsAcceptedBy k left.now × IsAcceptedBy k right.now) }
+{
+    let (left_text, right_text, shared) = read_short(left, right)?;
     if shared == left.len() && shared == right.len() {
-        return Ok((Ordering::Equal, 0));
+        return Some((Ordering::Equal, 0));
     }
-    if let Some(order) = comparison.order_after(settings, left_text, right_text, shared) {
-        return Ok((order, 1));
-    }
-    compare_whole(collation, comparison, settings, left_text, right_text)
+    let order = comparison.order_after(settings, left_text, right_text, shared)?;
+    Some((order, 1))
 }
 
 // How two texts compare, as `compare_bytes` says, whatever they are.
@@ -83,8 +101,8 @@ fn compare_all(
     left: &[u8],
     right: &[u8],
 ) -> Result<(Ordering, u8), CompareFault>
-    requires { AreTrueEntries (owned_collation collation.now) comparison.old.plain.points.entries.items }
-    ensures known { AreTrueEntries (owned_collation collation.now) comparison.new.plain.points.entries.items }
+    requires { Knows (owned_collation collation.now) comparison.old }
+    ensures known { Knows (owned_collation collation.now) comparison.new }
     ensures compared { IfOk result (λ pair.
         let answer = bytes_compared (keying_by (owned_collation collation.now) settings) left.now right.now in
         (pair.0 ≡ answer.order) × (pair.1 ≡ answer.level)) }
@@ -123,8 +141,8 @@ pub(crate) fn judge(
     settings: Settings,
     bytes: &[u8],
 ) -> Result<(), KeyFault>
-    requires { AreTrueEntries (owned_collation collation.now) comparison.old.plain.points.entries.items }
-    ensures known { AreTrueEntries (owned_collation collation.now) comparison.new.plain.points.entries.items }
+    requires { Knows (owned_collation collation.now) comparison.old }
+    ensures known { Knows (owned_collation collation.now) comparison.new }
     ensures accepted { let properties = properties_of collation.now.properties in
         OnOk result (IsAcceptedText settings.numbers properties bytes.now) }
     ensures fault { IfErr result (IsKeyCause settings.numbers (properties_of collation.now.properties) bytes.now) }
@@ -145,8 +163,8 @@ fn judge_text(
     settings: Settings,
     text: &str,
 ) -> Result<(), TextFault>
-    requires { AreTrueEntries (owned_collation collation.now) comparison.old.plain.points.entries.items }
-    ensures known { AreTrueEntries (owned_collation collation.now) comparison.new.plain.points.entries.items }
+    requires { Knows (owned_collation collation.now) comparison.old }
+    ensures known { Knows (owned_collation collation.now) comparison.new }
     ensures accepted { let properties = properties_of collation.now.properties in
         OnOk result (IsAccepted (written_text settings.numbers properties (chars text.now))) }
     ensures fault { let properties = properties_of collation.now.properties in
@@ -169,8 +187,8 @@ fn compare_whole(
     left: &str,
     right: &str,
 ) -> Result<(Ordering, u8), CompareFault>
-    requires { AreTrueEntries (owned_collation collation.now) comparison.old.plain.points.entries.items }
-    ensures known { AreTrueEntries (owned_collation collation.now) comparison.new.plain.points.entries.items }
+    requires { Knows (owned_collation collation.now) comparison.old }
+    ensures known { Knows (owned_collation collation.now) comparison.new }
     ensures compared { IfOk result (λ pair.
         let answer = bytes_compared (keying_by (owned_collation collation.now) settings) left.now right.now in
         (pair.0 ≡ answer.order) × (pair.1 ≡ answer.level)) }
@@ -180,6 +198,10 @@ fn compare_whole(
         IfErr result (IsCompareCause settings.numbers properties left.now right.now) }
 {
     let collator = collation.collator();
+    if left.len() <= SHORT_TEXT && right.len() <= SHORT_TEXT {
+        // Later calls compare short texts by what is learned here. Without memory for it they take more time.
+        let _ = comparison.learn_heads(&collator, settings.weighting);
+    }
     match comparison.compare(&collator, settings, left, right) {
         Ok(compared) => Ok((compared.order, compared.level)),
         Err(PairFault::Left(fault)) => Err(CompareFault::Left(KeyFault::Text(fault))),

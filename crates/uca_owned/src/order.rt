@@ -3,8 +3,8 @@
 ghost use Rattle.std.specs.Prelude.{◌≡◌, IfOk};
 ghost use Rattle.uca_values.specs.Content.{properties_of};
 ghost use Rattle.uca_order.specs.Keyings.{keying_by};
-ghost use Rattle.uca_plain.specs.PointCache.{AreTrueEntries};
 ghost use Rattle.uca_match.specs.OwnedCollations.{owned_collation};
+ghost use Rattle.uca_text_comparer.specs.Heads.{Knows};
 ghost use Rattle.uca_owned.specs.Owned.{keying_in, key_in};
 ghost use Rattle.uca_owned.specs.Causes.{IsAcceptedText, IsCompareCause, is_memory_fault};
 ghost use Rattle.uca_owned.specs.Orders.{IsOrder};
@@ -43,8 +43,8 @@ fn order_bytes(
     left: &[u8],
     right: &[u8],
 ) -> Result<Ordering, AllocError>
-    requires { AreTrueEntries (owned_collation collation.now) comparison.old.plain.points.entries.items }
-    ensures known { AreTrueEntries (owned_collation collation.now) comparison.new.plain.points.entries.items }
+    requires { Knows (owned_collation collation.now) comparison.old }
+    ensures known { Knows (owned_collation collation.now) comparison.new }
     ensures order { IfOk result (IsOrder (keying_by (owned_collation collation.now) settings) left.now right.now) }
 {
     if left.len() > SHORT && left == right {
@@ -65,9 +65,9 @@ fn order_rejected(
     right: &[u8],
     fault: CompareFault,
 ) -> Result<Ordering, AllocError>
-    requires known { AreTrueEntries (owned_collation collation.now) comparison.old.plain.points.entries.items }
+    requires known { Knows (owned_collation collation.now) comparison.old }
     requires cause { IsCompareCause settings.numbers (properties_of collation.now.properties) left.now right.now fault }
-    ensures known { AreTrueEntries (owned_collation collation.now) comparison.new.plain.points.entries.items }
+    ensures known { Knows (owned_collation collation.now) comparison.new }
     ensures order { IfOk result (IsOrder (keying_by (owned_collation collation.now) settings) left.now right.now) }
 {
     match fault {
@@ -94,9 +94,9 @@ fn order_left_rejected(
     left: &[u8],
     right: &[u8],
 ) -> Result<Ordering, AllocError>
-    requires known { AreTrueEntries (owned_collation collation.now) comparison.old.plain.points.entries.items }
+    requires known { Knows (owned_collation collation.now) comparison.old }
     requires rejected { ¬ (IsAcceptedText settings.numbers (properties_of collation.now.properties) left.now) }
-    ensures known { AreTrueEntries (owned_collation collation.now) comparison.new.plain.points.entries.items }
+    ensures known { Knows (owned_collation collation.now) comparison.new }
     ensures order { IfOk result (IsOrder (keying_by (owned_collation collation.now) settings) left.now right.now) }
 {
     match judge(collation, comparison, settings, right) {

@@ -4,5 +4,6 @@ pub mod PairSteps
 pub mod ComparerSteps
 pub mod PrimarySteps
 pub mod BeginningSteps
-pub mod LaterSteps
+pub mod LevelOneSteps
+pub mod HeadSteps
 pub mod ReadLengths

@@ -1,13 +1,12 @@
 -- Two texts go on side by side at level 1.
-use Rattle.std.proofs.Common.{◌≡◌, ℕ, suc, ◌+◌, ◌<◌, ◌≤◌, get_or, drop-cons, List, [], ◌∷◌, ◌++◌, length, Bool, true, false, nat_eq, map, min, Option, Some, None, is_some, not, slice_index_or, drop, inr, refl, sym, ap, subst, ◌∙◌, append-nil, append_assoc, arith}
+use Rattle.std.proofs.Common.{◌≡◌, ℕ, suc, ◌+◌, ◌≤◌, List, [], ◌∷◌, ◌++◌, length, Bool, true, false, nat_eq, map, min, Option, Some, None, is_some, not, slice_index_or, drop, inr, refl, sym, ap, subst, ◌∙◌, append-nil, append_assoc, arith}
 use Rattle.std.specs.Prelude.{IfSome}
 use Rattle.std.specs.List.{flat_map}
 use Rattle.std.specs.Str.{chars, IsUtf8}
 use Rattle.std.specs.declared.cmp.Ordering.{Ordering}
 use Rattle.std.proofs.lemmas.Bool.{eqb-true}
-use Rattle.std.proofs.lemmas.Str.{chars_past_char, encode_ascii, chars-nil, IsUtf8-drop, IsCharBoundary-before_ascii}
 use Rattle.std.proofs.lemmas.Grind.{flat_map-append}
-use Rattle.std.proofs.lemmas.List.{length-map, drop_all}
+use Rattle.std.proofs.lemmas.List.{length-map}
 use Rattle.unicode_normalization.specs.Forms.{nfd, Nfd}
 use Rattle.unicode_normalization.proofs.LengthLemmas.{length-normalize-chars}
 use Rattle.uca_weights.specs.declared.Element.{Element}
@@ -27,7 +26,8 @@ use Rattle.uca_comparison.specs.Walks.{Allows, Stands, Differs, none_decided}
 use Rattle.uca_comparison.specs.inside.Comparisons.{ComparesLevels}
 use Rattle.uca_plain.specs.Plain.{IsPlain, elements_alone}
 use Rattle.uca_text_comparer.specs.inside.Shared.{flag_after, IsRest, IsFirst, BeginsPlain, HasFirst, ComparesTexts, text_elements}
-use Rattle.uca_text_comparer.specs.inside.Primaries.{primary_of, HaveNone, IsHeaded, GoTogether}
+use Rattle.uca_text_comparer.specs.Heads.{primary_of, HaveNone, IsHeaded}
+use Rattle.uca_text_comparer.specs.inside.Primaries.{GoTogether}
 use Rattle.uca_comparison.proofs.WalkSteps.{stands_begun, stands_both, stands_left, stands_right, stands_decided}
 use Rattle.uca_comparison.proofs.LevelSteps.{walk_answers, all_levels}
 use Rattle.uca_comparison.proofs.Counts.{counted_more, counted_small, counted_is}
@@ -222,24 +222,6 @@ some_first c text ys x e es more utf8 short is plain are begin begins = record {
   first_is = subst (λ l. IsFirst (Some e) (text_elements c l)) (sym is) (first_is c x ys e more plain begins (sym are ∙ begin));
   runs = short_no_long_run c.properties.class text utf8 short;
 }
-
--- where an ASCII byte comes next in a text, it is the next code point
-pub ascii_next : (text : List ℕ) (at a : ℕ) → IsUtf8 text → at < length text → get_or text at 0 ≡ a → a < 128
-    → IsUtf8 (drop at text) × (chars (drop at text) ≡ a ∷ chars (drop (at + 1) text))
-ascii_next text at a utf8 within is low =
-    let rest = IsUtf8-drop text at utf8 (IsCharBoundary-before_ascii text at within (omega (arith, is, low))) in
-    let next : suc at ≡ at + 1 = omega arith in
-    let split : drop at text ≡ a ∷ drop (at + 1) text = drop-cons text at 0 within ∙ ap (λ b. b ∷ drop (suc at) text) is ∙ ap (λ n. a ∷ drop n text) next in
-    (rest, chars_past_char (drop at text) (drop (at + 1) text) a rest (split ∙ sym (ap (λ l. l ++ drop (at + 1) text) (encode_ascii a low))))
-
--- so a plain one begins what is left
-pub begins_there : (c : Collation) (text : List ℕ) (at a : ℕ) → IsUtf8 text → at < length text → get_or text at 0 ≡ a → a < 128 → IsPlain c a
-    → BeginsPlain c (chars (drop at text))
-begins_there c text at a utf8 within is low plain = subst (BeginsPlain c) (sym (ascii_next text at a utf8 within is low).1) plain
-
--- and none begins where the text ends
-pub ends_there : (text : List ℕ) (at : ℕ) → length text ≤ at → chars (drop at text) ≡ []
-ends_there text at end = ap chars (drop_all at text end) ∙ chars-nil
 
 pub first_of_some : (es : List Element) (d : Element) → 1 ≤ length es → es ≡ slice_index_or es 0 d ∷ drop 1 es
 first_of_some [] d some = absurd (omega (arith, some))

@@ -1,3 +1,4 @@
 pub mod Causes
 pub mod Comparers
+pub mod Heads
 pub mod inside

@@ -1,21 +1,22 @@
 //! Two short texts that differ at level 1 after the code points with which both begin.
 //!
 //! For example, `cart` and `cast` both begin with `ca`, and `r` and `s` differ at level 1. No code point of `ca` is looked
-//! up: a text may be cut before a plain code point, whatever comes before it. How many elements that is stays unknown. Code
-//! points that come next, and have the same weight at level 1, are passed too: `H` and `h` of `Haus` and `hat`.
+//! up: a text may be cut before a plain code point, whatever comes before it. Code points that come next, and have the same
+//! weight at level 1, are passed too: `H` and `h` of `Haus` and `hat`.
 
-ghost use Rattle.std.specs.Prelude.{◌≡◌, ◌≤◌, ℕ, List, chars, length, take, IfSome};
+ghost use Rattle.std.specs.Prelude.{◌≡◌, ◌≢◌, ◌≤◌, chars, length, take, IfSome};
+ghost use Rattle.std.specs.declared.cmp.Ordering.TheVariants.{Equal};
 ghost use Rattle.uca_elements.specs.Collations.{Collation};
 ghost use Rattle.uca_plain.specs.PointCache.{AreTrueEntries};
+ghost use Rattle.uca_text_comparer.specs.Heads.{AreTrueHeads};
 ghost use Rattle.uca_text_comparer.specs.inside.Beginnings.{HaveRests, DifferFirst};
-ghost use Rattle.uca_text_comparer.specs.inside.Shared.{BeginsPlain, HasFirst};
 
-use crate::primaries::{ascii_element, compare_alone, first_element, first_weight};
+use crate::heads::Heads;
+use crate::next::{begins_plain, next_head};
 use std::alloc::Allocator;
 use std::cmp::Ordering;
-use uca_comparison::walk::{LevelStep, look_at};
 use uca_plain::plain::PointCache;
-use uca_weights::{Element, Weighting};
+use uca_weights::Weighting;
 
 // What follows the code points with which two texts begin. Their first bytes are the same, so many of them. There is always
 // a result, but no clause says so.
@@ -30,49 +31,42 @@ fn skip_same<'t>(left: &'t str, right: &'t str, shared: usize) -> Option<(&'t st
     Some((left_rest, right_rest))
 }
 
-// The order of two texts by the first elements of what follows the code points with which both begin. There is no result if
-// both have the same weight at level 1, or if one of these elements has none.
+// The order of two texts that differ at level 1 after the code points with which both begin, by heads. `Equal` says nothing.
+// There is no result where a code point has no head.
 #[inline(always)]
-fn order_of(
-    weighting: Weighting,
-    left_first: Option<Element>,
-    right_first: Option<Element>,
-) -> Option<Ordering>
-    ensures { (c : Collation) (xs ys left right : List ℕ) → HaveRests xs ys left right →
-        HasFirst c left left_first → HasFirst c right right_first → IfSome result (DifferFirst c weighting xs ys) }
+fn order_heads(heads: &Heads, left: &str, right: &str, shared: usize) -> Option<Ordering>
+    requires within { shared ≤ length left.now }
+    requires within_too { shared ≤ length right.now }
+    requires same { take shared left.now ≡ take shared right.now }
+    ensures { (c : Collation) → AreTrueHeads c heads.now →
+        IfSome result (λ order. order ≢ Equal → DifferFirst c heads.now.weighting (chars left.now) (chars right.now) order) }
 {
-    let first = first_weight(weighting, left_first);
-    let second = first_weight(weighting, right_first);
-    match look_at(first, second, left_first.is_none(), right_first.is_none()) {
-        LevelStep::Differ(order) => Some(order),
-        LevelStep::May(_) => None,
+    let cut = left.floor_char_boundary(shared);
+    let mut left_at = cut;
+    let mut right_at = cut;
+    loop {
+        let (left_head, left_next) = heads.next_head(left, left_at)?;
+        let (right_head, right_next) = heads.next_head(right, right_at)?;
+        if left_head.weight != right_head.weight {
+            if left_head.decides()
+                && right_head.decides()
+                && heads.goes_on_plain(left, left_next)?
+                && heads.goes_on_plain(right, right_next)?
+            {
+                return Some(left_head.weight.cmp(&right_head.weight));
+            }
+            return Some(Ordering::Equal);
+        }
+        if left_head.weight == 0 || !left_head.alone || !right_head.alone {
+            return Some(Ordering::Equal);
+        }
+        left_at = left_next;
+        right_at = right_next;
     }
 }
 
-// The order of two short texts that differ at level 1 in the ASCII code points at this position, or end there. Before it they
-// are the same. There is no result for others.
-#[inline(always)]
-fn order_ascii<A: Allocator>(
-    points: &PointCache<A>,
-    weighting: Weighting,
-    left: &str,
-    right: &str,
-    at: usize,
-) -> Option<Ordering>
-    requires left { length left.now ≤ 32 }
-    requires right { length right.now ≤ 32 }
-    requires within { at ≤ length left.now }
-    requires within_too { at ≤ length right.now }
-    requires same { take at left.now ≡ take at right.now }
-    ensures { (c : Collation) → AreTrueEntries c points.now.entries.items →
-        IfSome result (DifferFirst c weighting (chars left.now) (chars right.now)) }
-{
-    let left_first = ascii_element(points, left, at)?;
-    let right_first = ascii_element(points, right, at)?;
-    order_of(weighting, left_first, right_first)
-}
-
-// The order of two texts that differ at level 1 after the code points with which both begin, whatever comes next.
+// The order of two texts that differ at level 1 after the code points with which both begin, by all that is known of their
+// code points.
 #[inline(never)]
 fn order_cut<A: Allocator>(
     points: &PointCache<A>,
@@ -85,56 +79,53 @@ fn order_cut<A: Allocator>(
     ensures { (c : Collation) → AreTrueEntries c points.now.entries.items →
         IfSome result (DifferFirst c weighting (chars left.now) (chars right.now)) }
 {
-    let (left_rest, right_rest) = skip_same(left, right, shared)?;
-    let left_first = first_element(points, left_rest)?;
-    let right_first = first_element(points, right_rest)?;
-    match order_of(weighting, left_first, right_first) {
-        Some(order) => Some(order),
-        None => order_later(points, weighting, left_rest, right_rest),
+    let (mut left_rest, mut right_rest) = skip_same(left, right, shared)?;
+    loop {
+        let (first, left_next) = next_head(points, weighting, left_rest)?;
+        let (second, right_next) = next_head(points, weighting, right_rest)?;
+        if first.weight != second.weight {
+            if first.decides()
+                && second.decides()
+                && begins_plain(points, left_next)
+                && begins_plain(points, right_next)
+            {
+                return Some(first.weight.cmp(&second.weight));
+            }
+            return None;
+        }
+        if first.weight == 0 || !first.alone || !second.alone {
+            return None;
+        }
+        left_rest = left_next;
+        right_rest = right_next;
     }
 }
 
-// The order of two texts by what follows the code points with which both begin, if that differs at level 1 after some code
-// points that have the same weight there. For example, `Haus` and `hat` differ in `u` and `t`.
-#[inline(always)]
-fn order_later<A: Allocator>(
-    points: &PointCache<A>,
-    weighting: Weighting,
-    left: &str,
-    right: &str,
-) -> Option<Ordering>
-    ensures { (c : Collation) (xs ys : List ℕ) → AreTrueEntries c points.now.entries.items →
-        HaveRests xs ys (chars left.now) (chars right.now) → BeginsPlain c (chars left.now) → BeginsPlain c (chars right.now) →
-        IfSome result (DifferFirst c weighting xs ys) }
-{
-    let walked = compare_alone(points, weighting, left, right)?;
-    if walked.level == 1 {
-        Some(walked.order)
-    } else {
-        None
-    }
-}
-
-/// The order of two texts of at most 32 bytes that differ at level 1 after the code points with which both begin. Their first
-/// bytes are the same, so many of them. There is no result for others, or if a code point up to the one after the difference
-/// is not in the cache or not plain. Most of these are ASCII, and then no text is cut.
+/// The order of two texts that differ at level 1 after the code points with which both begin. Their first bytes are the
+/// same, so many of them. There is no result for others. Each code point up to the one after the difference has to be known
+/// and plain. Those up to the difference need a weight at level 1, and those before it no more than one.
 #[inline(always)]
 pub(crate) fn order_rests<A: Allocator>(
     points: &PointCache<A>,
+    heads: &Heads,
     weighting: Weighting,
     left: &str,
     right: &str,
     shared: usize,
 ) -> Option<Ordering>
-    requires left { length left.now ≤ 32 }
-    requires right { length right.now ≤ 32 }
-    requires same { take shared left.now ≡ take shared right.now }
-    ensures { (c : Collation) → AreTrueEntries c points.now.entries.items →
+    requires { take shared left.now ≡ take shared right.now }
+    ensures { (c : Collation) → AreTrueEntries c points.now.entries.items → AreTrueHeads c heads.now →
         IfSome result (DifferFirst c weighting (chars left.now) (chars right.now)) }
 {
     let at = shared.min(left.len()).min(right.len());
-    match order_ascii(points, weighting, left, right, at) {
-        Some(order) => Some(order),
-        None => order_cut(points, weighting, left, right, at),
+    if heads.weighting == weighting
+        && let Some(order) = order_heads(heads, left, right, at)
+    {
+        return if order == Ordering::Equal {
+            None
+        } else {
+            Some(order)
+        };
     }
+    order_cut(points, weighting, left, right, at)
 }

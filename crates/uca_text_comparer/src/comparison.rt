@@ -11,16 +11,18 @@ ghost use Rattle.uca_order.specs.Depths.{written_text, texts_compared};
 ghost use Rattle.uca_order.specs.Fetched.{fetched_left, fetched_right};
 ghost use Rattle.uca_plain.specs.PointCache.{AreTrueEntries};
 ghost use Rattle.uca_text_comparer.specs.Causes.{IsPairCause};
+ghost use Rattle.uca_text_comparer.specs.Heads.{Knows};
 ghost use Rattle.uca_text_comparer.specs.inside.Beginnings.{AreReadAsText};
 ghost use Rattle.uca_text_comparer.specs.inside.Pairs.{ComparesPair, IsPairStop};
 
 use crate::beginnings::order_rests;
 use crate::decided::is_decided;
 use crate::faults::PairFault;
+use crate::heads::Heads;
 use crate::normals::Normals;
 use crate::plain_comparison::PlainComparison;
 use crate::points::PointLists;
-use std::alloc::{Allocator, Global};
+use std::alloc::{AllocError, Allocator, Global};
 use std::cmp::Ordering;
 use uca_comparison::Compared;
 use uca_elements::{Collator, Lookup};
@@ -43,12 +45,14 @@ pub struct TextComparison<A: Allocator = Global> {
     left: WrittenText,
     right: WrittenText,
     points: PointLists,
+    /// What is known of the first code points at level 1.
+    pub heads: Heads,
 }
 
 impl<A: Allocator + Copy> TextComparison<A> {
     /// Nothing is known yet, and no memory is taken.
     pub fn new(alloc: A, global: Global) -> TextComparison<A>
-        ensures { (c : Collation) → AreTrueEntries c result.plain.points.entries.items }
+        ensures { (c : Collation) → Knows c result }
     {
         TextComparison {
             plain: PlainComparison::new(alloc, global),
@@ -56,6 +60,7 @@ impl<A: Allocator + Copy> TextComparison<A> {
             left: WrittenText::new(global),
             right: WrittenText::new(global),
             points: PointLists::new(global),
+            heads: Heads::new(global),
         }
     }
 }
@@ -78,6 +83,7 @@ impl<A: Allocator> TextComparison<A> {
     ) -> Result<Compared, PairFault>
         requires { AreTrueEntries (collation_of L.content collator.now) self.old.plain.points.entries.items }
         ensures known { AreTrueEntries (collation_of L.content collator.now) self.new.plain.points.entries.items }
+        ensures heads { self.new.heads ≡ self.old.heads }
         ensures compared { let c = collation_of L.content collator.now in IfOk result (λ compared.
             let answer = texts_compared c settings (chars left.now) (chars right.now) in
             (compared.order ≡ answer.order) × (compared.level ≡ answer.level)) }
@@ -109,12 +115,31 @@ impl<A: Allocator> TextComparison<A> {
         }
     }
 
+    /// Finds out about the 2,048 code points that UTF-8 writes in one or two bytes. So
+    /// [`order_beginnings`](TextComparison::order_beginnings) takes less time after it, under this weighting. That is worth
+    /// its time where many texts are compared. What it found out under another weighting is forgotten.
+    ///
+    /// # Errors
+    ///
+    /// An allocation failed. What was found out before it stays.
+    pub fn learn_heads<L: Lookup, T: Allocator>(
+        &mut self,
+        collator: &Collator<L, T>,
+        weighting: Weighting,
+    ) -> Result<(), AllocError>
+        requires { Knows (collation_of L.content collator.now) self.old }
+        ensures { Knows (collation_of L.content collator.now) self.new }
+    {
+        self.heads.fill(collator, &mut self.plain.points, weighting)
+    }
+
     /// The order of two texts of at most 32 bytes that differ at level 1 after the code points with which both begin. For
-    /// example, `Haus` comes before `hut`. Only code points that come next are looked up: up to the first ones that have
-    /// other weights at level 1. There is no result for other texts, for numbers by value if one of the texts has a digit,
-    /// and if nothing is known of a code point yet.
+    /// example, `Haus` comes before `hut`. Only code points that come next are looked up: up to the one after the first ones
+    /// that have other weights at level 1. There is no result for other texts, and for numbers by value if one of the texts
+    /// has a digit. Nor is there one if a code point that is looked up is not known or not plain. Those up to the difference
+    /// need a weight at level 1, and those before it no more than one.
     pub fn order_beginnings(&self, settings: Settings, left: &str, right: &str) -> Option<Ordering>
-        ensures compared { (c : Collation) → AreTrueEntries c self.now.plain.points.entries.items → IfSome result (λ order.
+        ensures compared { (c : Collation) → Knows c self.now → IfSome result (λ order.
             let answer = texts_compared c settings (chars left.now) (chars right.now) in
             (answer.order ≡ order) × (answer.level ≡ 1)) }
         ensures accepted { (properties : Properties) → IfSome result (λ _.
@@ -136,7 +161,7 @@ impl<A: Allocator> TextComparison<A> {
         shared: usize,
     ) -> Option<Ordering>
         requires { take shared left.now ≡ take shared right.now }
-        ensures compared { (c : Collation) → AreTrueEntries c self.now.plain.points.entries.items → IfSome result (λ order.
+        ensures compared { (c : Collation) → Knows c self.now → IfSome result (λ order.
             let answer = texts_compared c settings (chars left.now) (chars right.now) in
             (answer.order ≡ order) × (answer.level ≡ 1)) }
         ensures accepted { (properties : Properties) → IfSome result (λ _.
@@ -149,7 +174,14 @@ impl<A: Allocator> TextComparison<A> {
         if !are_read_as_text(settings.numbers, left, right) {
             return None;
         }
-        order_rests(&self.plain.points, settings.weighting, left, right, shared)
+        order_rests(
+            &self.plain.points,
+            &self.heads,
+            settings.weighting,
+            left,
+            right,
+            shared,
+        )
     }
 
     // How two texts compare with numbers by value.
@@ -163,6 +195,7 @@ impl<A: Allocator> TextComparison<A> {
     ) -> Result<Compared, PairFault>
         requires { AreTrueEntries (collation_of L.content collator.now) self.old.plain.points.entries.items }
         ensures known { AreTrueEntries (collation_of L.content collator.now) self.new.plain.points.entries.items }
+        ensures heads { self.new.heads ≡ self.old.heads }
         ensures compared { let c = collation_of L.content collator.now in
             IfOk result (ComparesPair c ByValue weighting depth (chars left.now) (chars right.now)) }
         ensures fault { let c = collation_of L.content collator.now in
@@ -201,6 +234,7 @@ impl<A: Allocator> TextComparison<A> {
     ) -> Result<Compared, PairFault>
         requires { AreTrueEntries (collation_of L.content collator.now) self.old.plain.points.entries.items }
         ensures known { AreTrueEntries (collation_of L.content collator.now) self.new.plain.points.entries.items }
+        ensures heads { self.new.heads ≡ self.old.heads }
         ensures compared { let c = collation_of L.content collator.now in
             IfOk result (ComparesPair c ByValue weighting Weights (chars left.now) (chars right.now)) }
         ensures fault { let c = collation_of L.content collator.now in

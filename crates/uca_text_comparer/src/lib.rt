@@ -21,14 +21,17 @@
 //!
 //! Whoever needs no numbers of elements asks `order_beginnings` first. It looks up only the code points that come after
 //! what two short texts have in common (`beginnings`). Whoever knows how many bytes they share asks
-//! `order_after`.
+//! `order_after`. Whoever compares many texts calls `learn_heads` before: one array then has the weights at level 1 of the
+//! code points up to U+07FF (`heads`). Others are looked up where those of all texts so far are kept (`next`).
 #![tactic(auto)]
 
 mod beginnings;
 mod comparison;
 mod decided;
 mod faults;
+mod heads;
 mod itself;
+mod next;
 mod normals;
 mod plain_comparison;
 mod points;
@@ -38,5 +41,6 @@ pub mod text_comparer;
 
 pub use comparison::TextComparison;
 pub use faults::PairFault;
+pub use heads::{Head, Heads};
 pub use plain_comparison::PlainComparison;
 pub use text_comparer::TextComparer;

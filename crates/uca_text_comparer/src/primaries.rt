@@ -1,6 +1,6 @@
 //! How two texts compare at level 1, code point by code point.
 
-ghost use Rattle.std.specs.Prelude.{◌≡◌, ◌<◌, ◌≤◌, ℕ, List, Bool, chars, drop, length, IfSome, Some};
+ghost use Rattle.std.specs.Prelude.{◌≡◌, ◌<◌, ℕ, List, Bool, chars, length, IfSome, Some};
 ghost use Rattle.std.specs.Bool.{OnTrue};
 ghost use Rattle.std.specs.Str.{IsCharBoundary};
 ghost use Rattle.uca_weights.specs.declared.Element.{Element};
@@ -11,9 +11,11 @@ ghost use Rattle.uca_comparison.specs.inside.Comparisons.{ComparesLevels};
 ghost use Rattle.uca_comparison.specs.Walks.{Stands, none_decided};
 ghost use Rattle.uca_plain.specs.PointCache.{AreTrueEntries};
 ghost use Rattle.uca_text_comparer.specs.inside.Shared.{IsRest, IsFirst, BeginsPlain, HasFirst, ComparesTexts};
-ghost use Rattle.uca_text_comparer.specs.inside.Primaries;
-ghost use Rattle.uca_text_comparer.specs.inside.Primaries.{HaveNone, IsHeaded, GoTogether};
+ghost use Rattle.uca_text_comparer.specs.Heads;
+ghost use Rattle.uca_text_comparer.specs.Heads.{HaveNone, IsHeaded};
+ghost use Rattle.uca_text_comparer.specs.inside.Primaries.{GoTogether};
 
+use crate::next::begins_plain;
 use crate::shared::Rest;
 use std::alloc::Allocator;
 use uca_comparison::walk::{LevelStep, Walked, look_at};
@@ -54,26 +56,6 @@ pub(crate) fn compare_primaries<A: Allocator>(
         Some(walked) => Some(walked),
         None => compare_later(points, weighting, &begin),
     }
-}
-
-/// How two texts compare if they differ at level 1 after some code points that have the same weight there, as
-/// `compare_primaries` says of what is left of two texts.
-pub(crate) fn compare_alone<A: Allocator>(
-    points: &PointCache<A>,
-    weighting: Weighting,
-    left: &str,
-    right: &str,
-) -> Option<Walked>
-    ensures { (c : Collation) → AreTrueEntries c points.now.entries.items →
-        IfSome result (ComparesTexts c weighting (chars left.now) (chars right.now)) }
-{
-    let begin = Pair {
-        left,
-        right,
-        passed_left: 0,
-        passed_right: 0,
-    };
-    compare_later(points, weighting, &begin)
 }
 
 // How two texts compare if they differ at level 1 after some code points that have the same weight there.
@@ -162,10 +144,10 @@ fn has_none(weighting: Weighting, elements: &[Element]) -> bool
     true
 }
 
-// The weight of an element at level 1, 0 if it has none.
+/// The weight of an element at level 1, 0 if it has none.
 #[inline(always)]
-fn primary_of(weighting: Weighting, element: Element) -> u16
-    ensures { result ≡ Primaries.primary_of weighting element }
+pub(crate) fn primary_of(weighting: Weighting, element: Element) -> u16
+    ensures { result ≡ Heads.primary_of weighting element }
 {
     match weighting {
         Weighting::NonIgnorable => element.primary,
@@ -190,79 +172,15 @@ fn compare_first<A: Allocator>(
     compare_two(weighting, pair.passed_left, pair.passed_right, left, right)
 }
 
-/// The first element of a text, or none if it has no code point. There is no result if the text has more than 32 bytes,
-/// or if its first code point has no element. The same is so if one of its first two is not in the cache or not plain.
+// The first element of a text, or none if it has no code point. There is no result if the text has more than 32 bytes,
+// or if its first code point has no element. The same is so if one of its first two is not in the cache or not plain.
 #[inline(always)]
-pub(crate) fn first_element<A: Allocator>(
-    points: &PointCache<A>,
-    text: &str,
-) -> Option<Option<Element>>
+fn first_element<A: Allocator>(points: &PointCache<A>, text: &str) -> Option<Option<Element>>
     ensures { (c : Collation) → AreTrueEntries c points.now.entries.items → IfSome result (HasFirst c (chars text.now)) }
 {
     if text.len() > SHORT_REST {
         return None;
     }
-    match ascii_element(points, text, 0) {
-        Some(first) => Some(first),
-        None => any_element(points, text),
-    }
-}
-
-/// The first element of what is left of a short text at this position, or none at its end. There is a result only if the
-/// next code point and the one after it, if there is one, are ASCII, as most are. Both have to be in the cache and plain, and
-/// the next one has to have an element.
-#[inline(always)]
-pub(crate) fn ascii_element<A: Allocator>(
-    points: &PointCache<A>,
-    text: &str,
-    at: usize,
-) -> Option<Option<Element>>
-    requires short { length text.now ≤ 32 }
-    requires within { at ≤ length text.now }
-    ensures first { (c : Collation) → AreTrueEntries c points.now.entries.items →
-        IfSome result (HasFirst c (chars (drop at text.now))) }
-    ensures boundary { IfSome result (λ first. IsCharBoundary text.now at) }
-{
-    let bytes = text.as_bytes();
-    if at == bytes.len() {
-        return Some(None);
-    }
-    if bytes[at] >= 0x80 || !goes_on_plain(points, text, at + 1) {
-        return None;
-    }
-    let known = points.find(char::from(bytes[at]))?;
-    let Some([first, ..]) = known.elements() else {
-        return None;
-    };
-    Some(Some(*first))
-}
-
-// Whether a text ends at this position, or goes on there with an ASCII code point that is in the cache and plain.
-#[inline(always)]
-fn goes_on_plain<A: Allocator>(points: &PointCache<A>, text: &str, at: usize) -> bool
-    requires { at ≤ length text.now }
-    ensures { (c : Collation) → AreTrueEntries c points.now.entries.items →
-        OnTrue result (BeginsPlain c (chars (drop at text.now))) }
-{
-    let bytes = text.as_bytes();
-    if at == bytes.len() {
-        return true;
-    }
-    if bytes[at] >= 0x80 {
-        return false;
-    }
-    match points.find(char::from(bytes[at])) {
-        Some(next) => !next.is_bound(),
-        None => false,
-    }
-}
-
-// The first element of a short text, as `first_element` says.
-#[inline(never)]
-fn any_element<A: Allocator>(points: &PointCache<A>, text: &str) -> Option<Option<Element>>
-    requires { length text.now ≤ 32 }
-    ensures { (c : Collation) → AreTrueEntries c points.now.entries.items → IfSome result (HasFirst c (chars text.now)) }
-{
     let Some((point, rest)) = split_first(text) else {
         return Some(None);
     };
@@ -274,20 +192,6 @@ fn any_element<A: Allocator>(points: &PointCache<A>, text: &str) -> Option<Optio
         Some(Some(*first))
     } else {
         None
-    }
-}
-
-// Whether a text has no code point or begins with a plain one of the cache.
-#[inline(always)]
-fn begins_plain<A: Allocator>(points: &PointCache<A>, text: &str) -> bool
-    ensures { (c : Collation) → AreTrueEntries c points.now.entries.items → OnTrue result (BeginsPlain c (chars text.now)) }
-{
-    let Some((point, _)) = split_first(text) else {
-        return true;
-    };
-    match points.find(point) {
-        Some(known) => !known.is_bound(),
-        None => false,
     }
 }
 
@@ -318,8 +222,8 @@ fn compare_two(
     })
 }
 
-/// The weight at level 1 of the first element, or 0 if there is none.
-pub(crate) fn first_weight(weighting: Weighting, first: Option<Element>) -> u16
+// The weight at level 1 of the first element, or 0 if there is none.
+fn first_weight(weighting: Weighting, first: Option<Element>) -> u16
     ensures { (elements : List Element) (flag : Bool) (passed : ℕ) → IsFirst first elements →
         result ≡ weight_here weighting 1 (record { elements = elements; after_variable = flag; passed = passed }) }
 {

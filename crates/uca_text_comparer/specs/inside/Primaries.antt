@@ -1,25 +1,10 @@
 -- Two texts that are read side by side at level 1.
-use Rattle.std.specs.Prelude.{◌≡◌, ◌≤◌, ℕ, List, [], ◌∷◌, ◌++◌, Bool, flat_map, if◌then◌else◌}
-use Rattle.std.specs.List.{AllByRecursion}
+use Rattle.std.specs.Prelude.{◌≡◌, ◌≤◌, ℕ, List, ◌++◌, Bool, flat_map}
 use Rattle.uca_weights.specs.declared.Element.{Element}
 use Rattle.uca_weights.specs.declared.Weighting.{Weighting}
-use Rattle.uca_weights.specs.declared.Weighting.TheVariants.{NonIgnorable, Shifted}
 use Rattle.uca_elements.specs.Collations.{Collation}
 use Rattle.uca_comparison.specs.Walks.{Stands, none_decided}
 use Rattle.uca_plain.specs.Plain.{ArePlain, elements_alone}
-
--- the weight of an element at level 1, 0 if it has none; it is the same after any elements
-abbrev pub primary_of : Weighting → Element → ℕ
-primary_of NonIgnorable e = e.primary
-primary_of Shifted e = if e.mark then 0 else e.primary
-
-abbrev pub HaveNone : Weighting → List Element → Type 0
-HaveNone weighting es = AllByRecursion (λ e. primary_of weighting e ≡ 0) es
-
--- the first element has this weight at level 1, and the others have none
-abbrev pub IsHeaded : Weighting → ℕ → List Element → Type 0
-IsHeaded weighting weight [] = ⊥
-IsHeaded weighting weight (e ∷ es) = (primary_of weighting e ≡ weight) × HaveNone weighting es
 
 -- The texts `xs` and `ys` begin with plain code points, which `left` and `right` follow. Up to there they have the same weights at
 -- level 1, whatever follows, and so many elements.

@@ -1,5 +1,5 @@
 use Rattle.std.proofs.Common.{drop}
-use Rattle.uca_text_comparer.specs.inside.Primaries.{HaveNone}
+use Rattle.uca_text_comparer.specs.Heads.{HaveNone}
 use Rattle.uca_text_comparer.proofs.primaries.has_none.Given as goal
 
 -- none so far has a weight

@@ -1,6 +1,6 @@
 use Rattle.std.proofs.Common.{ℕ, arith, length, ap, subst, ◌∙◌}
 use Rattle.std.specs.Str.{chars}
-use Rattle.uca_text_comparer.specs.inside.Primaries.{IsHeaded}
+use Rattle.uca_text_comparer.specs.Heads.{IsHeaded}
 use Rattle.uca_text_comparer.proofs.PrimarySteps.{together_on}
 use Rattle.uca_text_comparer.proofs.primaries.next_pair.Goals as goal
 

@@ -1,4 +1,5 @@
 -- The numbers are those of the settings.
+use Rattle.std.proofs.Common.{refl}
 use Rattle.std.specs.Str.{chars}
 use Rattle.uca_weights.specs.declared.Numbers.TheVariants.{AsText, ByValue}
 use Rattle.uca_elements.specs.Collations.{collation_of}
@@ -11,6 +12,7 @@ returns-in-AsText g c =
     c.compare_as_text.result c.in-AsText.is c.compare_as_text.ensures.compared c.compare_as_text.ensures.fault in
     record {
       known = c.compare_as_text.ensures.known;
+      heads = refl;
       compared = answer.compared;
       fetched = answer.fetched;
       accepted = answer.accepted;
@@ -23,6 +25,7 @@ returns-in-ByValue g c =
     c.compare_by_value.result c.in-ByValue.is c.compare_by_value.ensures.compared c.compare_by_value.ensures.fault in
     record {
       known = c.compare_by_value.ensures.known;
+      heads = c.compare_by_value.ensures.heads;
       compared = answer.compared;
       fetched = answer.fetched;
       accepted = answer.accepted;

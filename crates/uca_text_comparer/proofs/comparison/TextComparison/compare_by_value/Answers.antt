@@ -24,6 +24,7 @@ returns-then-has_no_digit-2 g c =
     let right : ys ≡ by_value ys = sym (OnTrue_at right_has_none c.has_no_digit-then-has_no_digit.ensures) in
     record {
       known = c.compare_as_text.ensures.known;
+      heads = search rules;
       compared = of_both (λ l m. IfOk r (ComparesAs by c.args.weighting c.args.depth l m xs ys)) left right c.compare_as_text.ensures.compared;
       fault = of_both (λ l m. IfErr r (IsPairCause (nfd_text by.properties l) (nfd_text by.properties m))) left right c.compare_as_text.ensures.fault;
     }

@@ -1,5 +1,5 @@
 -- At the depth `Weights` the texts compare as those that were written.
-use Rattle.std.proofs.Common.{◌≡◌, ap, ◌∙◌}
+use Rattle.std.proofs.Common.{◌≡◌, ap, ◌∙◌, rules}
 use Rattle.std.specs.Prelude.{IfOk, IfErr}
 use Rattle.std.specs.Str.{chars}
 use Rattle.uca_weights.specs.declared.Depth.TheVariants.{Weights}
@@ -23,6 +23,7 @@ returns g c =
     let right : vs ≡ by_value ys = ap chars c.as_str-2.ensures ∙ c.in_ok-renew-2.ensures in
     record {
       known = c.compare_as_text.ensures.known;
+      heads = search rules;
       compared = of_both (λ l m. IfOk r (ComparesAs by c.args.weighting Weights l m xs ys)) left right
           (weights_of_read by c.args.weighting us vs us vs xs ys r c.compare_as_text.ensures.compared);
       fault = of_both (λ l m. IfErr r (IsPairCause (nfd_text by.properties l) (nfd_text by.properties m))) left right c.compare_as_text.ensures.fault;

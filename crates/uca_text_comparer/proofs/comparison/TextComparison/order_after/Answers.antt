@@ -9,10 +9,10 @@ use Rattle.uca_text_comparer.proofs.ReadLengths.{short_text_accepted}
 use Rattle.uca_text_comparer.proofs.comparison.TextComparison.order_after.Goals as goal
 
 pub returns-clause-compared : goal.returns-clause-compared
-returns-clause-compared g c = λ collation entries.
+returns-clause-compared g c = λ collation known.
     let as_text : c.are_read_as_text.result ≡ true = search rules in
     differ_first_by collation c.args.settings (chars c.args.left.now) (chars c.args.right.now) c.order_rests.result
-    (OnTrue_at as_text c.are_read_as_text.ensures) (c.order_rests.ensures collation entries)
+    (OnTrue_at as_text c.are_read_as_text.ensures) (c.order_rests.ensures collation known.entries known.heads)
 
 pub returns-clause-accepted : goal.returns-clause-accepted
 returns-clause-accepted g c = λ properties.
