@@ -7,7 +7,7 @@ use Rattle.uca_key_runs.proofs.Comparing.{writes_line}
 use Rattle.uca_key_runs.proofs.compare.compare_words.Goals as goal
 
 pub compare-found-requires : goal.compare-found-requires
-compare-found-requires g c = c.new-comparison.ensures _
+compare-found-requires g c = (c.new-comparison.ensures _).entries
 
 pub line_of-requires : goal.line_of-requires
 line_of-requires g c = rw c.in-Ok.ensures.compared.1 (five_levels c.args.settings.depth c.args.settings.weighting _ _)
