@@ -977,61 +977,92 @@ static bool is_error(const uca_upgrade_error *error, uint32_t file, uint32_t lin
            && error->number == number;
 }
 
-/* Whether the files with this one in place of another are no upgrade: the file is rejected there. */
-static bool rejects_file(uca_upgrade_file file, const char *text, uint32_t line, uint32_t kind)
+static uca_bytes file_of(const char *text)
+{
+    return (uca_bytes){(const uint8_t *)text, strlen(text)};
+}
+
+/* Whether the line of a status and an error is this one, as the audit of a command writes it about the same files. Before the word
+   `line` a command has a name of its own for a file. */
+static bool is_line(const six *six, uint32_t status, const uca_upgrade_error *error, const char *line)
+{
+    char said[128], small[8];
+    uint8_t verdict[128] = {0}, err[128] = {0};
+    uca_lengths lengths;
+    uca_bytes file[6];
+    for (int i = 0; i < 6; i++) {
+        file[i] = file_of(six->files[i]);
+    }
+    uint32_t audited = uca_audit_changes(file[0], file[1], file[2], file[3], file[4], file[5], (uca_room){verdict, sizeof verdict - 1},
+                                         (uca_room){err, sizeof err - 1}, &lengths);
+    bool is_whole = uca_upgrade_error_text(status, error, said, sizeof said) == (int)strlen(line) && !strcmp(said, line);
+    bool is_begun = uca_upgrade_error_text(status, error, small, sizeof small) == (int)strlen(line) && !strncmp(small, line, 7) && !small[7];
+    const char *printed = (const char *)(status == UCA_FILE ? err : verdict), *of_file = strstr(printed, " line "), *ours = strstr(said, " line ");
+    if (status == UCA_FILE) {
+        printed = of_file ? of_file : "";
+        line = ours ? ours : "none";
+    }
+    return is_whole && is_begun && audited == 1 && strlen(printed) == strlen(line) + 1 && !strncmp(printed, line, strlen(line));
+}
+
+/* Whether the files with this one in place of another are no upgrade: the file is rejected there, and the line says so. */
+static bool rejects_file(uca_upgrade_file file, const char *text, uint32_t line, uint32_t kind, const char *said)
 {
     uca_upgrade it = UCA_CLOSED_UPGRADE;
     uca_upgrade_error error;
     six given = SIX;
     given.files[file - 1] = text;
-    return opened_upgrade(&it, &given, UCA_NON_IGNORABLE, UCA_WEIGHTS, &error) == UCA_FILE && is_error(&error, file, line, kind, 0, 0, 0) && !it.is_open;
+    return opened_upgrade(&it, &given, UCA_NON_IGNORABLE, UCA_WEIGHTS, &error) == UCA_FILE && is_error(&error, file, line, kind, 0, 0, 0) && !it.is_open
+           && is_line(&given, UCA_FILE, &error, said);
 }
 
-/* Whether the audit rejects them: this condition is the first that is not met, and there. */
-static bool rejects_change(uca_upgrade_file file, const char *text, uint32_t condition, uint32_t place, uint32_t number)
+/* Whether the audit rejects them: this condition is the first that is not met, and there. The line is the verdict. */
+static bool rejects_change(uca_upgrade_file file, const char *text, uint32_t condition, uint32_t place, uint32_t number, const char *said)
 {
     uca_upgrade it = UCA_CLOSED_UPGRADE;
     uca_upgrade_error error;
     six given = SIX;
     given.files[file - 1] = text;
     return opened_upgrade(&it, &given, UCA_NON_IGNORABLE, UCA_WEIGHTS, &error) == UCA_NOT_MET && is_error(&error, 0, 0, 0, condition, place, number)
-           && !it.is_open;
+           && !it.is_open && is_line(&given, UCA_NOT_MET, &error, said);
 }
 
 static void check_rejected_files(void)
 {
-    CHECK(rejects_file(UCA_OLD_TABLE, "@version 1\n0061 ; [.1C", 2, UCA_KIND_WEIGHT));
-    CHECK(rejects_file(UCA_OLD_DATA, "x\n", 1, UCA_KIND_ORDER));
-    CHECK(rejects_file(UCA_NEW_TABLE, "", 1, UCA_KIND_ORDER));
-    CHECK(rejects_file(UCA_NEW_DATA, "@data 1\n\nccc 0300..0314 300\n", 3, UCA_KIND_WEIGHT));
-    CHECK(rejects_file(UCA_CHANGES, "", 1, UCA_KIND_ORDER));
-    CHECK(rejects_file(UCA_CHANGES, "@changes 1\ntext\n", 2, UCA_KIND_LINE));
-    CHECK(rejects_file(UCA_CERTIFICATE, "1 1C47 1C47 1\n", 1, UCA_KIND_LINE));
-    CHECK(rejects_file(UCA_CERTIFICATE, "2 0020 0020 0001\n1 1C47 1C47 0001\n", 2, UCA_KIND_ORDER));
-    CHECK(rejects_file(UCA_CERTIFICATE, "1 1C47 1C47 0000\n", 1, UCA_KIND_MAP_EMPTY));
-    CHECK(rejects_file(UCA_CERTIFICATE, "1 1C47 1C60 0001\n1 1C60 1C60 0001\n", 2, UCA_KIND_MAP_NOT_RISING));
-    CHECK(rejects_file(UCA_CERTIFICATE, "1 0000 1C47 0001\n", 1, UCA_KIND_MAP_OUT_OF_RANGE));
-    CHECK(rejects_file(UCA_CERTIFICATE, "", 1, UCA_KIND_MAP_FIXED));
+    CHECK(rejects_file(UCA_OLD_TABLE, "@version 1\n0061 ; [.1C", 2, UCA_KIND_WEIGHT, "old table line 2: Weight"));
+    CHECK(rejects_file(UCA_OLD_DATA, "x\n", 1, UCA_KIND_ORDER, "old data file line 1: Order"));
+    CHECK(rejects_file(UCA_NEW_TABLE, "", 1, UCA_KIND_ORDER, "new table line 1: Order"));
+    CHECK(rejects_file(UCA_NEW_DATA, "@data 1\n\nccc 0300..0314 300\n", 3, UCA_KIND_WEIGHT, "new data file line 3: Weight"));
+    CHECK(rejects_file(UCA_CHANGES, "", 1, UCA_KIND_ORDER, "file of changes line 1: Order"));
+    CHECK(rejects_file(UCA_CHANGES, "@changes 1\ntext\n", 2, UCA_KIND_LINE, "file of changes line 2: Line"));
+    CHECK(rejects_file(UCA_CERTIFICATE, "1 1C47 1C47 1\n", 1, UCA_KIND_LINE, "certificate line 1: Line"));
+    CHECK(rejects_file(UCA_CERTIFICATE, "2 0020 0020 0001\n1 1C47 1C47 0001\n", 2, UCA_KIND_ORDER, "certificate line 2: Order"));
+    CHECK(rejects_file(UCA_CERTIFICATE, "1 1C47 1C47 0000\n", 1, UCA_KIND_MAP_EMPTY, "certificate line 1: Map Empty"));
+    CHECK(rejects_file(UCA_CERTIFICATE, "1 1C47 1C60 0001\n1 1C60 1C60 0001\n", 2, UCA_KIND_MAP_NOT_RISING, "certificate line 2: Map NotRising"));
+    CHECK(rejects_file(UCA_CERTIFICATE, "1 0000 1C47 0001\n", 1, UCA_KIND_MAP_OUT_OF_RANGE, "certificate line 1: Map OutOfRange"));
+    CHECK(rejects_file(UCA_CERTIFICATE, "", 1, UCA_KIND_MAP_FIXED, "certificate line 1: Map Fixed"));
 }
 
 static void check_rejected_changes(void)
 {
     CHECK(rejects_change(UCA_OLD_TABLE, "@version 1\n0061 ; [.1C47.0020.0002]\n0062 ; [.1C60.0020.0002]\n0301 ; [.0000.0020.0002]\n",
-                         UCA_OLD_ILL_FORMED, UCA_AT_OLD_ROW, 3));
+                         UCA_OLD_ILL_FORMED, UCA_AT_OLD_ROW, 3, "refused 1 OldIllFormed old row 3"));
     CHECK(rejects_change(UCA_NEW_TABLE, "@version 2\n0061 ; [.1C47.0020.0002]\n0062 ; [.1C70.0020.0002]\n0301 ; [.0000.0020.0002]\n",
-                         UCA_NEW_ILL_FORMED, UCA_AT_NEW_ROW, 3));
+                         UCA_NEW_ILL_FORMED, UCA_AT_NEW_ROW, 3, "refused 2 NewIllFormed new row 3"));
     CHECK(rejects_change(UCA_NEW_TABLE,
                          "@version 2\n@implicitweights 17000..18AFF; FB00\n0061 ; [.1C47.0020.0002]\n0062 ; [.1C70.0020.0002]\n0301 ; [.0000.0024.0002]\n",
-                         UCA_RANGE_CHANGED, UCA_AT_CODE_POINT, 0x17000));
+                         UCA_RANGE_CHANGED, UCA_AT_CODE_POINT, 0x17000, "refused 3 RangeChanged code point 17000"));
     CHECK(rejects_change(UCA_CERTIFICATE, "1 1C47 1C47 0001\n2 0020 0020 0001\n2 0024 0024 0001\n3 0002 0002 0001\n", UCA_UNCOVERED,
-                         UCA_AT_OLD_ROW, 2));
-    CHECK(rejects_change(UCA_NEW_TABLE, OLD, UCA_ROW_CHANGED, UCA_AT_OLD_ROW, 2));
-    CHECK(rejects_change(UCA_NEW_TABLE, "@version 2\n0061 ; [.1C47.0020.0002]\n0062 ; [.1C70.0020.0002]\n", UCA_ROW_MISSING, UCA_AT_OLD_ROW, 3));
-    CHECK(rejects_change(UCA_CHANGES, "@changes 1\n", UCA_ROW_EXTRA, UCA_AT_NEW_ROW, 3));
-    CHECK(rejects_change(UCA_NEW_DATA, "@data 1\nccc 0301..0301 231\n", UCA_POINT_CHANGED, UCA_AT_CODE_POINT, 0x301));
+                         UCA_AT_OLD_ROW, 2, "refused 4 Uncovered old row 2"));
+    CHECK(rejects_change(UCA_NEW_TABLE, OLD, UCA_ROW_CHANGED, UCA_AT_OLD_ROW, 2, "refused 5 RowChanged old row 2"));
+    CHECK(rejects_change(UCA_NEW_TABLE, "@version 2\n0061 ; [.1C47.0020.0002]\n0062 ; [.1C70.0020.0002]\n", UCA_ROW_MISSING, UCA_AT_OLD_ROW, 3,
+                         "refused 6 RowMissing old row 3"));
+    CHECK(rejects_change(UCA_CHANGES, "@changes 1\n", UCA_ROW_EXTRA, UCA_AT_NEW_ROW, 3, "refused 7 RowExtra new row 3"));
+    CHECK(rejects_change(UCA_NEW_DATA, "@data 1\nccc 0301..0301 231\n", UCA_POINT_CHANGED, UCA_AT_CODE_POINT, 0x301,
+                         "refused 8 PointChanged code point 0301"));
     CHECK(rejects_change(UCA_NEW_TABLE,
                          "@version 2\n@variable non-ignorable\n0061 ; [.1C47.0020.0002]\n0062 ; [.1C70.0020.0002]\n0301 ; [.0000.0024.0002]\n",
-                         UCA_SETTING_CHANGED, UCA_NOWHERE, 0));
+                         UCA_SETTING_CHANGED, UCA_NOWHERE, 0, "refused 9 SettingChanged"));
 }
 
 /* What is told of a text: 1 or 0. */
@@ -1255,11 +1286,6 @@ static const char RULES[] = "& a < c";
 static const char TAILORED[] = "@version 1\n0061 ; [.1C47.0020.0002]\n0062 ; [.1C60.0020.0002]\n0063 ; [.1C48.0020.0002]\n";
 static const char PLAN[] = "1 1C47 1C47 0001\n1 1C60 1C60 0001\n2 0020 0020 0001\n3 0002 0002 0001\n";
 
-static uca_bytes file_of(const char *text)
-{
-    return (uca_bytes){(const uint8_t *)text, strlen(text)};
-}
-
 /* Memory for what a command writes, and the lengths that are told. */
 typedef struct written {
     uint8_t out[256], err[256], kept[256];
@@ -1434,6 +1460,44 @@ static void check_runs(void)
           && wrote(&it, "", "", NULL));
 }
 
+/* The texts from 0 on, and then what all greater numbers have. */
+static bool are_texts(const char *text_of(uint32_t), const char *const *texts, uint32_t count)
+{
+    bool holds = !strcmp(text_of(count), "unknown") && !strcmp(text_of(UINT32_MAX), "unknown");
+    for (uint32_t number = 0; number < count; number++) {
+        holds &= !strcmp(text_of(number), texts[number]);
+    }
+    return holds;
+}
+
+/* Whether the line of a status without an error of a file or of an audit is the text of that status, with room for each line. */
+static bool is_status_line(uint32_t status)
+{
+    const uca_upgrade_error none = {0, 0, 0, 0, 0, 0};
+    char line[128];
+    int length = uca_upgrade_error_text(status, &none, line, sizeof line);
+    return length == (int)strlen(line) && !strcmp(line, uca_status_text(status));
+}
+
+static void check_upgrade_texts(void)
+{
+    static const char *const files[] = {"no file", "old table", "old data file", "new table", "new data file", "file of changes", "certificate"};
+    static const char *const places[] = {"no position", "old row", "new row", "code point"};
+    const uca_upgrade_error unknown = {7, UINT32_MAX, 14, 10, 4, UINT32_MAX}, greatest = {0, 0, 0, UCA_POINT_CHANGED, UCA_AT_CODE_POINT, 0x10FFFF};
+    char line[128];
+    CHECK(are_texts(uca_upgrade_file_text, files, UCA_CERTIFICATE + 1) && are_texts(uca_place_text, places, UCA_AT_CODE_POINT + 1));
+    for (uint32_t status = 0; status <= UCA_NO_IMAGE + 1; status++) {
+        CHECK(status == UCA_FILE || status == UCA_NOT_MET || is_status_line(status));
+    }
+    CHECK(uca_upgrade_error_text(UCA_FILE, &unknown, line, sizeof line) == 32 && !strcmp(line, "unknown line 4294967295: unknown"));
+    CHECK(uca_upgrade_error_text(UCA_NOT_MET, &unknown, line, sizeof line) == 37 && !strcmp(line, "refused 10 unknown unknown 4294967295"));
+    CHECK(uca_upgrade_error_text(UCA_NOT_MET, &greatest, line, sizeof line) == 40 && !strcmp(line, "refused 8 PointChanged code point 10FFFF"));
+    memset(line, 'e', sizeof line);
+    CHECK(uca_upgrade_error_text(UCA_MEMORY, &greatest, line, 0) == 13 && line[0] == 'e');
+    CHECK(uca_upgrade_error_text(UCA_MEMORY, &greatest, line, 1) == 13 && line[0] == 0 && line[1] == 'e');
+    CHECK(uca_upgrade_error_text(UCA_MEMORY, &greatest, line, 14) == 13 && !strcmp(line, "out of memory") && line[14] == 'e');
+}
+
 static void check_texts(void)
 {
     CHECK(!strcmp(uca_status_text(UCA_OK), "done"));
@@ -1494,6 +1558,7 @@ int main(void)
     check_stacks();
     check_runs();
     check_texts();
+    check_upgrade_texts();
     printf("%d passed, %d failed\n", passed, failed);
     return failed != 0;
 }

@@ -37,6 +37,7 @@
 #include <stdbool.h>
 #include <stddef.h>
 #include <stdint.h>
+#include <stdio.h>
 
 #ifdef __cplusplus
 extern "C" {
@@ -570,6 +571,49 @@ static inline const char *uca_condition_text(uint32_t condition)
         "RowChanged", "RowMissing", "RowExtra", "PointChanged", "SettingChanged",
     };
     return condition < sizeof texts / sizeof *texts ? texts[condition] : "unknown";
+}
+
+/* What a uca_upgrade_file is, before the line of an error: `old table line 2: Weight`. */
+static inline const char *uca_upgrade_file_text(uint32_t file)
+{
+    static const char *const texts[] = {
+        "no file", "old table", "old data file", "new table", "new data file", "file of changes", "certificate",
+    };
+    return file < sizeof texts / sizeof *texts ? texts[file] : "unknown";
+}
+
+/* What the number of a position counts, as `uca audit-changes` prints it before the number: `old row 3`, `code point 0301`. */
+static inline const char *uca_place_text(uint32_t place)
+{
+    static const char *const texts[] = {"no position", "old row", "new row", "code point"};
+    return place < sizeof texts / sizeof *texts ? texts[place] : "unknown";
+}
+
+/* Writes one line that says why uca_open_upgrade returned this status, with this error:
+
+     refused 5 RowChanged old row 3
+     refused 8 PointChanged code point 0301
+     refused 9 SettingChanged
+     old table line 2: Weight
+     out of memory
+
+   At UCA_NOT_MET it is the verdict that `uca audit-changes` prints. At UCA_FILE it names the file, the line and the kind. At any
+   other status it is the text of the status. It writes as snprintf does: at most `room` bytes, a 0 at the end, and no line feed. It
+   returns how many bytes the line has without the 0, also where there is less room. 128 bytes are enough for each line. */
+static inline int uca_upgrade_error_text(uint32_t status, const uca_upgrade_error *error, char *out, size_t room)
+{
+    const char *condition = uca_condition_text(error->condition), *place = uca_place_text(error->place);
+    unsigned number = (unsigned)error->number, met = (unsigned)error->condition;
+    if (status == UCA_FILE) {
+        return snprintf(out, room, "%s line %u: %s", uca_upgrade_file_text(error->file), (unsigned)error->line, uca_kind_text(error->kind));
+    }
+    if (status != UCA_NOT_MET) {
+        return snprintf(out, room, "%s", uca_status_text(status));
+    }
+    if (error->place == UCA_NOWHERE) {
+        return snprintf(out, room, "refused %u %s", met, condition);
+    }
+    return snprintf(out, room, error->place == UCA_AT_CODE_POINT ? "refused %u %s %s %04X" : "refused %u %s %s %u", met, condition, place, number);
 }
 
 #ifdef __cplusplus
