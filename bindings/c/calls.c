@@ -1460,6 +1460,161 @@ static void check_runs(void)
           && wrote(&it, "", "", NULL));
 }
 
+/* ---- Settings as one struct */
+
+/* The status of an opening by settings, and its error, which are those of the call that it makes. */
+static bool opens(uca_collator *collator, const char *table, const char *data, const uca_settings *settings, uint32_t status, uint32_t line, uint32_t kind)
+{
+    uca_error error = {7, 7};
+    bool is_status = uca_open_with(collator, file_of(table), file_of(data), settings, &error) == status && error.line == line && error.kind == kind;
+    return is_status && collator->is_open == (status == UCA_OK || status == UCA_ALREADY_OPEN);
+}
+
+/* Whether both collators make one key of a text. */
+static bool are_alike(uca_collator *one, uca_collator *other, const uint8_t *text, size_t length)
+{
+    uint8_t key[ROOM], same[ROOM];
+    size_t key_length = 7, same_length = 77;
+    return uca_key(one, text, length, key, ROOM, &key_length) == UCA_OK && uca_key(other, text, length, same, ROOM, &same_length) == UCA_OK
+           && key_length == same_length && memcmp(key, same, key_length) == 0;
+}
+
+/* Settings of these members mean what the calls mean that take them one by one. */
+static void check_set(uint32_t weighting, uint32_t depth, bool numeric, bool has_book)
+{
+    uca_collator it = UCA_CLOSED_COLLATOR, other = UCA_CLOSED_COLLATOR;
+    uca_error error;
+    uint8_t sum[32], its_sum[33];
+    uint32_t whole_depth = depth + (numeric ? 2 : 0);
+    uca_settings settings = {.weighting = weighting, .depth = depth, .numeric = numeric};
+    if (has_book) {
+        settings.book = file_of(BOOK);
+    }
+    CHECK(opens(&it, DIGITS, DATA, &settings, UCA_OK, 0, 0));
+    CHECK((has_book ? opened_compact(&other, DIGITS, DATA, BOOK, weighting, whole_depth, &error)
+                    : opened(&other, DIGITS, DATA, weighting, whole_depth, &error)) == UCA_OK);
+    CHECK(are_alike(&it, &other, BYTES("")) && are_alike(&it, &other, BYTES("a\xCC\x81" "b")) && are_alike(&it, &other, BYTES("a10")));
+    uca_close(&it);
+    uca_close(&other);
+    CHECK(uca_fingerprint(BYTES(DIGITS), BYTES(DATA), weighting, whole_depth, sum, &error) == UCA_OK);
+    if (has_book) {
+        uint8_t keys[32];
+        memcpy(keys, sum, 32);
+        uca_compact_fingerprint(keys, BYTES(BOOK), sum);
+    }
+    memset(its_sum, 0xEE, sizeof its_sum);
+    error = (uca_error){7, 7};
+    CHECK(uca_fingerprint_with(file_of(DIGITS), file_of(DATA), &settings, its_sum, &error) == UCA_OK && error.line == 0 && error.kind == 0);
+    CHECK(memcmp(sum, its_sum, 32) == 0 && its_sum[32] == 0xEE);
+}
+
+/* Settings that have no fingerprint: nothing is written. */
+static bool has_no_sum(const char *table, const char *data, const uca_settings *settings, uint32_t status, uint32_t line, uint32_t kind)
+{
+    uint8_t out[32];
+    uca_error error = {7, 7};
+    memset(out, 0xEE, sizeof out);
+    return uca_fingerprint_with(file_of(table), file_of(data), settings, out, &error) == status && error.line == line && error.kind == kind
+           && out[0] == 0xEE && out[31] == 0xEE;
+}
+
+/* What is rejected without a book is rejected with one, before the book is looked at. */
+static void check_rejected_settings(uca_bytes book)
+{
+    uca_collator it = UCA_CLOSED_COLLATOR;
+    const uca_settings plain = {.book = book}, no_weighting = {.weighting = 3, .book = book}, no_depth = {.depth = 4, .book = book},
+                       no_numbers = {.depth = 4, .numeric = true, .book = book};
+    CHECK(opens(&it, TABLE, DATA, &no_weighting, UCA_ARGUMENT, 0, 0) && has_no_sum(TABLE, DATA, &no_weighting, UCA_ARGUMENT, 0, 0));
+    CHECK(opens(&it, TABLE, DATA, &no_depth, UCA_ARGUMENT, 0, 0) && has_no_sum(TABLE, DATA, &no_depth, UCA_ARGUMENT, 0, 0));
+    CHECK(opens(&it, TABLE, DATA, &no_numbers, UCA_ARGUMENT, 0, 0) && has_no_sum(TABLE, DATA, &no_numbers, UCA_ARGUMENT, 0, 0));
+    CHECK(opens(&it, "@version 1\n0061 ; [.1C", DATA, &plain, UCA_TABLE, 2, UCA_KIND_WEIGHT));
+    CHECK(has_no_sum("@version 1\n0061 ; [.1C", DATA, &plain, UCA_TABLE, 2, UCA_KIND_WEIGHT));
+    CHECK(opens(&it, TABLE, "x\n", &plain, UCA_DATA, 1, UCA_KIND_ORDER) && has_no_sum(TABLE, "x\n", &plain, UCA_DATA, 1, UCA_KIND_ORDER));
+}
+
+static void check_books_of_settings(void)
+{
+    uca_collator it = UCA_CLOSED_COLLATOR;
+    const uca_settings book = {.book = file_of(BOOK)}, none = {.book = {NULL, 0}}, empty = {.book = file_of("")},
+                       other = {.book = file_of("@book 1\n1 1C48\n1 1C47\n")};
+    CHECK(opens(&it, TABLE, DATA, &other, UCA_BOOK, 3, UCA_KIND_ORDER) && opens(&it, TABLE, DATA, &empty, UCA_BOOK, 1, UCA_KIND_ORDER));
+    CHECK(opens(&it, TABLE, DATA, &book, UCA_OK, 0, 0) && opens(&it, "", "", &none, UCA_ALREADY_OPEN, 0, 0));
+    CHECK(opens(&it, "", "", &book, UCA_ALREADY_OPEN, 0, 0) && MAKES(uca_key, &it, "a", "\x0A\x03"));
+    uca_close(&it);
+    CHECK(opens(&it, TABLE, DATA, &none, UCA_OK, 0, 0) && MAKES_NONE(uca_compact, &it, "\0\0\0\0", UCA_NO_BOOK));
+    uca_close(&it);
+}
+
+/* Whether an upgrade by these settings opens as one by the members, and tells of a text that the digit 2 may be in. */
+static bool opens_upgrade(const uca_settings *settings, uint32_t depth, uint32_t status, uint32_t affected)
+{
+    uca_upgrade it = UCA_CLOSED_UPGRADE, other = UCA_CLOSED_UPGRADE;
+    uca_upgrade_error error = {7, 7, 7, 7, 7, 7}, its;
+    uca_bytes file[6];
+    uint8_t sums[64] = {1}, its_sums[64] = {2};
+    for (int i = 0; i < 6; i++) {
+        file[i] = file_of(NUMBERS.files[i]);
+    }
+    bool is_status = uca_open_upgrade_with(&it, file[0], file[1], file[2], file[3], file[4], file[5], settings, &error) == status
+                     && opened_upgrade(&other, &NUMBERS, settings->weighting, depth, &its) == status && is_error(&error, 0, 0, 0, 0, 0, 0);
+    bool is_like = status != UCA_OK
+                   || (is_affected(&it, BYTES("10"), affected) && uca_upgrade_fingerprints(&it, sums, sums + 32) == UCA_OK
+                       && uca_upgrade_fingerprints(&other, its_sums, its_sums + 32) == UCA_OK && memcmp(sums, its_sums, 64) == 0);
+    uca_close_upgrade(&it);
+    uca_close_upgrade(&other);
+    return is_status && is_like;
+}
+
+static void check_upgrade_settings(void)
+{
+    const uca_settings plain = UCA_DEFAULT_SETTINGS, numbers = {.numeric = true}, identical = {.depth = UCA_IDENTICAL},
+                       all = {UCA_NON_IGNORABLE, UCA_IDENTICAL, true, {NULL, 0}}, book = {.book = file_of(BOOK)}, empty = {.book = file_of("")},
+                       no_weighting = {.weighting = 3}, no_depth = {.depth = 4, .numeric = true};
+    const uca_bytes table = file_of("@version 1\n0061 ; [.1C"), data = file_of(ACCENT);
+    uca_upgrade it = UCA_CLOSED_UPGRADE;
+    uca_upgrade_error error;
+    /* with numbers by value, `10` is read as `210`, and the digit 2 changes */
+    CHECK(opens_upgrade(&plain, 0, UCA_OK, 0) && opens_upgrade(&numbers, 2, UCA_OK, 1));
+    CHECK(opens_upgrade(&identical, 1, UCA_OK, 0) && opens_upgrade(&all, 3, UCA_OK, 1));
+    CHECK(opens_upgrade(&book, 0, UCA_OK, 0) && opens_upgrade(&empty, 0, UCA_OK, 0));
+    CHECK(opens_upgrade(&no_weighting, 0, UCA_ARGUMENT, 0) && opens_upgrade(&no_depth, 4, UCA_ARGUMENT, 0));
+    CHECK(uca_open_upgrade_with(&it, file_of(OLD), data, table, data, file_of(CHANGES), file_of(MAPS), &plain, &error) == UCA_FILE);
+    CHECK(is_error(&error, UCA_NEW_TABLE, 2, UCA_KIND_WEIGHT, 0, 0, 0) && !it.is_open);
+    CHECK(uca_open_upgrade_with(&it, file_of(OLD), data, file_of(NEW), data, file_of("@changes 1\n"), file_of(MAPS), &plain, &error) == UCA_NOT_MET);
+    CHECK(is_error(&error, 0, 0, 0, UCA_ROW_EXTRA, UCA_AT_NEW_ROW, 3) && !it.is_open);
+}
+
+static void check_settings(void)
+{
+    uca_collator it = UCA_CLOSED_COLLATOR;
+    const uca_settings plain = UCA_DEFAULT_SETTINGS, zeros = {0};
+    uint8_t sum[32];
+    char digits[65];
+    uca_error error;
+    for (uint32_t weighting = UCA_BY_TABLE; weighting <= UCA_SHIFTED; weighting++) {
+        for (int i = 0; i < 8; i++) {
+            check_set(weighting, i & 1 ? UCA_IDENTICAL : UCA_WEIGHTS, i & 2, i & 4);
+        }
+    }
+    /* the flag may be in the depth too */
+    check_set(UCA_SHIFTED, UCA_NUMERIC, false, false);
+    /* zeros are as the two zeros of uca_open. The table says nothing of variable elements, so they are shifted */
+    CHECK(memcmp(&plain.book, &zeros.book, sizeof plain.book) == 0 && !plain.weighting && !plain.depth && !plain.numeric);
+    CHECK(opens(&it, TABLE, DATA, &plain, UCA_OK, 0, 0));
+    CHECK(IS_KEY(&it, "a b", "\x1C\x47\x1C\x60\0\0\0\x20\0\x20\0\0\0\x02\0\x02\0\0\xFF\xFF\x02\x09\xFF\xFF"));
+    uca_close(&it);
+    CHECK(uca_fingerprint_with(file_of(TABLE), file_of(DATA), &zeros, sum, &error) == UCA_OK);
+    for (size_t i = 0; i < 32; i++) {
+        snprintf(digits + 2 * i, 3, "%02x", sum[i]);
+    }
+    CHECK(!strcmp(digits, BY_TABLE_SUM));
+    check_rejected_settings((uca_bytes){NULL, 0});
+    check_rejected_settings(file_of(BOOK));
+    check_rejected_settings(file_of(""));
+    check_books_of_settings();
+    check_upgrade_settings();
+}
+
 /* The texts from 0 on, and then what all greater numbers have. */
 static bool are_texts(const char *text_of(uint32_t), const char *const *texts, uint32_t count)
 {
@@ -1559,6 +1714,7 @@ int main(void)
     check_runs();
     check_texts();
     check_upgrade_texts();
+    check_settings();
     printf("%d passed, %d failed\n", passed, failed);
     return failed != 0;
 }

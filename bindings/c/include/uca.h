@@ -5,7 +5,8 @@
 
    - A pointer and a length are of memory that is the caller's: readable where the parameter is const, else readable and
      writable, and not written by anyone while the call lasts. What a call writes does not overlap anything else that it is
-     given. A pointer is never NULL, not even where the length is 0. A length is below 2^63.
+     given. A pointer is never NULL, not even where the length is 0. Only that of the book of a uca_settings may be. A length is
+     below 2^63.
    - A uca_collator was zeroed (UCA_CLOSED_COLLATOR) before its first call, and its members are written by calls alone. It may be
      moved in memory, between calls, if the old bytes are forgotten. Do not use a copy of an open one: closing both frees its
      memory twice. So it is with a uca_upgrade (UCA_CLOSED_UPGRADE).
@@ -209,7 +210,7 @@ size_t uca_collator_size(void);
 
 /* Opens a closed collator by the bytes of a table (allkeys.txt) and of a data file. `weighting` is a uca_weighting.
    `depth` is a uca_depth, or UCA_IDENTICAL | UCA_NUMERIC. The error is 0 and 0 unless the status is UCA_TABLE or
-   UCA_DATA.
+   UCA_DATA. uca_open_with takes all this as one struct, and a book if there is one.
 
    UCA_OK: the bytes mean a table and a data file, and texts are keyed by these until uca_close.
    UCA_ALREADY_OPEN, UCA_ARGUMENT, UCA_TABLE, UCA_DATA, UCA_MEMORY: the collator is as before. */
@@ -449,17 +450,86 @@ uint32_t uca_run(const uint8_t *arguments, size_t arguments_length, const uint8_
                  size_t sixth_length, const uint8_t *input, size_t input_length, uint8_t *out, size_t out_room, uint8_t *err,
                  size_t err_room, uint8_t *kept, size_t kept_room, uca_lengths *lengths);
 
-/* ---- Tables, certificates and their audits. These are calls of uca_run with the arguments of one command. They are in this header,
-   so nothing is proved of them. Each returns 0 where the command did its work. It returns UCA_RUN_SMALL where the output or the
-   file has more bytes than its room: call it again, with the room that the lengths say. Else it returns the status of uca_run.
-   Then the bytes at `err` are error lines as `uca` prints them, such as `rules byte 12: Utf8`, as many as there is room for. An
-   audit that rejects returns 1 with a verdict, and without error lines. The lengths are those of uca_run. */
+/* ---- Settings as one struct. Its calls are in this header, over the calls above, so nothing is proved of them. */
 
 /* Bytes of a file. */
 typedef struct uca_bytes {
     const uint8_t *bytes;
     size_t length;
 } uca_bytes;
+
+#define UCA_BYTES_OF(text) (const uint8_t *)(text), sizeof(text) - 1
+#define UCA_FILE_OF(file) (file).bytes, (file).length
+
+/* How texts are keyed. Zeros are the weighting of the table, the levels of weights, numbers as text, and no book. So a program names
+   what it wants otherwise:
+
+     uca_settings settings = {.depth = UCA_IDENTICAL, .numeric = true};
+
+   A later uca.h may add members at the end. Where a program does not name them they are 0, and all is as before. The library never
+   sees this struct, so a program that was compiled before works on. */
+typedef struct uca_settings {
+    uint32_t weighting; /* a uca_weighting */
+    uint32_t depth;     /* a uca_depth, as for uca_open */
+    bool numeric;       /* whether UCA_NUMERIC is added to the depth: numbers are compared by their values */
+    uca_bytes book;     /* the book of compact keys. Where its `bytes` are NULL there is none, and keys are whole. The bytes of an empty
+                           file are not NULL, and rejected: UCA_BOOK, line 1 */
+} uca_settings;
+
+#define UCA_DEFAULT_SETTINGS {0, 0, 0, {0, 0}}
+
+/* The depth of the settings, as uca_open takes it. */
+static inline uint32_t uca_depth_of(const uca_settings *settings)
+{
+    return settings->numeric ? settings->depth | (uint32_t)UCA_NUMERIC : settings->depth;
+}
+
+/* Opens a closed collator by a table, a data file and settings. It is uca_open_compact where there is a book, and else uca_open: the
+   status and the error are those of that call. */
+static inline uint32_t uca_open_with(uca_collator *collator, uca_bytes table, uca_bytes data, const uca_settings *settings,
+                                     uca_error *error)
+{
+    uint32_t depth = uca_depth_of(settings);
+    if (!settings->book.bytes) {
+        return uca_open(collator, UCA_FILE_OF(table), UCA_FILE_OF(data), settings->weighting, depth, error);
+    }
+    return uca_open_compact(collator, UCA_FILE_OF(table), UCA_FILE_OF(data), UCA_FILE_OF(settings->book), settings->weighting, depth,
+                            error);
+}
+
+/* The fingerprint of the keys of a collator that uca_open_with opens by the same table, data file and settings. Keep it beside these
+   keys. Where there is no book it is that of uca_fingerprint. Where there is one it is that of uca_compact_fingerprint, and the book
+   is not judged. The status and the error are those of uca_fingerprint.
+
+   UCA_OK: the 32 bytes at `out` are the fingerprint.
+   UCA_ARGUMENT, UCA_TABLE, UCA_DATA, UCA_MEMORY: `out` is as before. */
+static inline uint32_t uca_fingerprint_with(uca_bytes table, uca_bytes data, const uca_settings *settings, uint8_t *out, uca_error *error)
+{
+    uint8_t keys[32];
+    bool has_book = settings->book.bytes != NULL;
+    uint32_t status = uca_fingerprint(UCA_FILE_OF(table), UCA_FILE_OF(data), settings->weighting, uca_depth_of(settings),
+                                      has_book ? keys : out, error);
+    if (status == UCA_OK && has_book) {
+        uca_compact_fingerprint(keys, UCA_FILE_OF(settings->book), out);
+    }
+    return status;
+}
+
+/* Opens a closed upgrade by the six files of uca_open_upgrade, and by the settings that the stored keys were made with. The status and
+   the error are those of uca_open_upgrade. The book plays no part, since an upgrade is of whole keys. */
+static inline uint32_t uca_open_upgrade_with(uca_upgrade *upgrade, uca_bytes old_table, uca_bytes old_data, uca_bytes new_table,
+                                             uca_bytes new_data, uca_bytes changes, uca_bytes certificate, const uca_settings *settings,
+                                             uca_upgrade_error *error)
+{
+    return uca_open_upgrade(upgrade, UCA_FILE_OF(old_table), UCA_FILE_OF(old_data), UCA_FILE_OF(new_table), UCA_FILE_OF(new_data),
+                            UCA_FILE_OF(changes), UCA_FILE_OF(certificate), settings->weighting, uca_depth_of(settings), error);
+}
+
+/* ---- Tables, certificates and their audits. These are calls of uca_run with the arguments of one command. They are in this header,
+   so nothing is proved of them. Each returns 0 where the command did its work. It returns UCA_RUN_SMALL where the output or the
+   file has more bytes than its room: call it again, with the room that the lengths say. Else it returns the status of uca_run.
+   Then the bytes at `err` are error lines as `uca` prints them, such as `rules byte 12: Utf8`, as many as there is room for. An
+   audit that rejects returns 1 with a verdict, and without error lines. The lengths are those of uca_run. */
 
 /* Memory of the caller for what is written. */
 typedef struct uca_room {
@@ -473,8 +543,6 @@ static inline uint32_t uca_fitted(uint32_t status, const uca_lengths *lengths, s
     return lengths->out > out_room || lengths->kept > kept_room ? (uint32_t)UCA_RUN_SMALL : status;
 }
 
-#define UCA_BYTES_OF(text) (const uint8_t *)(text), sizeof(text) - 1
-#define UCA_FILE_OF(file) (file).bytes, (file).length
 #define UCA_ROOM_OF(to) (to).bytes, (to).room
 
 /* Tailors a table by rules (UTS #35 Part 5): the table goes to `tailored`, and its certificate to `certificate`. */
