@@ -218,6 +218,36 @@ static void check_order(uca_collator *it)
     CHECK(is_order(it, BYTES("\xFF"), BYTES("\xFF\x01"), -1));
 }
 
+/* Whether two keys that begin with so many separators, and differ after them, differ at this level. */
+static bool differ_at(size_t separators, uint8_t levels, uint32_t level)
+{
+    uint8_t left[1024] = {0}, right[1024] = {0};
+    uca_comparison found = {7, 7}, other = {7, 7}, same = {7, 7};
+    size_t length = 2 * separators + 2;
+    left[length - 1] = 1;
+    right[length - 1] = 2;
+    uca_compare_keys(left, length, right, length, levels, &found);
+    uca_compare_keys(right, length, left, length, levels, &other);
+    uca_compare_keys(left, length, left, length, levels, &same);
+    return found.order == -1 && found.level == level && other.order == 1 && other.level == level && same.order == 0 && same.level == 0;
+}
+
+/* The level is one more than the separators before it, and at most as many as there are levels. */
+static void check_numbers_of_levels(void)
+{
+    uca_comparison found = {7, 7};
+    CHECK(differ_at(0, 0, 0) && differ_at(2, 0, 0) && differ_at(300, 0, 0));
+    CHECK(differ_at(0, 1, 1) && differ_at(2, 1, 1));
+    CHECK(differ_at(0, 255, 1) && differ_at(253, 255, 254) && differ_at(254, 255, 255) && differ_at(255, 255, 255) && differ_at(300, 255, 255));
+    /* a key that another one begins with comes first; its level is that after its last separator */
+    uca_compare_keys(BYTES("\x1C\x47\0\0"), BYTES("\x1C\x47\0\0\0\x20"), 255, &found);
+    CHECK(found.order == -1 && found.level == 2);
+    uca_compare_keys(BYTES("\x1C\x47"), BYTES("\x1C"), 255, &found);
+    CHECK(found.order == 1 && found.level == 1);
+    uca_compare_keys(BYTES(""), BYTES("\0"), 0, &found);
+    CHECK(found.order == -1 && found.level == 0);
+}
+
 static void check_stored_keys(void)
 {
     uca_comparison found = {7, 7};
@@ -227,6 +257,7 @@ static void check_stored_keys(void)
     CHECK(found.order == 1 && found.level == 1);
     uca_compare_keys(BYTES(""), BYTES(""), 3, &found);
     CHECK(found.order == 0 && found.level == 0);
+    check_numbers_of_levels();
 }
 
 static void check_limits(uca_collator *it)
@@ -939,6 +970,94 @@ static void check_bounds(void)
     uca_close(&it);
 }
 
+/* ---- Rejected texts, and a text that is accepted. Each is a pointer and a length. */
+
+typedef struct text {
+    const uint8_t *bytes;
+    size_t length;
+} text;
+
+#define TEXT(bytes) ((text){BYTES(bytes)})
+#define TEXT_OF(it) (it).bytes, (it).length
+
+/* Whether a comparison with this text on the left, and one with it on the right, are rejected so. */
+static bool is_not_compared(uca_collator *collator, text it, uint32_t status)
+{
+    text b = TEXT("b");
+    uca_comparison left = {7, 7}, right = {7, 7}, both = {7, 7};
+    bool is_left = uca_compare(collator, TEXT_OF(it), TEXT_OF(b), &left) == status && left.order == 0 && left.level == 0;
+    bool is_right = uca_compare(collator, TEXT_OF(b), TEXT_OF(it), &right) == status && right.order == 0 && right.level == 0;
+    return is_left && is_right && uca_compare(collator, TEXT_OF(it), TEXT_OF(it), &both) == status && both.order == 0 && both.level == 0;
+}
+
+/* The left text is judged first. */
+static bool is_left_judged(uca_collator *collator, text left, text right, uint32_t status, uint32_t other)
+{
+    uca_comparison found = {7, 7};
+    return uca_compare(collator, TEXT_OF(left), TEXT_OF(right), &found) == status && uca_compare(collator, TEXT_OF(right), TEXT_OF(left), &found) == other;
+}
+
+/* Whether a text has no key, no beginning of one and no range. */
+static bool is_not_keyed(uca_collator *collator, text it, uint32_t status)
+{
+    bool holds = makes_none(uca_key, collator, TEXT_OF(it), status) && makes_none(uca_key_beginning, collator, TEXT_OF(it), status);
+    for (uint32_t range = UCA_SAME_LETTERS; range <= UCA_BEGINS; range++) {
+        holds &= has_no_range(collator, TEXT_OF(it), range, UCA_LOW, status) && has_no_range(collator, TEXT_OF(it), range, UCA_HIGH, status);
+    }
+    return holds;
+}
+
+/* They come after accepted texts. Among them U+0301, which is CC 81, comes after `a`, and before FF. A text comes after its beginning. */
+static void check_order_of_rejected(uca_collator *it, text run, text longer_run, text many, text one_more)
+{
+    CHECK(is_order(it, BYTES("b"), TEXT_OF(run), -1) && is_order(it, BYTES("b"), TEXT_OF(many), -1) && is_order(it, BYTES(""), TEXT_OF(many), -1));
+    CHECK(is_order(it, TEXT_OF(many), TEXT_OF(run), -1) && is_order(it, TEXT_OF(run), BYTES("\xFF"), -1) && is_order(it, TEXT_OF(many), BYTES("\xFF"), -1));
+    CHECK(is_order(it, TEXT_OF(run), TEXT_OF(longer_run), -1) && is_order(it, TEXT_OF(many), TEXT_OF(one_more), -1));
+    CHECK(is_order(it, TEXT_OF(run), TEXT_OF(run), 0) && is_order(it, TEXT_OF(many), TEXT_OF(many), 0));
+    /* the accepted beginnings of both, which are one code point shorter */
+    CHECK(is_order(it, run.bytes, run.length - 2, TEXT_OF(run), -1) && is_order(it, many.bytes, many.length - 1, TEXT_OF(many), -1));
+    CHECK(is_order(it, BYTES("b"), many.bytes, many.length - 1, 1) && is_order(it, BYTES("b"), run.bytes, run.length - 2, 1));
+}
+
+static void check_rejected(uca_collator *it)
+{
+    static uint8_t marks[1 + 2 * 66];
+    uint8_t *letters = malloc(1048578);
+    if (!letters) {
+        abort();
+    }
+    memset(letters, 'a', 1048578);
+    marks[0] = 'a';
+    for (size_t i = 0; i < 66; i++) {
+        memcpy(marks + 1 + 2 * i, "\xCC\x81", 2);
+    }
+    /* 65 and 66 accents in a row, and one code point too many, and two */
+    text run = {marks, 1 + 2 * 65}, longer_run = {marks, 1 + 2 * 66}, many = {letters, 1048577}, one_more = {letters, 1048578}, no_utf8 = TEXT("a\xFF");
+    CHECK(is_not_compared(it, run, UCA_LONG_RUN) && is_not_compared(it, many, UCA_TOO_LONG) && is_not_compared(it, no_utf8, UCA_UTF8));
+    CHECK(is_not_compared(it, one_more, UCA_TOO_LONG) && is_not_compared(it, longer_run, UCA_LONG_RUN));
+    CHECK(is_left_judged(it, run, many, UCA_LONG_RUN, UCA_TOO_LONG) && is_left_judged(it, run, no_utf8, UCA_LONG_RUN, UCA_UTF8));
+    CHECK(is_left_judged(it, many, no_utf8, UCA_TOO_LONG, UCA_UTF8));
+    CHECK(is_not_keyed(it, run, UCA_LONG_RUN) && is_not_keyed(it, many, UCA_TOO_LONG) && is_not_keyed(it, no_utf8, UCA_UTF8));
+    check_order_of_rejected(it, run, longer_run, many, one_more);
+    CHECK(COMPARES(it, "a", "b", -1, 1));
+    free(letters);
+}
+
+static void check_rejected_texts(void)
+{
+    uca_collator it = UCA_CLOSED_COLLATOR;
+    uca_error error;
+    CHECK(opened(&it, TABLE, DATA, UCA_NON_IGNORABLE, UCA_WEIGHTS, &error) == UCA_OK);
+    check_rejected(&it);
+    uca_close(&it);
+    CHECK(opened(&it, DIGITS, DATA, UCA_SHIFTED, UCA_IDENTICAL | UCA_NUMERIC, &error) == UCA_OK);
+    check_rejected(&it);
+    uca_close(&it);
+    CHECK(opened_compact(&it, TABLE, DATA, BOOK, UCA_NON_IGNORABLE, UCA_WEIGHTS, &error) == UCA_OK);
+    check_rejected(&it);
+    uca_close(&it);
+}
+
 /* ---- Upgrades: the letter c comes between a and b, whose weight moves from 1C60 to 1C70 */
 
 static const char OLD[] = "@version 1\n0061 ; [.1C47.0020.0002]\n0062 ; [.1C60.0020.0002]\n0301 ; [.0000.0024.0002]\n";
@@ -1341,6 +1460,46 @@ static void check_changes(void)
           && wrote(&it, "refused 7 RowExtra new row 3\n", "", NULL));
 }
 
+/* Whether a command rejects a file with this one line, and writes nothing else. */
+#define REJECTS(it, call, line) (it = unwritten(), (call) == 1 && wrote(&(it), "", line, NULL))
+
+#define AUDIT(base, data, rules, tailored, certificate) \
+    uca_audit(file_of(base), file_of(data), file_of(rules), file_of(tailored), file_of(certificate), OUT_OF(it), ERR_OF(it), &it.lengths)
+#define FIND(old, old_data, new, new_data) \
+    uca_find_changes(file_of(old), file_of(old_data), file_of(new), file_of(new_data), OUT_OF(it), KEPT_OF(it), ERR_OF(it), &it.lengths)
+#define AUDIT_CHANGES(old, old_data, new, new_data, changes, certificate)                                                                          \
+    uca_audit_changes(file_of(old), file_of(old_data), file_of(new), file_of(new_data), file_of(changes), file_of(certificate), OUT_OF(it), ERR_OF(it), \
+                      &it.lengths)
+
+/* Each file of each command in turn is one that is rejected. */
+static void check_files_of_commands(void)
+{
+    static const char bad[] = "@version 1\n0061 ; [.1C", odd[] = "x\n";
+    written it;
+    CHECK(REJECTS(it, AUDIT(bad, ACCENT, RULES, TAILORED, PLAN), "base line 2: Weight\n"));
+    CHECK(REJECTS(it, AUDIT(LETTERS, odd, RULES, TAILORED, PLAN), "data line 1: Order\n"));
+    CHECK(REJECTS(it, AUDIT(LETTERS, ACCENT, "& a <", TAILORED, PLAN), "rules byte 5: EmptyText\n"));
+    CHECK(REJECTS(it, AUDIT(LETTERS, ACCENT, RULES, bad, PLAN), "tailored line 2: Weight\n"));
+    CHECK(REJECTS(it, AUDIT(LETTERS, ACCENT, RULES, TAILORED, "1 1C47 1C47 1\n"), "certificate line 1: Line\n"));
+    CHECK(REJECTS(it, FIND(bad, ACCENT, NEW, ACCENT), "old line 2: Weight\n"));
+    CHECK(REJECTS(it, FIND(OLD, odd, NEW, ACCENT), "old-data line 1: Order\n"));
+    CHECK(REJECTS(it, FIND(OLD, ACCENT, bad, ACCENT), "new line 2: Weight\n"));
+    CHECK(REJECTS(it, FIND(OLD, ACCENT, NEW, odd), "new-data line 1: Order\n"));
+    CHECK(REJECTS(it, AUDIT_CHANGES(bad, ACCENT, NEW, ACCENT, CHANGES, MAPS), "old line 2: Weight\n"));
+    CHECK(REJECTS(it, AUDIT_CHANGES(OLD, odd, NEW, ACCENT, CHANGES, MAPS), "old-data line 1: Order\n"));
+    CHECK(REJECTS(it, AUDIT_CHANGES(OLD, ACCENT, bad, ACCENT, CHANGES, MAPS), "new line 2: Weight\n"));
+    CHECK(REJECTS(it, AUDIT_CHANGES(OLD, ACCENT, NEW, odd, CHANGES, MAPS), "new-data line 1: Order\n"));
+    CHECK(REJECTS(it, AUDIT_CHANGES(OLD, ACCENT, NEW, ACCENT, "@changes 1\ntext\n", MAPS), "changes line 2: Line\n"));
+    CHECK(REJECTS(it, AUDIT_CHANGES(OLD, ACCENT, NEW, ACCENT, CHANGES, "1 1C47 1C47 1\n"), "certificate line 1: Line\n"));
+    /* tables that are read, and have no changes: a row of the old one is not well-formed */
+    static const char flat[] = "@version 1\n0061 ; [.1C47.0020.0002]\n0301 ; [.0000.0020.0002]\n";
+    CHECK(REJECTS(it, FIND(flat, ACCENT, flat, ACCENT), "changes: OldIllFormed old row 2\n"));
+    CHECK(REJECTS(it, uca_tailor(file_of(bad), file_of(ACCENT), file_of(RULES), OUT_OF(it), KEPT_OF(it), ERR_OF(it), &it.lengths),
+                  "table line 2: Weight\n"));
+    CHECK(REJECTS(it, uca_tailor(file_of(LETTERS), file_of(odd), file_of(RULES), OUT_OF(it), KEPT_OF(it), ERR_OF(it), &it.lengths),
+                  "data line 1: Order\n"));
+}
+
 /* Whether a command with room for so many bytes of its output says that it is too small, and how many there are. */
 static bool is_small(size_t out_room, size_t kept_room)
 {
@@ -1705,9 +1864,11 @@ int main(void)
     check_positions();
     check_key_beginnings();
     check_bounds();
+    check_rejected_texts();
     check_upgrades();
     check_tailoring();
     check_changes();
+    check_files_of_commands();
     check_small_rooms();
     check_tailoring_upgrade();
     check_stacks();
