@@ -9,12 +9,12 @@
      below 2^63.
    - A uca_collator was zeroed (UCA_CLOSED_COLLATOR) before its first call, and its members are written by calls alone. It may be
      moved in memory, between calls, if the old bytes are forgotten. Do not use a copy of an open one: closing both frees its
-     memory twice. So it is with a uca_upgrade (UCA_CLOSED_UPGRADE).
+     memory twice. So it is with a uca_upgrade (UCA_CLOSED_UPGRADE). uca_share is given two that are not the same uca_collator.
    - A uca_collator or a uca_upgrade is in one call at a time: two at once damage memory, and no status reports it. It may change
      threads between two calls, if a lock or a thread's start or join orders these. For work side by side, each thread has a
      collator of its own: uca_share opens one of another, in little time and memory. uca_abi, uca_version, uca_collator_size,
      uca_upgrade_size, uca_compare_keys, uca_fingerprint, uca_compact_fingerprint and uca_run may be called from any thread at
-     any time.
+     any time. So may the functions of this header that take neither of the two.
    - The stack has room: 640 KB for uca_run, 320 KB for uca_open_upgrade, 64 KB for uca_open, uca_open_compact and
      uca_fingerprint, and 16 KB for all other calls.
    - malloc, realloc and free are one allocator, whose blocks are aligned to 16 bytes. No call is made in a signal handler, or in
@@ -248,7 +248,8 @@ uint32_t uca_share(uca_collator *collator, uca_collator *other);
 uint32_t uca_key(uca_collator *collator, const uint8_t *text, size_t length, uint8_t *out, size_t room, size_t *needed);
 
 /* The first bytes of the key that uca_key makes of a text: as many as there is room for. An index that sorts by the first
-   bytes, and looks at the rest where these are equal, needs no more.
+   bytes, and looks at the rest where these are equal, needs no more. The call makes the whole key first: it saves room at `out`, and
+   no time.
 
    UCA_OK: the key has `*needed` bytes. The first of them, as many as fit, are at the beginning of `out`, and the bytes after
    them are as before.
@@ -461,13 +462,13 @@ typedef struct uca_bytes {
 #define UCA_BYTES_OF(text) (const uint8_t *)(text), sizeof(text) - 1
 #define UCA_FILE_OF(file) (file).bytes, (file).length
 
-/* How texts are keyed. Zeros are the weighting of the table, the levels of weights, numbers as text, and no book. So a program names
-   what it wants otherwise:
+/* How texts are keyed. A program names the members that it wants to be other than 0:
 
      uca_settings settings = {.depth = UCA_IDENTICAL, .numeric = true};
 
-   A later uca.h may add members at the end. Where a program does not name them they are 0, and all is as before. The library never
-   sees this struct, so a program that was compiled before works on. */
+   Zeros are the weighting of the table, the levels of weights, numbers as text, and no book. A later uca.h may add members at the end.
+   Where a program does not name these they are 0, and all is as before. The library never sees this struct, so a program that was
+   compiled before works as before. Parts of a program that pass it to each other are compiled with one uca.h. */
 typedef struct uca_settings {
     uint32_t weighting; /* a uca_weighting */
     uint32_t depth;     /* a uca_depth, as for uca_open */
@@ -516,7 +517,8 @@ static inline uint32_t uca_fingerprint_with(uca_bytes table, uca_bytes data, con
 }
 
 /* Opens a closed upgrade by the six files of uca_open_upgrade, and by the settings that the stored keys were made with. The status and
-   the error are those of uca_open_upgrade. The book plays no part, since an upgrade is of whole keys. */
+   the error are those of uca_open_upgrade. The book plays no part: the keys and the fingerprints of an upgrade are those of whole
+   keys. */
 static inline uint32_t uca_open_upgrade_with(uca_upgrade *upgrade, uca_bytes old_table, uca_bytes old_data, uca_bytes new_table,
                                              uca_bytes new_data, uca_bytes changes, uca_bytes certificate, const uca_settings *settings,
                                              uca_upgrade_error *error)
@@ -681,7 +683,8 @@ static inline int uca_upgrade_error_text(uint32_t status, const uca_upgrade_erro
     if (error->place == UCA_NOWHERE) {
         return snprintf(out, room, "refused %u %s", met, condition);
     }
-    return snprintf(out, room, error->place == UCA_AT_CODE_POINT ? "refused %u %s %s %04X" : "refused %u %s %s %u", met, condition, place, number);
+    return snprintf(out, room, error->place == UCA_AT_CODE_POINT ? "refused %u %s %s %04X" : "refused %u %s %s %u", met, condition,
+                    place, number);
 }
 
 #ifdef __cplusplus
