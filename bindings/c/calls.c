@@ -1545,59 +1545,6 @@ static void check_tailoring_upgrade(void)
     uca_close(&after);
 }
 
-static void *tailor_in_thread(void *holds)
-{
-    check_tailoring();
-    check_changes();
-    return holds;
-}
-
-static void *upgrade_in_thread(void *holds)
-{
-    uca_upgrade it = UCA_CLOSED_UPGRADE;
-    uca_upgrade_error error;
-    CHECK(opened_upgrade(&it, &SIX, UCA_NON_IGNORABLE, UCA_WEIGHTS, &error) == UCA_OK);
-    uca_close_upgrade(&it);
-    return holds;
-}
-
-static void *open_in_thread(void *holds)
-{
-    check_open_compact();
-    CHECK(is_fingerprint(SET_TABLE, UCA_BY_TABLE, UCA_WEIGHTS, SET_SUM));
-    return holds;
-}
-
-static void *key_in_thread(void *collator)
-{
-    CHECK(IS_KEY(collator, "a", "\x1C\x47\0\0\0\x20\0\0\0\x02"));
-    CHECK(COMPARES(collator, "a\xCC\x81", "b", -1, 1) && is_range(collator, BYTES("a"), UCA_SAME_LETTERS, "\x1C\x47", 2, "\x1C\x47\0\x01", 4));
-    return collator;
-}
-
-/* Whether the work is done on a stack of so many bytes. The thread itself and the checks take some of it. */
-static bool has_room(size_t stack, void *work(void *), void *given)
-{
-    pthread_attr_t attributes;
-    pthread_t thread;
-    void *found = NULL;
-    bool is_set = pthread_attr_init(&attributes) == 0 && pthread_attr_setstacksize(&attributes, stack + 49152) == 0;
-    bool is_done = is_set && pthread_create(&thread, &attributes, work, given) == 0 && pthread_join(thread, &found) == 0;
-    pthread_attr_destroy(&attributes);
-    return is_done && found == given;
-}
-
-/* The room that uca.h says. */
-static void check_stacks(void)
-{
-    uca_collator it = UCA_CLOSED_COLLATOR;
-    uca_error error;
-    CHECK(opened(&it, TABLE, DATA, UCA_NON_IGNORABLE, UCA_WEIGHTS, &error) == UCA_OK);
-    CHECK(has_room(640 << 10, tailor_in_thread, &it) && has_room(320 << 10, upgrade_in_thread, &it));
-    CHECK(has_room(64 << 10, open_in_thread, &it) && has_room(16 << 10, key_in_thread, &it));
-    uca_close(&it);
-}
-
 #define NONE BYTES("")
 
 static void check_runs(void)
@@ -1871,7 +1818,6 @@ int main(void)
     check_files_of_commands();
     check_small_rooms();
     check_tailoring_upgrade();
-    check_stacks();
     check_runs();
     check_texts();
     check_upgrade_texts();

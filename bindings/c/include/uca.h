@@ -16,7 +16,7 @@
      uca_upgrade_size, uca_compare_keys, uca_fingerprint, uca_compact_fingerprint and uca_run may be called from any thread at
      any time. So may the functions of this header that take neither of the two.
    - The stack has room: 640 KB for uca_run, 320 KB for uca_open_upgrade, 64 KB for uca_open, uca_open_compact and
-     uca_fingerprint, and 16 KB for all other calls.
+     uca_fingerprint, and 16 KB for all other calls. A function of this header needs that of the call that it makes.
    - malloc, realloc and free are one allocator, whose blocks are aligned to 16 bytes. No call is made in a signal handler, or in
      the forked child of a process with threads.
 
