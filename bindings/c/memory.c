@@ -278,20 +278,71 @@ static bool use_texts(opened *opened)
     return status == UCA_OK && other == UCA_OK;
 }
 
-/* Finds changes, by the command. Returns whether nothing failed. */
-static bool use_command(opened *opened)
+/* What a command wrote. */
+typedef struct written {
+    uint8_t out[256], err[256], kept[256];
+    uca_lengths lengths;
+} written;
+
+#define ROOM_OF(bytes) ((uca_room){bytes, sizeof(bytes) - 1})
+
+/* Whether a command did its work: it wrote this output, and made this file, or none. Else memory ran out. Then the status is 4, or 3 where
+   the output had no memory. No more is written than a beginning of the output, and the whole file or none. */
+static bool is_run(uint32_t status, const written *it, const char *out, const char *kept)
+{
+    const uca_lengths *lengths = &it->lengths;
+    bool is_file = lengths->files == 1 && kept && !strcmp((const char *)it->kept, kept) && lengths->kept == strlen(kept);
+    bool is_no_file = lengths->files == 0 && lengths->kept == 0;
+    bool is_done = status == 0 && !strcmp((const char *)it->out, out) && lengths->out == strlen(out) && lengths->err == 0 && (kept ? is_file : is_no_file);
+    bool is_begun = lengths->out <= strlen(out) && !strncmp((const char *)it->out, out, lengths->out) && (is_no_file || (is_file && status == 3));
+    bool is_none = status == UCA_RUN_MEMORY && lengths->out == 0 && lengths->err == 0 && is_no_file;
+    CHECK(is_done || (can_fail() && (((status == 3 || status == 4) && is_begun) || is_none)));
+    return is_done;
+}
+
+static const char LETTERS[] = "@version 1\n0061 ; [.1C47.0020.0002]\n0062 ; [.1C60.0020.0002]\n";
+static const char RULES[] = "& a < c";
+static const char TAILORED[] = "@version 1\n0061 ; [.1C47.0020.0002]\n0062 ; [.1C60.0020.0002]\n0063 ; [.1C48.0020.0002]\n";
+static const char PLAN[] = "1 1C47 1C47 0001\n1 1C60 1C60 0001\n2 0020 0020 0001\n3 0002 0002 0001\n";
+
+/* Tailors a table. Returns whether nothing failed. */
+static bool use_tailor(opened *opened)
 {
     (void)opened;
-    uint8_t out[256] = {0}, err[256] = {0}, kept[256] = {0};
+    written it = {0};
+    uca_bytes table = {BYTES(LETTERS)}, data = {BYTES(ACCENT)}, rules = {BYTES(RULES)};
+    uint32_t status = uca_tailor(table, data, rules, ROOM_OF(it.out), ROOM_OF(it.kept), ROOM_OF(it.err), &it.lengths);
+    return is_run(status, &it, TAILORED, PLAN);
+}
+
+/* Audits a tailored table. Returns whether nothing failed. */
+static bool use_audit(opened *opened)
+{
+    (void)opened;
+    written it = {0};
+    uca_bytes table = {BYTES(LETTERS)}, data = {BYTES(ACCENT)}, rules = {BYTES(RULES)}, tailored = {BYTES(TAILORED)}, plan = {BYTES(PLAN)};
+    uint32_t status = uca_audit(table, data, rules, tailored, plan, ROOM_OF(it.out), ROOM_OF(it.err), &it.lengths);
+    return is_run(status, &it, "accepted\n", NULL);
+}
+
+/* Finds changes. Returns whether nothing failed. */
+static bool use_find_changes(opened *opened)
+{
+    (void)opened;
+    written it = {0};
     uca_bytes before = {BYTES(OLD_TABLE)}, data = {BYTES(ACCENT)}, after = {BYTES(NEW_TABLE)};
-    uca_lengths lengths = {7, 7, 7, 7};
-    uint32_t status = uca_find_changes(before, data, after, data, (uca_room){out, 256}, (uca_room){kept, 256}, (uca_room){err, 256}, &lengths);
-    bool is_done = status == 0 && lengths.files == 1 && !strcmp((char *)out, CHANGES) && !strcmp((char *)kept, MAPS) && lengths.err == 0;
-    /* the certificate is kept before the output ends, which is the error 3 if it has no memory */
-    bool is_begun = status >= 1 && status <= 4 && (lengths.files == 0 || status == 3);
-    bool is_none = status == UCA_RUN_MEMORY && lengths.out == 0 && lengths.err == 0 && lengths.files == 0;
-    CHECK(is_done || (can_fail() && (is_begun || is_none)));
-    return is_done;
+    uint32_t status = uca_find_changes(before, data, after, data, ROOM_OF(it.out), ROOM_OF(it.kept), ROOM_OF(it.err), &it.lengths);
+    return is_run(status, &it, CHANGES, MAPS);
+}
+
+/* Audits changes. Returns whether nothing failed. */
+static bool use_audit_changes(opened *opened)
+{
+    (void)opened;
+    written it = {0};
+    uca_bytes before = {BYTES(OLD_TABLE)}, data = {BYTES(ACCENT)}, after = {BYTES(NEW_TABLE)}, changes = {BYTES(CHANGES)}, maps = {BYTES(MAPS)};
+    uint32_t status = uca_audit_changes(before, data, after, data, changes, maps, ROOM_OF(it.out), ROOM_OF(it.err), &it.lengths);
+    return is_run(status, &it, "accepted\n", NULL);
 }
 
 static void close_all(opened *it)
@@ -331,7 +382,8 @@ static long run_all(bool uses(opened *))
 
 int main(void)
 {
-    bool (*const uses[])(opened *) = {use, use_compact, use_shared, use_numbers, use_upgrade, use_texts, use_command};
+    bool (*const uses[])(opened *) = {use, use_compact, use_shared, use_numbers, use_upgrade, use_texts,
+                                      use_tailor, use_audit, use_find_changes, use_audit_changes};
     long all = 0;
     for (size_t i = 0; i < sizeof uses / sizeof *uses; i++) {
         long count = run_all(uses[i]);
