@@ -9,6 +9,7 @@ First prove and build the static library: `tools/build.py uca_c uca_run`. Then t
   sanitizers of gcc;
 - `memory`, in which each allocation fails in turn: as it is, and under valgrind;
 - `sizes`, over texts and tables of many sizes, where memory may not run out;
+- `stacks`, in which no call may take more of the stack than uca.h says;
 - `keys` and the module over files of examples/, whose keys and orders have to be those of `uca keys` and `uca sort`;
 - the names that libuca.so.1 exports, which have to be those of uca.h, and the header as C++;
 - a program that is compiled by what pkg-config says of a temporary installation, and the programs of docs/BINDINGS.md;
@@ -123,12 +124,35 @@ def sanitizers(work):
     run([f"{work}/calls"])
 
 
+# A program in C++ over uca.h. It opens a collator, and prints why no upgrade is opened.
+CPP = """#include "uca.h"
+int main()
+{
+    uca_collator collator = UCA_CLOSED_COLLATOR;
+    uca_upgrade upgrade = UCA_CLOSED_UPGRADE;
+    uca_settings settings = UCA_DEFAULT_SETTINGS;
+    uca_bytes table = {UCA_BYTES_OF("@version 1\\n0061 ; [.1C47.0020.0002]\\n")}, data = {UCA_BYTES_OF("@data 1\\n")};
+    uca_error error;
+    uca_upgrade_error upgrade_error;
+    char line[128];
+    settings.numeric = true;
+    bool is_open = uca_open_with(&collator, table, data, &settings, &error) == UCA_OK;
+    uint32_t status = uca_open_upgrade_with(&upgrade, table, data, table, data, data, data, &settings, &upgrade_error);
+    uca_upgrade_error_text(status, &upgrade_error, line, sizeof line);
+    puts(line);
+    uca_close(&collator);
+    uca_close_upgrade(&upgrade);
+    return is_open && uca_abi() == UCA_ABI ? 0 : 1;
+}
+"""
+
+
 def header(work):
     need("g++")
     with open(f"{work}/header.cpp", "w", encoding="utf-8") as it:
-        it.write('#include "uca.h"\nint main() { uca_collator c = UCA_CLOSED_COLLATOR; uca_close(&c); uca_upgrade u = UCA_CLOSED_UPGRADE; uca_close_upgrade(&u); return uca_abi() == UCA_ABI ? 0 : 1; }\n')
+        it.write(CPP)
     run(["g++", "-Wall", "-Wextra", "-Werror", f"-I{C}/include", "-o", f"{work}/header", f"{work}/header.cpp", f"{C}/out/libuca.a"])
-    run([f"{work}/header"])
+    same(run([f"{work}/header"]), b"file of changes line 1: Order\n", "the header in C++")
 
 
 def exports(work):
