@@ -1590,7 +1590,7 @@ static void check_set(uint32_t weighting, uint32_t depth, bool numeric, bool has
 {
     uca_collator it = UCA_CLOSED_COLLATOR, other = UCA_CLOSED_COLLATOR;
     uca_error error;
-    uint8_t sum[32], its_sum[33];
+    uint8_t keys[32], sum[32], its_sum[33];
     uint32_t whole_depth = depth + (numeric ? 2 : 0);
     uca_settings settings = {.weighting = weighting, .depth = depth, .numeric = numeric};
     if (has_book) {
@@ -1602,11 +1602,11 @@ static void check_set(uint32_t weighting, uint32_t depth, bool numeric, bool has
     CHECK(are_alike(&it, &other, BYTES("")) && are_alike(&it, &other, BYTES("a\xCC\x81" "b")) && are_alike(&it, &other, BYTES("a10")));
     uca_close(&it);
     uca_close(&other);
-    CHECK(uca_fingerprint(BYTES(DIGITS), BYTES(DATA), weighting, whole_depth, sum, &error) == UCA_OK);
+    CHECK(uca_fingerprint(BYTES(DIGITS), BYTES(DATA), weighting, whole_depth, keys, &error) == UCA_OK);
     if (has_book) {
-        uint8_t keys[32];
-        memcpy(keys, sum, 32);
         uca_compact_fingerprint(keys, BYTES(BOOK), sum);
+    } else {
+        memcpy(sum, keys, 32);
     }
     memset(its_sum, 0xEE, sizeof its_sum);
     error = (uca_error){7, 7};
