@@ -12,7 +12,7 @@ First prove and build the static library: `tools/build.py uca_c uca_run`. Then t
 - `stacks`, in which no call may take more of the stack than uca.h says;
 - `keys` and the module over files of examples/, whose keys and orders have to be those of `uca keys` and `uca sort`;
 - the names that libuca.so.1 exports, which have to be those of uca.h, and the header as C++;
-- a program that is compiled by what pkg-config says of a temporary installation, and the programs of docs/BINDINGS.md;
+- a program that is compiled by what pkg-config says of a temporary installation, and the programs of docs/BINDINGS.md, also with the sanitizers;
 - the tests of the module for Python, as it is and from a wheel with the library inside, and those of keys, threads, signals and forks under valgrind;
 - statements of SQLite with the extension, over files that are the same or others, and those of docs/BINDINGS.md; also in threads, and where each allocation fails in turn;
 - upgrades from the edition of examples/ to that of examples/editions/, in Python, SQLite and PostgreSQL. upgrades.py does the same with Unicode's tables;
@@ -118,9 +118,12 @@ def valgrind(work):
     run(["valgrind", "-q", "--tool=helgrind", "--error-exitcode=9", f"{C}/out/calls"])
 
 
+SANITIZERS = ["-g", "-fsanitize=address,undefined", "-fno-sanitize-recover=all"]
+
+
 def sanitizers(work):
     need("gcc")
-    run(["gcc", *FLAGS, "-pthread", "-g", "-fsanitize=address,undefined", "-fno-sanitize-recover=all", "-o", f"{work}/calls", f"{C}/calls.c", f"{C}/out/libuca.a"])
+    run(["gcc", *FLAGS, "-pthread", *SANITIZERS, "-o", f"{work}/calls", f"{C}/calls.c", f"{C}/out/libuca.a"])
     run([f"{work}/calls"])
 
 
@@ -155,9 +158,14 @@ def header(work):
     same(run([f"{work}/header"]), b"file of changes line 1: Order\n", "the header in C++")
 
 
+def declared_calls():
+    """The calls of the library, as uca.h declares them."""
+    return re.findall(r"^(?:uint32_t|size_t|void) (uca_\w+)\(", content(f"{C}/include/uca.h").decode(), re.M)
+
+
 def exports(work):
     need("nm")
-    declared = re.findall(r"^(?:uint32_t|size_t|void) (uca_\w+)\(", content(f"{C}/include/uca.h").decode(), re.M)
+    declared = declared_calls()
     found = [it.split()[-1].split("@")[0] for it in run(["nm", "-D", "--defined-only", f"{C}/out/libuca.so.1"]).decode().splitlines()]
     same(sorted(it for it in found if it != "UCA_1"), sorted(declared), "exported names")
 
@@ -204,19 +212,59 @@ def stored_run(work):
     same(found, content(f"{TOP}/crates/uca/stdout"), "keys")
 
 
+# Changes of the page's program for a new edition, and what it prints to standard error then.
+ACCENTS = "a" + 65 * "\u0324"
+NEW_EDITION_ERRORS = [
+    ([('.word = "ch"', '.word = "c\\xff"')], "position 1: c\ufffd: the text is not UTF-8\n"),
+    # U+0324 is a non-starter of the new edition alone, so the old one makes a key
+    ([('.word = "ch"', f'.word = "{ACCENTS}"'), ("key[256]", "key[4096]")], f"position 1: {ACCENTS}: the text has more than 64 non-starters in a row in Normalization Form D\n"),
+    ([("key[256]", "key[13]")], "d: there is too little room\n"),
+    ([('"examples/table.txt"', '"examples/none.txt"')], "examples/none.txt is not read: it is not there, or it is too large\n"),
+    ([('"examples/table.txt"', '"examples/data.txt"')], "line 1: Line: uca_open: the table is rejected\n"),
+    ([('"examples/editions/table.txt"', '"examples/data.txt"')], "uca_find_changes: status 1\nnew line 1: Line\n"),
+    ([("certificate[1 << 20]", "certificate[8]")], "uca_find_changes: status 258\n"),
+    ([("changes, lengths.out,", "changes, 10,")], "file 5, line 1: Line: uca_open_upgrade: a file of the upgrade is rejected\n"),
+    # no change lists the eighth old row, that of `ch`, whose weight has no image
+    ([("changes, lengths.out,", "changes, 11,")], "Uncovered, place 1, number 8: uca_open_upgrade: the audit rejects the upgrade\n"),
+    ([("uca_close(&old);", "uca_close(&old);\n    kept[0] ^= 1;")], "the keys are of other files or settings\n"),
+]
+
+
+def c_program(work, program, *flags):
+    """The status of a program in C, what it prints, and its errors, at the top of the repository."""
+    with open(f"{work}/page.c", "w", encoding="utf-8") as it:
+        it.write(program)
+    run(["gcc", *FLAGS, *flags, "-o", f"{work}/page", f"{work}/page.c", f"{C}/out/libuca.a"])
+    ran = subprocess.run([f"{work}/page"], capture_output=True, cwd=TOP)
+    return ran.returncode, ran.stdout.decode(), ran.stderr.decode(errors="replace")
+
+
 def page(work):
-    """The programs of docs/BINDINGS.md, and that of docs/STORED_KEYS.md in Python. They show what they print in their comments."""
+    """The programs of docs/BINDINGS.md, and that of docs/STORED_KEYS.md in Python. They show what they print in their comments, or after them."""
     need("gcc")
     text, stored = (content(f"{TOP}/docs/{it}.md").decode() for it in ("BINDINGS", "STORED_KEYS"))
-    for program in re.findall(r"```c\n(.*?)```", text, re.S):
-        with open(f"{work}/page.c", "w", encoding="utf-8") as it:
-            it.write(program)
-        run(["gcc", *FLAGS, "-o", f"{work}/page", f"{work}/page.c", f"{C}/out/libuca.a"])
-        wanted = re.search(r"/\* ([0-9A-F]+) \*/", program).group(1) if "printf(\"%" in program else ""
-        same(run([f"{work}/page"]).decode(), wanted, f"the page's program {program}")
+    calls = declared_calls()
+    same([it for it in calls if not re.search(rf"\b{it}\b", text)], [], "calls that the page does not name")
+    same(re.search(r"Together they have (\d+) calls for C", text).group(1), str(len(calls)), "how many calls the page says")
+    for program, printed in re.findall(r"```c\n(.*?)```(?:\n\nIt prints:\n\n```\n(.*?)```)?", text, re.S):
+        wanted = printed or re.search(r"/\* ([0-9A-F]+) \*/", program).group(1)
+        for flags in ([], SANITIZERS):
+            same(c_program(work, program, *flags), (0, wanted, ""), f"the page's program {program}")
+        if "uca_open_upgrade" in program:
+            page_errors(work, program)
     for program in re.findall(r"```python\n(.*?)```", text + stored, re.S):
         said = run([sys.executable, "-c", program], env=python_environment(), cwd=TOP).decode()
         same(said.splitlines(), re.findall(r"# (\S.*)", program), f"the page's program {program}")
+
+
+def page_errors(work, program):
+    """The page's program for a new edition prints each error, and no key."""
+    for changes, error in NEW_EDITION_ERRORS:
+        changed = program
+        for old, new in changes:
+            same(changed.count(old), 1, f"how many {old}")
+            changed = changed.replace(old, new)
+        same(c_program(work, changed, *SANITIZERS), (1, "", error), f"the page's program with {changes}")
 
 
 def options(setting):
@@ -1063,6 +1111,13 @@ def sqlite_upgrade_page(work):
     bounds = "SELECT group_concat(word, ' ') FROM words, made_by WHERE key >= uca_range_low('bach', fingerprint, 1) AND key < uca_range_high('bach', fingerprint, 1);"
     same(sqlite_says(work, "INSERT INTO words VALUES ('e', uca_key('e', '{0}')), (NULL, NULL);".format(NEXT), state, bounds, load=load, database=database), f"{NEXT}|7\nbach\n", "rows of the new edition")
     page_statements(work, "texts.db", of_texts, load=new_only)
+    # the new key of `c` has the bytes of the old key of `ch`
+    unique, index = f"{work}/unique.db", "CREATE UNIQUE INDEX by_key ON words(key);"
+    page_statements(work, "unique.db", made, load="")
+    rows = f"DELETE FROM words; INSERT INTO words SELECT column1, uca_key(column1, '{USED}') FROM (VALUES ('c'), ('ch'));"
+    update = re.search(r"UPDATE made_by .*", move).group()
+    sqlite_fails(work, "UNIQUE constraint failed", rows, index, update, load=load, database=unique)
+    same(sqlite_says(work, state, "BEGIN; DROP INDEX by_key;", update, index, "COMMIT;", state, load=load, database=unique), f"{USED}|2\n{NEXT}|2\n", "a unique index that is made again")
 
 
 def compacted(program, keys, book):
@@ -1556,8 +1611,8 @@ def postgresql_columns(work):
         for it in ("bytea", "a_key", '"that key"', "a_row", "a_range", "a_multirange", "bytea[]", '"that key"[]', "a_row[]"):
             counted = f"DROP EXTENSION uca; CREATE TABLE its(it {it}); CREATE EXTENSION uca; SELECT count(*) FROM uca_files; DROP TABLE its;"
             same(says(counted), "2\n", f"a column of type {it} before the extension")
-        page = re.search(r"CREATE TABLE stored .*", content(f"{TOP}/docs/BINDINGS.md").decode()).group()
-        says("DELETE FROM uca_files WHERE fingerprint LIKE 'unknown%';" + page.replace("2c26..7ae3", fingerprint))
+        page = re.search(r"CREATE TABLE stored .*?;", content(f"{TOP}/docs/BINDINGS.md").decode(), re.S).group()
+        says("DELETE FROM uca_files WHERE fingerprint LIKE 'unknown%';" + page)
         says("INSERT INTO stored VALUES ('a', uca_key('a')), (NULL, NULL);")
         for it in ("(NULL, '\\x1c')", "('a', NULL)", "('a', '\\x1c')"):
             same(says(f"INSERT INTO stored VALUES {it};", fails=True), 'ERROR:  new row for relation "stored" violates check constraint "stored_check"', it)
@@ -1701,6 +1756,52 @@ def postgresql_books(work):
             raise AssertionError("a role without rights reads uca.book_file")
 
 
+def blocks_of(heading):
+    """The blocks of a section of docs/BINDINGS.md, each with its language."""
+    section = re.search(rf"^### {heading}\n(.*?)^##", content(f"{TOP}/docs/BINDINGS.md").decode(), re.S | re.M).group(1)
+    return re.findall(r"^```(\w*)\n(.*?)^```$", section, re.S | re.M)
+
+
+def page_settings(server, blocks):
+    """The folder of the files, the page's settings, and its statements. The page's commands have run, and have put the files into this folder in
+    place of /srv/uca."""
+    room = f"{os.path.dirname(server.folder)}/srv"
+    its = [(language, it.replace("/srv/uca", room)) for language, it in blocks]
+    for language, commands in its:
+        if language == "sh":
+            run(["sh", "-ec", commands.replace("sudo ", "")], cwd=TOP)
+    return room, [it for language, it in its if not language], [it for language, it in its if language == "sql"]
+
+
+def postgresql_page(work):
+    """What docs/BINDINGS.md says from nothing: its commands, settings and statements, with another folder in place of /srv/uca."""
+    with postgresql_server(work) as (server, says, _):
+        room, (settings, book), (first, again, names, named, changed) = page_settings(server, blocks_of("In PostgreSQL"))
+
+        def prints(statements, database):
+            same(says(statements, database=database).splitlines(), re.findall(r"^-- (.*)", statements, re.M), f"the page's statements {statements}")
+
+        server.restart(settings)
+        says("CREATE DATABASE words; CREATE DATABASE changed; CREATE DATABASE named;")
+        for it in ("words", "changed", "named"):
+            prints(first, it)
+        prints(named, "named")
+        says("INSERT INTO words VALUES ('d'); INSERT INTO stored VALUES ('d', uca_key('d'));", database="named")
+        if "violates check constraint" not in says("INSERT INTO stored VALUES ('d', uca_key('a'));", fails=True, database="named"):
+            raise AssertionError("another key in the page's table")
+        server.restart(settings + book)
+        for statement in ("SELECT uca_key('a');", "INSERT INTO words VALUES ('d');"):
+            same(says(statement, fails=True, database="words"), OTHER_FILES, f"{statement} with a book")
+        prints(again, "words")
+        prints(names, "words")
+        same(says("SELECT word FROM words ORDER BY uca_key(word);", database="words"), "á\nb\nbh\nbz\nch\n", "the words with a book")
+        shutil.copy(TAILORED, f"{room}/table.txt")
+        server.restart(settings)
+        same(says("SELECT uca_key('a');", fails=True, database="changed"), OTHER_FILES, "a key with another table")
+        prints(changed, "changed")
+        same(says("SELECT word FROM words ORDER BY uca_key(word);", database="changed"), "á\nb\nbz\nbh\nch\n", "the words by another table")
+
+
 NO_NEXT = "ERROR:  uca: the server has no next edition: name it in uca.next_table_file and the other settings"
 
 
@@ -1807,10 +1908,11 @@ def postgresql_upgrade_files(work):
 
 def postgresql_upgrade_page(work):
     """The statements of docs/BINDINGS.md for a new edition."""
-    page = re.search(r"^### A new edition in PostgreSQL\n(.*?)^## ", content(f"{TOP}/docs/BINDINGS.md").decode(), re.S | re.M).group(1)
-    blocks = re.findall(r"```sql\n(.*?)```", page, re.S)
-    with postgresql_server(work, editions=EDITIONS[2:]) as (server, says, settings):
-        says("SELECT uca_next_fingerprint();")
+    with postgresql_server(work) as (server, says, _):
+        _, (settings, _), _ = page_settings(server, blocks_of("In PostgreSQL"))
+        _, (next_edition,), blocks = page_settings(server, blocks_of("A new edition in PostgreSQL"))
+        server.restart(settings + next_edition)
+        same(says("SELECT uca_next_fingerprint();"), f"{NEXT}\n", "the page's next edition")
         said = "".join(says(it) for it in blocks[:2])
         # a key without a text, which cannot be told to be affected; a trigger makes keys where the text changes
         says(f"INSERT INTO words VALUES (NULL); UPDATE words SET key_e7f5 = uca_key('ch', '{USED}') WHERE word IS NULL; UPDATE words SET key_d8c5 = NULL;")
@@ -1828,9 +1930,78 @@ def postgresql_upgrade_page(work):
         same(says(query, fails=True), 'ERROR:  column "key_e7f5" does not exist', "a query of the old keys after step 4")
         same(said.splitlines(), re.findall(r"^-- (.*)", "".join(blocks), re.M), "the page's statements")
         same(says(f"SELECT count(*) FROM words WHERE key_d8c5 = uca_key(word, '{NEXT}'); INSERT INTO words VALUES ('e') RETURNING key_d8c5 = uca_key('e', '{NEXT}');"), "5\nt\n", "the page's table")
-        without = re.sub("uca.(next_.*|changes|certificate)_file.*\n", "", settings)
-        server.restart(without.replace("/table.txt", "/next_table.txt").replace("/data.txt", "/next_data.txt"))
+        server.restart(settings.replace("/table.txt", "/new_table.txt").replace("/data.txt", "/new_data.txt"))
         same(says("SELECT uca_use_files(); INSERT INTO words VALUES ('f') RETURNING key_d8c5 = uca_key('f');"), "0\nt\n", "the page's table afterwards")
+
+
+def psql(server, database):
+    """A session that takes its statements while it runs."""
+    words = ["psql", "-XAtq", "-v", "ON_ERROR_STOP=1", "-d", database]
+    return subprocess.Popen(words, stdin=subprocess.PIPE, stdout=subprocess.PIPE, stderr=subprocess.PIPE, text=True, env={**os.environ, **server.environment})
+
+
+def tell(session, statements):
+    session.stdin.write(statements)
+    session.stdin.flush()
+
+
+def postgresql_one_transaction(work):
+    """The statements of docs/BINDINGS.md that take a table to a new edition in one transaction."""
+    made = next(it for language, it in blocks_of("A new edition in PostgreSQL") if language == "sql")
+    ((_, move),) = blocks_of("A new edition in PostgreSQL, in one transaction")
+    old_state = f"SELECT count(*) FROM words WHERE key_e7f5 = uca_key(word, '{USED}');"
+    new_state = f"SELECT count(*) FROM words WHERE key_d8c5 = uca_key(word, '{NEXT}');"
+    pair = "DELETE FROM words; INSERT INTO words VALUES ('c'), ('ch');"
+    with postgresql_server(work, editions=EDITIONS[2:]) as (server, says, _):
+
+        def has(database, *statements):
+            """A new database with the table."""
+            says(f"CREATE DATABASE {database};")
+            says(made + "".join(statements), database=database)
+
+        has("page", "CREATE INDEX by_key ON words (key_e7f5);")
+        same(says(move, database="page").splitlines(), re.findall(r"^-- (.*)", move, re.M), "the page's statements")
+        same(says(new_state + "INSERT INTO words VALUES ('e');" + new_state, database="page"), "5\n6\n", "the keys")
+        same(says("SELECT key_e7f5 FROM words;", fails=True, database="page"), 'ERROR:  column "key_e7f5" does not exist', "an old query")
+        # a key that is not of the first fingerprint
+        has("wrong", f"UPDATE words SET key_e7f5 = uca_key('b', '{USED}') WHERE word = 'a';")
+        if 'check constraint "of_next_edition"' not in says(move, fails=True, database="wrong"):
+            raise AssertionError("a wrong key is taken to the new edition")
+        same(says(old_state, database="wrong"), "4\n", "the keys after the error")
+        has("checked", f"ALTER TABLE words ADD CONSTRAINT its CHECK (key_e7f5 IS NOT DISTINCT FROM uca_key(word, '{USED}'));")
+        if 'violates check constraint "its"' not in says(move, fails=True, database="checked"):
+            raise AssertionError("a CHECK that names the first fingerprint")
+        dropped = move.replace("UPDATE words", "ALTER TABLE words DROP CONSTRAINT its; UPDATE words")
+        same(says(dropped + new_state, database="checked"), "a\nb\nbach\nch\nd\n5\n", "a CHECK that is dropped")
+        # the new key of `c` has the bytes of the old key of `ch`
+        has("one", pair, "CREATE UNIQUE INDEX by_key ON words (key_e7f5);")
+        if "duplicate key value" not in says(move, fails=True, database="one"):
+            raise AssertionError("a unique index that takes a key twice")
+        same(says(old_state, database="one"), "2\n", "the keys after the error")
+        dropped = move.replace("UPDATE words", "DROP INDEX by_key; UPDATE words").replace("COMMIT;", "CREATE UNIQUE INDEX by_key ON words (key_d8c5); COMMIT;")
+        same(says(dropped + new_state, database="one"), "c\nch\n2\n", "a unique index that is made again")
+        has("at_the_end", pair, "ALTER TABLE words ADD UNIQUE (key_e7f5) DEFERRABLE;")
+        same(says(move + new_state, database="at_the_end"), "c\nch\n2\n", "a constraint that is deferrable")
+        # others that wait: one whose transaction begins after the move has begun, one that began before, and a reader
+        has("waits")
+        early, mover = psql(server, "waits"), psql(server, "waits")
+        tell(early, "BEGIN ISOLATION LEVEL REPEATABLE READ; SELECT 'began' FROM pg_class LIMIT 1;\n")
+        same(early.stdout.readline(), "began\n", "a transaction that began before")
+        before_commit, after = move.split("COMMIT;")
+        tell(mover, before_commit + "SELECT 'moved';\n")
+        same(mover.stdout.readline(), "moved\n", "the move before COMMIT")
+        tell(early, "INSERT INTO words VALUES ('cb'); COMMIT;\n")
+        late, reader = psql(server, "waits"), psql(server, "waits")
+        tell(late, "INSERT INTO words VALUES ('c');\n")
+        tell(reader, "SELECT word FROM words ORDER BY key_e7f5;\n")
+        waiting = "SELECT count(*) FROM pg_stat_activity WHERE datname = 'waits' AND wait_event_type = 'Lock';"
+        until(lambda: says(waiting), "3\n", "three sessions wait")
+        tell(mover, "COMMIT;\n")
+        said = [it.communicate(timeout=60) for it in (mover, early, late, reader)]
+        same([it for _, it in said[:3]], ["", "", ""], "errors of those that wrote")
+        if 'column "key_e7f5" does not exist' not in said[3][1]:
+            raise AssertionError(f"a reader that waited: {said[3]}")
+        same(says(new_state + "SELECT count(*) FROM words;", database="waits"), "7\n7\n", "the keys of rows that waited")
 
 
 def postgresql_like(program):
@@ -2014,7 +2185,8 @@ def main():
               ("PostgreSQL's replication", postgresql_replication), ("PostgreSQL's changes", postgresql_changes), ("PostgreSQL's roles", postgresql_roles),
               ("PostgreSQL's owners", postgresql_owners), ("PostgreSQL's dependents", postgresql_dependents), ("PostgreSQL's columns", postgresql_columns), ("PostgreSQL's compact keys", postgresql_compact),
               ("PostgreSQL's books", postgresql_books), ("PostgreSQL's upgrades", postgresql_upgrades), ("PostgreSQL's files of upgrades", postgresql_upgrade_files),
-              ("PostgreSQL's upgrade on the page", postgresql_upgrade_page), ("PostgreSQL's orders", postgresql_like(program))]
+              ("PostgreSQL on the page", postgresql_page), ("PostgreSQL's upgrade on the page", postgresql_upgrade_page),
+              ("PostgreSQL's upgrade in one transaction", postgresql_one_transaction), ("PostgreSQL's orders", postgresql_like(program))]
     tried = {"C": c_words, "Python": python_words, "SQLite": sqlite_words, "PostgreSQL": postgresql_words}
     checks += [(f"100,000 words in {name}", over_unicode(program, it)) for name, it in tried.items()]
     passed = failed = skipped = 0

@@ -448,15 +448,26 @@ def crate_used(tests):
 
 
 def crate_page(tests):
-    """The programs of docs/BINDINGS.md print what their comments show."""
+    """The programs of docs/BINDINGS.md print what their comments show, in a folder that the page's commands make from nothing."""
     folder = f"{tests.work}/page"
-    programs = re.findall(r"```rust\n(.*?)```", content(f"{TOP}/docs/BINDINGS.md").decode(), re.S)
+    page = content(f"{TOP}/docs/BINDINGS.md").decode()
+    programs = re.findall(r"```rust\n(.*?)```", page, re.S)
     same(len(programs), 2, "programs")
-    write(f"{folder}/Cargo.toml", f'[package]\nname = "page"\nversion = "0.0.0"\nedition = "2021"\n[dependencies]\nuca = {{ path = "{TOP}/bindings/rust" }}\n')
+    commands = re.search(r"```sh\n(cargo new upgrade\n.*?)```", page, re.S).group(1)
+    os.makedirs(folder)
+    shutil.copy(tests.file("uca-*.crate"), folder)
+    for command in commands.replace("/usr/share/doc/uca/examples", EXAMPLES).splitlines():
+        words = command.split()
+        if words[0] == "cd":
+            folder = f"{folder}/{words[1]}"
+        elif words[0] == "cargo":
+            cargo(tests, *words[1:], cwd=folder)
+        else:
+            run(words, cwd=folder)
     for program in programs:
         write(f"{folder}/src/main.rs", program)
-        cargo(tests, "build", "-q", cwd=folder)
-        same(run([f"{tests.work}/target/debug/page"], cwd=TOP).decode().splitlines(), re.findall(r"// (\S.*)", program), "what a program of the page prints")
+        said = cargo(tests, "run", "-q", "--offline", cwd=folder).decode()
+        same(said.splitlines(), re.findall(r"// (\S.*)", program), "what a program of the page prints")
 
 
 def crate_example(tests):
