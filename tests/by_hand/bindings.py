@@ -16,7 +16,7 @@ First prove and build the static library: `tools/build.py uca_c uca_run`. Then t
 - the tests of the module for Python, as it is and from a wheel with the library inside, and those of keys, threads, signals and forks under valgrind;
 - statements of SQLite with the extension, over files that are the same or others, and those of docs/BINDINGS.md; also in threads, and where each allocation fails in turn;
 - upgrades from the edition of examples/ to that of examples/editions/, in Python, SQLite and PostgreSQL. upgrades.py does the same with Unicode's tables;
-- statements, dumps and replication of PostgreSQL with its extension, which is installed to a copy of the server's programs in a temporary folder. Each server
+- statements, dumps and replication of PostgreSQL with its extension, and the commands, settings and statements of docs/BINDINGS.md. The extension is installed to a copy of the server's programs in a temporary folder. Each server
   has a folder of its own, listens on a Unix socket there, and is stopped afterwards;
 - all four over Unicode's table, and over that table tailored for Danish: 100,000 words of nine languages have the keys of `uca keys` and the order of `uca sort`.
   Compact keys are those of `uca compact`. Ranges of keys find exactly the words that a search through all keys finds. The sizes of indexes are printed.
@@ -245,9 +245,9 @@ def page(work):
     text, stored = (content(f"{TOP}/docs/{it}.md").decode() for it in ("BINDINGS", "STORED_KEYS"))
     calls = declared_calls()
     same([it for it in calls if not re.search(rf"\b{it}\b", text)], [], "calls that the page does not name")
-    same(re.search(r"Together they have (\d+) calls for C", text).group(1), str(len(calls)), "how many calls the page says")
+    same(re.findall(r"have (\d+) calls for C", text), [str(len(calls))], "how many calls the page says")
     for program, printed in re.findall(r"```c\n(.*?)```(?:\n\nIt prints:\n\n```\n(.*?)```)?", text, re.S):
-        wanted = printed or re.search(r"/\* ([0-9A-F]+) \*/", program).group(1)
+        wanted = printed or "".join(re.findall(r"/\* ([0-9A-F]+) \*/", program)[:1])
         for flags in ([], SANITIZERS):
             same(c_program(work, program, *flags), (0, wanted, ""), f"the page's program {program}")
         if "uca_open_upgrade" in program:
@@ -1952,7 +1952,7 @@ def postgresql_one_transaction(work):
     old_state = f"SELECT count(*) FROM words WHERE key_e7f5 = uca_key(word, '{USED}');"
     new_state = f"SELECT count(*) FROM words WHERE key_d8c5 = uca_key(word, '{NEXT}');"
     pair = "DELETE FROM words; INSERT INTO words VALUES ('c'), ('ch');"
-    with postgresql_server(work, editions=EDITIONS[2:]) as (server, says, _):
+    with postgresql_server(work, editions=EDITIONS[2:]) as (server, says, settings):
 
         def has(database, *statements):
             """A new database with the table."""
@@ -2002,6 +2002,10 @@ def postgresql_one_transaction(work):
         if 'column "key_e7f5" does not exist' not in said[3][1]:
             raise AssertionError(f"a reader that waited: {said[3]}")
         same(says(new_state + "SELECT count(*) FROM words;", database="waits"), "7\n7\n", "the keys of rows that waited")
+        without = re.sub("uca.(next_.*|changes|certificate)_file.*\n", "", settings)
+        server.restart(without.replace("/table.txt", "/next_table.txt").replace("/data.txt", "/next_data.txt"))
+        afterwards = "SELECT uca_use_files(); INSERT INTO words VALUES ('f') RETURNING key_d8c5 = uca_key('f');"
+        same(says(afterwards, database="page"), "0\nt\n", "the page's table afterwards")
 
 
 def postgresql_like(program):
