@@ -1963,6 +1963,12 @@ def postgresql_one_transaction(work):
         same(says(move, database="page").splitlines(), re.findall(r"^-- (.*)", move, re.M), "the page's statements")
         same(says(new_state + "INSERT INTO words VALUES ('e');" + new_state, database="page"), "5\n6\n", "the keys")
         same(says("SELECT key_e7f5 FROM words;", fails=True, database="page"), 'ERROR:  column "key_e7f5" does not exist', "an old query")
+        has("plain", "DROP TRIGGER sets_keys ON words;")
+        without = re.sub(r"CREATE OR REPLACE FUNCTION.*?END \$\$;\n", "", move, flags=re.S)
+        same(says(without + new_state, database="plain"), "a\nb\nbach\nch\nd\n5\n", "a table without a trigger")
+        if 'check constraint "of_next_edition"' not in says(f"INSERT INTO words VALUES ('b', uca_key('b', '{USED}'));", fails=True, database="plain"):
+            raise AssertionError("an old key comes in")
+        same(says(f"INSERT INTO words VALUES ('b', uca_key('b', '{NEXT}'));" + new_state, database="plain"), "6\n", "a new key comes in")
         # a key that is not of the first fingerprint
         has("wrong", f"UPDATE words SET key_e7f5 = uca_key('b', '{USED}') WHERE word = 'a';")
         if 'check constraint "of_next_edition"' not in says(move, fails=True, database="wrong"):
