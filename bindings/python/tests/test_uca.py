@@ -4,6 +4,7 @@ import concurrent.futures
 import contextlib
 import copy
 import ctypes.util
+import functools
 import gc
 import hashlib
 import itertools
@@ -344,6 +345,88 @@ def read_by_value(text):
         return "9" * nines + str(last + 1) + digits
 
     return re.sub("[0-9]+", written, text)
+
+
+class Beginnings(unittest.TestCase):
+    """The first bytes of keys, and how many bytes keys have at most."""
+
+    def collators(self):
+        """A collator of whole keys and one of compact keys, each with its key of "ab" by hand."""
+        yield from [
+            (uca.Collator(TABLE, DATA, "non-ignorable"), hexadecimal("1C47 1C60 0000 0020 0020 0000 0002 0002")),
+            (uca.Collator(TABLE, DATA, "shifted", book=BOOK), hexadecimal("0A 0C 03")),
+        ]
+
+    def test_values(self):
+        for collator, key in self.collators():
+            for length in [*range(len(key) + 3), 1000, sys.maxsize]:
+                for text in ("ab", b"ab", bytearray(b"ab")):
+                    self.assertEqual(collator.key_beginning(text, length), key[:length])
+            self.assertEqual(collator.key_beginning("", 0), b"")
+
+    def test_long_keys(self):
+        # A letter of 18 weights: its key has more bytes than the first room for it.
+        table = TABLE + b"0063 ; " + b"[.1C7A.0020.0002]" * 18 + b"\n"
+        key = b"\x1c\x7a" * 5400 + b"\0\0" + b"\0\x20" * 5400 + b"\0\0" + b"\0\x02" * 5400
+        with uca.Collator(table, DATA, "non-ignorable") as collator:
+            for length in (0, 1, 8, 2463, 2464, 2465, len(key) - 1, len(key), len(key) + 1, sys.maxsize):
+                self.assertEqual(collator.key_beginning("c" * 300, length), key[:length])
+
+    def test_bounds(self):
+        # 518 times the length and 8 more; with a book twice that and one more; at most the greatest size_t
+        for (collator, _), bounds in zip(self.collators(), [(8, 526, 1044, 518_000_008), (17, 1053, 2089, 1_036_000_017)]):
+            self.assertEqual(tuple(map(collator.key_bound, (0, 1, 2, 1_000_000))), bounds)
+            self.assertEqual(collator.key_bound(sys.maxsize), 2 * sys.maxsize + 1)
+
+    def test_other_lengths(self):
+        for collator, _ in self.collators():
+            for call in (collator.key_bound, lambda length: collator.key_beginning("a", length)):
+                for length in (-1, sys.maxsize + 1, 2**64):
+                    self.assertRaises(ValueError, call, length)
+                for length in ("1", 1.0, None):
+                    self.assertRaises(TypeError, call, length)
+
+    def test_rejected_texts(self):
+        for collator, _ in self.collators():
+            for text, kind, position in [(b"a\xff", "Utf8", 1), ("a" + "\u0301" * 65, "LongRun", 1), ("a" * 1048577, "TooLong", None)]:
+                for length in (0, 8):
+                    with self.assertRaises(uca.TextError) as caught:
+                        collator.key_beginning(text, length)
+                    self.assertEqual((caught.exception.kind, caught.exception.position), (kind, position))
+            self.assertRaises(TypeError, collator.key_beginning, 5, 1)
+
+    def test_closed(self):
+        for collator, _ in self.collators():
+            collator.close()
+            self.assertRaises(uca.ClosedError, collator.key_beginning, "a", 1)
+            self.assertRaises(uca.ClosedError, collator.key_bound, 1)
+
+
+class Orders(unittest.TestCase):
+    """The order of any texts and bytes."""
+
+    def setUp(self):
+        self.collator = uca.Collator(TABLE, DATA, "non-ignorable")
+        self.addCleanup(self.collator.close)
+
+    def test_values(self):
+        # accepted texts by their weights, and then all others by their bytes: 61 62 FF, 61 CC 81 and so on, ED A0 80 of a lone surrogate, F8, FF
+        in_order = ["", "a", "A", "\u00e1", "ab", "b", b"ab\xff", "a" + "\u0301" * 65, "\ud800", b"\xf8", b"\xff", b"\xffa"]
+        for left, right in itertools.product(range(len(in_order)), repeat=2):
+            wanted = (left > right) - (left < right)
+            self.assertEqual(self.collator.order(in_order[left], in_order[right]), wanted, (left, right))
+        shuffled = random.Random(1).sample(in_order, len(in_order))
+        self.assertEqual(sorted(shuffled, key=functools.cmp_to_key(self.collator.order)), in_order)
+
+    def test_equal_texts(self):
+        for left, right in [("\u00e1", "a\u0301"), ("a", b"a"), (b"\xff", bytearray(b"\xff")), ("\ud800", b"\xed\xa0\x80")]:
+            self.assertEqual(self.collator.order(left, right), 0)
+
+    def test_errors(self):
+        for left, right in [(5, "a"), ("a", None), (array.array("i", [97]), "a")]:
+            self.assertRaises(TypeError, self.collator.order, left, right)
+        self.collator.close()
+        self.assertRaises(uca.ClosedError, self.collator.order, "a", b"\xff")
 
 
 class Numbers(unittest.TestCase):
@@ -1030,6 +1113,74 @@ for _ in range(10):
         self.assertEqual((run.stdout.decode(), run.stderr), ("True 0\n" * 10, b""))
 
 
+class Shares(unittest.TestCase):
+    """Collators that share a table."""
+
+    def test_values(self):
+        for weighting, identical, text, whole, compact in COMPACT_KEYS:
+            for book, key in ((None, whole), (BOOK, compact)):
+                with uca.Collator(TABLE, DATA, weighting, identical, book=book) as first:
+                    kept, other = first.fingerprint, first.share()
+                # the first one is closed, and the other one is open
+                self.assertFalse(first.is_open)
+                self.assertEqual((other.is_open, other.fingerprint, other.key(text)), (True, kept, hexadecimal(key)))
+                last = other.share()
+                other.close()
+                self.assertEqual((last.key(text), last.compare("a", "b"), last.order("b", "a")), (hexadecimal(key), (-1, 1), 1))
+                last.close()
+
+    def test_closed(self):
+        collator = uca.Collator(TABLE, DATA)
+        other = collator.share()
+        other.close()
+        self.assertTrue(collator.is_open)
+        collator.close()
+        for it in (collator, other):
+            self.assertRaises(uca.ClosedError, it.share)
+        self.assertRaises(uca.ClosedError, uca.Collator.__new__(uca.Collator).share)
+
+    def test_no_memory(self):
+        with uca.Collator(TABLE, DATA) as collator, unittest.mock.patch.object(uca._library, "uca_share", lambda *given: 6):
+            self.assertRaises(MemoryError, collator.share)
+
+    def test_subclasses_and_copies(self):
+        with files() as paths, Named("mine", paths) as named, named.share() as shared, uca.Collator(TABLE, DATA).share() as of_bytes:
+            self.assertIs(type(shared), uca.Collator)
+            self.assertEqual(vars(shared).keys(), {"_collator"})
+            for it in (pickle.loads(pickle.dumps(shared)), copy.copy(shared)):
+                self.assertEqual((it.fingerprint, it.key("a")), (named.fingerprint, named.key("a")))
+                it.close()
+            self.assertRaises(TypeError, pickle.dumps, of_bytes)
+            self.assertRaises(RuntimeError, shared.__init__, *paths)
+
+    def test_memory_is_given_back(self):
+        closed = []
+        close = uca._Collator.close_unused
+        self.addCleanup(setattr, uca._Collator, "close_unused", close)
+        uca._Collator.close_unused = staticmethod(lambda it: (closed.append(it.is_open), close(it)))
+        collator = uca.Collator(TABLE, DATA)
+        other = collator.share()
+        del collator
+        gc.collect()
+        self.assertEqual((closed, other.key("")), ([True], bytes(6)))
+        del other
+        gc.collect()
+        self.assertEqual(closed, [True, True])
+
+    def test_threads(self):
+        first = uca.Collator(TABLE, DATA, "non-ignorable")
+        keys = {"a" * it: b"\x1c\x47" * it + b"\0\0" + b"\0\x20" * it + b"\0\0" + b"\0\x02" * it for it in range(100)}
+
+        def work(collator):
+            with collator:
+                return all(collator.key(text) == key for _ in range(20) for text, key in keys.items())
+
+        shared = [first.share() for _ in range(8)]
+        first.close()
+        with concurrent.futures.ThreadPoolExecutor(8) as pool:
+            self.assertEqual(list(pool.map(work, shared)), [True] * 8)
+
+
 class Settings(unittest.TestCase):
     def test_shifted_is_the_default(self):
         for weighting in (None, "shifted"):
@@ -1481,8 +1632,8 @@ class Library(unittest.TestCase):
 
     def test_older(self):
         first = ["uca_abi", "uca_version", "uca_collator_size", "uca_open", "uca_key", "uca_compare", "uca_compare_keys", "uca_close"]
-        later = ["uca_open_compact", "uca_compact_fingerprint", "uca_compact", "uca_expand", "uca_range", "uca_check_text"]
-        later += ["uca_upgrade_size", "uca_open_upgrade", "uca_affected", "uca_rekey", "uca_upgrade_fingerprints", "uca_close_upgrade", "uca_run"]
+        later = ["uca_open_compact", "uca_compact_fingerprint", "uca_share", "uca_key_beginning", "uca_key_bound", "uca_compact", "uca_expand"]
+        later += ["uca_range", "uca_check_text", "uca_order", "uca_upgrade_size", "uca_open_upgrade", "uca_affected", "uca_rekey", "uca_upgrade_fingerprints", "uca_close_upgrade", "uca_run"]
         for calls, missing in [(first + later, "uca_fingerprint"), *((["uca_fingerprint", *first, *later[:it]], later[it]) for it in range(len(later)))]:
             with self.assertRaises(ImportError) as caught:
                 uca._declare(types.SimpleNamespace(**{it: lambda: None for it in calls}), "/old/libuca.so.1")

@@ -348,12 +348,16 @@ def _declare(library: ctypes.PyDLL, path: str) -> None:
         "uca_open_compact": ([collator, *files, data, size, *settings, error], number),
         "uca_fingerprint": ([*files, *settings, out, error], number),
         "uca_compact_fingerprint": ([data, data, size, out], None),
+        "uca_share": ([collator, collator], number),
         "uca_key": ([collator, data, size, *written], number),
+        "uca_key_beginning": ([collator, data, size, *written], number),
+        "uca_key_bound": ([collator, size, ctypes.POINTER(size)], number),
         "uca_compact": ([collator, data, size, *written], number),
         "uca_expand": ([collator, data, size, *written], number),
         "uca_range": ([collator, data, size, number, number, *written], number),
         "uca_check_text": ([collator, data, size, ctypes.POINTER(size)], number),
         "uca_compare": ([collator, data, size, data, size, comparison], number),
+        "uca_order": ([collator, data, size, data, size, ctypes.POINTER(ctypes.c_int32)], number),
         "uca_compare_keys": ([data, size, data, size, ctypes.c_uint8, comparison], None),
         "uca_close": ([collator], None),
         "uca_upgrade_size": ([], size),
@@ -375,8 +379,8 @@ def _declare(library: ctypes.PyDLL, path: str) -> None:
 
 
 #: the calls that take a collator or an upgrade
-_CALLS_IN_TURN = ["uca_open", "uca_open_compact", "uca_key", "uca_compact", "uca_expand", "uca_range", "uca_check_text", "uca_compare"]
-_CALLS_IN_TURN += ["uca_close"]
+_CALLS_IN_TURN = ["uca_open", "uca_open_compact", "uca_share", "uca_key", "uca_key_beginning", "uca_key_bound", "uca_compact", "uca_expand"]
+_CALLS_IN_TURN += ["uca_range", "uca_check_text", "uca_compare", "uca_order", "uca_close"]
 _CALLS_IN_TURN += ["uca_open_upgrade", "uca_affected", "uca_rekey", "uca_upgrade_fingerprints", "uca_close_upgrade"]
 
 
@@ -568,6 +572,13 @@ def _made(opened: Union[_Collator, _Upgrade], name: str, given: bytes, *numbers:
     if status != _OK:
         _raise(status, opened, name, given)
     return out[: needed.value]
+
+
+def _checked_length(length: int) -> int:
+    count = operator.index(length)
+    if not 0 <= count <= sys.maxsize:
+        raise ValueError("length is a number from 0 to sys.maxsize")
+    return count
 
 
 def _checked_levels(levels: int) -> int:
@@ -789,6 +800,39 @@ class Collator:
             return _made(self._collator, "uca_key", _encoded(text))
         return _made(self._collator, "uca_range", _encoded(text), _checked_levels(levels), _LOW)
 
+    def key_beginning(self, text: Text, length: int) -> bytes:
+        """The first ``length`` bytes of ``key(text)``, or the whole key if it is shorter.
+
+        An index that sorts by the first bytes, and looks at the rest where these are equal, needs no more. ``length`` is from 0 to
+        sys.maxsize.
+
+        Raises :class:`TextError`, :class:`ClosedError` and MemoryError; ValueError for another length.
+        """
+        wanted, encoded, needed = _checked_length(length), _encoded(text), ctypes.c_size_t()
+        out = ctypes.create_string_buffer(min(wanted, 8 * len(encoded) + 64))
+        status = _library.uca_key_beginning(self._collator, encoded, len(encoded), out, len(out), needed)
+        if len(out) < min(wanted, needed.value):
+            out = ctypes.create_string_buffer(min(wanted, needed.value))
+            status = _library.uca_key_beginning(self._collator, encoded, len(encoded), out, len(out), needed)
+        if status != _OK:
+            _raise(status, self._collator, "uca_key_beginning", encoded)
+        return out[: min(wanted, needed.value)]
+
+    def key_bound(self, length: int) -> int:
+        """How many bytes the key of a text of at most ``length`` bytes has at most.
+
+        ``length`` counts the bytes of the text in UTF-8, and is from 0 to sys.maxsize. Most keys are far shorter. Without a book the
+        bound is 518 times ``length``, and 8 more. With a book it is twice that, and one more. It is at most 2 * sys.maxsize + 1,
+        the greatest size_t of C.
+
+        Raises :class:`ClosedError`, and ValueError for another length.
+        """
+        bound = ctypes.c_size_t()
+        status = _library.uca_key_bound(self._collator, _checked_length(length), bound)
+        if status != _OK:
+            _raise(status, self._collator, "uca_key_bound")
+        return bound.value
+
     def range(self, text: Text, levels: int = 1) -> KeyRange:
         """The range that has exactly the keys with the same letters as this text (1), or the same letters and accents (2).
 
@@ -834,6 +878,39 @@ class Collator:
         if status != _OK:
             _raise(status, self._collator, "uca_compare", first, second)
         return Comparison(found.order, found.level)
+
+    def order(self, left: Text, right: Text) -> int:
+        """The order of any two texts or bytes: -1 if the left one comes first, 1 if the right one does, or else 0.
+
+        Texts that are accepted are in their order, as :meth:`compare` says. All others come after them, in the order of their
+        bytes. So no text is rejected, and ``sorted(texts, key=functools.cmp_to_key(collator.order))`` places each of them.
+
+        Raises :class:`ClosedError` and MemoryError.
+        """
+        first, second, found = _encoded(left), _encoded(right), ctypes.c_int32()
+        status = _library.uca_order(self._collator, first, len(first), second, len(second), found)
+        if status != _OK:
+            _raise(status, self._collator, "uca_order")
+        return found.value
+
+    def share(self) -> Collator:
+        """One more collator with the same keys, ranges, comparisons and fingerprint. No file is read for it.
+
+        Both share the table and the data file, whose memory is given back with the last of them. Either may be closed first. What a
+        collator finds out about code points is its own. The new one is a :class:`Collator`, also where this one is of a subclass,
+        and can be pickled if this one can.
+
+        Threads need no collator of their own. They take turns also with one each, since one call at a time uses any collator.
+
+        Raises :class:`ClosedError` and MemoryError.
+        """
+        own, other, shared = self._collator, _Collator(), Collator.__new__(Collator)
+        status = _library.uca_share(own, other)
+        if status != _OK:
+            _raise(status, own, "uca_share")
+        other.paths, other.settings, other.fingerprint = own.paths, own.settings, own.fingerprint
+        shared._collator = other
+        return shared
 
     def close(self) -> None:
         """Gives back all memory. A collator that is closed stays so."""
