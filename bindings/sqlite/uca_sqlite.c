@@ -10,7 +10,7 @@
    it. 'unchecked' is none. Say the fingerprint is e7f5..:
 
      uca_key(text, 'e7f5..')                  the sort key, a blob; NULL for NULL; an error for a blob, for a real number, and for a text
-                                              that is rejected
+                                              that is rejected, with the position: uca_key: LongRun at 1
      uca_key(text, 'e7f5..', levels)          the key through 1 or 2 levels: of letters, or of letters and accents
      uca_range_low(text, 'e7f5..', levels)    where the keys begin whose first levels are those of the text, as many as for uca_key
      uca_range_high(text, 'e7f5..', levels)   where they end: these keys are from the low end up to, and without, the high end
@@ -304,12 +304,39 @@ static loaded *find_value(sqlite3_context *context, const char *name, sqlite3_va
     return it;
 }
 
-/* Ends a call with the error of a status. */
-static void status_error(sqlite3_context *context, const request *asked, const loaded *it, uint32_t status)
+static int is_text_error(uint32_t status)
 {
-    static const char *const NAMES[] = {[UCA_UTF8] = "Utf8", [UCA_TOO_LONG] = "TooLong", [UCA_LONG_RUN] = "LongRun", [UCA_NO_IMAGE] = "NoImage"};
-    if (status == UCA_UTF8 || status == UCA_TOO_LONG || status == UCA_LONG_RUN || status == UCA_NO_IMAGE) {
-        give_error(context, sqlite3_mprintf("%s: %s", asked->name, NAMES[status]));
+    return status == UCA_UTF8 || status == UCA_TOO_LONG || status == UCA_LONG_RUN;
+}
+
+/* Whether a text is accepted, as a status, and the position of its error. */
+static uint32_t check_text(loaded *it, const uint8_t *bytes, size_t length, size_t *position)
+{
+    uca_collator *taken = take(it);
+    uint32_t status = uca_check_text(taken, bytes, length, position);
+    give_back(it, taken);
+    return status;
+}
+
+/* Why a text is rejected, and where if there is a position: "LongRun at 1". It is NULL if memory runs out, and the caller frees it. */
+static char *why_rejected(uint32_t status, size_t position)
+{
+    if (status == UCA_TOO_LONG) {
+        return sqlite3_mprintf("TooLong");
+    }
+    return sqlite3_mprintf("%s at %llu", status == UCA_UTF8 ? "Utf8" : "LongRun", (unsigned long long)position);
+}
+
+/* Ends a call with the error of a status. The bytes are what the call was given. */
+static void status_error(sqlite3_context *context, const request *asked, loaded *it, uint32_t status, const uint8_t *bytes, size_t length)
+{
+    size_t position;
+    if (is_text_error(status)) {
+        status = check_text(it, bytes, length, &position); /* the same, or out of memory */
+        char *why = is_text_error(status) ? why_rejected(status, position) : NULL;
+        give_error(context, why ? sqlite3_mprintf("%s: %z", asked->name, why) : NULL);
+    } else if (status == UCA_NO_IMAGE) {
+        give_error(context, sqlite3_mprintf("%s: NoImage", asked->name));
     } else if (status == UCA_NO_KEY) {
         give_error(context, sqlite3_mprintf("%s: %s", asked->name, asked->made == EXPANDED_KEY ? "NoCompactKey" : "OtherKey"));
     } else if (status == UCA_NO_BOOK) {
@@ -359,7 +386,7 @@ static int fill(sqlite3_context *context, maker by, const request *asked, const 
         status = try_make(by, asked, bytes, length, out);
     }
     if (status != UCA_OK) {
-        status_error(context, asked, by.loaded, status);
+        status_error(context, asked, by.loaded, status, bytes, length);
     }
     return status == UCA_OK;
 }
@@ -518,7 +545,7 @@ static void make_affected(sqlite3_context *context, int count, sqlite3_value **v
     uint32_t status = uca_affected(&by.upgrade->upgrade, bytes, length, &affected);
     if (status == UCA_OK) {
         sqlite3_result_int(context, (int)affected);
-    } else if (status == UCA_UTF8 || status == UCA_TOO_LONG || status == UCA_LONG_RUN) {
+    } else if (is_text_error(status)) {
         sqlite3_result_int(context, 1);
     } else {
         sqlite3_result_error_nomem(context);

@@ -432,7 +432,7 @@ SQLITE = [
 ]
 # What goes by no fingerprint, or by one that is none.
 SQLITE_ERRORS = [
-    (f"SELECT uca_key(CAST(x'FF' AS TEXT), '{USED}');", "uca_key: Utf8"),
+    (f"SELECT uca_key(CAST(x'FF' AS TEXT), '{USED}');", "uca_key: Utf8 at 0"),
     (f"SELECT uca_key(x'61', '{USED}');", "uca_key: the first argument is a blob, not a text"),
     ("SELECT uca_key('a');", "wrong number of arguments to function uca_key()"),
     ("CREATE INDEX i ON words(uca_key(word));", "wrong number of arguments to function uca_key()"),
@@ -585,6 +585,18 @@ def sqlite_compact(work):
         sqlite_fails(work, f"{name}: the files of fingerprint {USED} have no book", f"SELECT {name}(x'0A03', '{USED}');")
 
 
+# Texts that are rejected, and why. The position counts bytes for Utf8, and code points in Normalization Form D for LongRun: `á` is two.
+SQLITE_MARKS = "replace(hex(zeroblob({})), '00', char(0x301))"
+SQLITE_REJECTED = [
+    ("CAST(x'FF' AS TEXT)", "Utf8 at 0"),
+    ("CAST(x'6162C3' AS TEXT)", "Utf8 at 2"),
+    ("CAST(x'C3A1EDA080' AS TEXT)", "Utf8 at 2"),
+    (f"'a' || {SQLITE_MARKS.format(65)}", "LongRun at 1"),
+    (f"'bá' || {SQLITE_MARKS.format(64)}", "LongRun at 2"),
+    ("replace(hex(zeroblob(1048577)), '00', 'a')", "TooLong"),
+]
+
+
 def sqlite_arguments(work):
     """What the functions make of NULL, of other types, fingerprints and numbers, and of bytes that are rejected."""
     small = small_book(work)
@@ -605,8 +617,16 @@ def sqlite_arguments(work):
         for levels in ("0", "3", "-1", "NULL", "'1'", "1.0", "4294967297"):
             sqlite_fails(work, f"{name}: the third argument is not 1 or 2", f"SELECT {name}('a', '{fingerprint}', {levels});", load=load)
     for call, error in (("uca_expand(x'0A')", "NoCompactKey"), ("uca_expand(x'')", "NoCompactKey"), ("uca_compact(x'1C')", "OtherKey"), ("uca_compact(x'')", "OtherKey"),
-                        ("uca_prefix_low(CAST(x'FF' AS TEXT))", "Utf8"), ("uca_range_high(CAST(x'FF' AS TEXT), 1)", "Utf8"), ("uca_key(CAST(x'FF' AS TEXT), 1)", "Utf8")):
+                        ("uca_prefix_low(CAST(x'FF' AS TEXT))", "Utf8 at 0"), ("uca_range_high(CAST(x'FF' AS TEXT), 1)", "Utf8 at 0"), ("uca_key(CAST(x'FF' AS TEXT), 1)", "Utf8 at 0")):
         sqlite_fails(work, f"{call.partition('(')[0]}: {error}", f"SELECT {with_fingerprint(call, fingerprint)};", load=load)
+    # each function that takes a text, and where the text has its error
+    calls = ["uca_key({})", "uca_key({}, 2)", "uca_range_low({}, 1)", "uca_range_high({}, 2)", "uca_prefix_low({})", "uca_prefix_high({})"]
+    for given, why in SQLITE_REJECTED:
+        for call in calls:
+            name, _, more = call.partition("({}")
+            for book, used in ((load, fingerprint), (sqlite_load(), USED)):
+                found = sqlite_says(work, f"SELECT {name}({given}, '{used}'{more};", load=book, fails=True)
+                same("uca_" + found.partition("uca_")[2], f"{name}: {why}", f"{call} of {given}")
 
 
 # Texts of an index on keys, and what some ranges have of them, in order.
@@ -929,7 +949,7 @@ def sqlite_moves(work):
         database = f"{work}/moves-{old}.db"
         sqlite_says(work, KEYED.format(old), load=load, database=database)
         same(sqlite_says(work, STATE.format(old), load=load, database=database), f"11|0.0|{old}\n", "before")
-        sqlite_fails(work, "uca_key: Utf8", "BEGIN;", rejected, MOVE.format(new), load=load, database=database)
+        sqlite_fails(work, "uca_key: Utf8 at 1", "BEGIN;", rejected, MOVE.format(new), load=load, database=database)
         same(sqlite_says(work, STATE.format(old), load=load, database=database), f"11|0.0|{old}\n", "after an error")
         # a key without a text, which cannot be told to be affected
         sqlite_says(work, f"UPDATE words SET key = uca_key('ch', '{old}') WHERE word IS NULL;", load=load, database=database)
@@ -1089,7 +1109,7 @@ def sqlite_upgrade_page(work):
     trigger = re.search(r"CREATE TRIGGER tests_new_rows.*?END;", made, re.S).group()
     sqlite_says(work, "DROP TRIGGER tests_new_rows; INSERT INTO words VALUES (CAST(x'61FF' AS TEXT), x'00');", trigger, database=bad)
     ran = subprocess.run(["sqlite3", bad], input=move.replace(".bail on\n", ""), capture_output=True, text=True, errors="replace", cwd=TOP)
-    if "uca_key: Utf8" not in ran.stderr or "bach" not in ran.stdout:
+    if "uca_key: Utf8 at 1" not in ran.stderr or "bach" not in ran.stdout:
         raise AssertionError(f"pasted statements with a rejected row: {ran.stdout}{ran.stderr}")
     counted = state.replace("FROM words WHERE", "FROM words WHERE hex(word) <> '61FF' AND")
     same(sqlite_says(work, counted, load=load, database=bad), f"{USED}|5\n", "the fingerprint and the keys after a rejected row")
