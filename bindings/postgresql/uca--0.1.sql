@@ -30,7 +30,7 @@ INSERT INTO uca_files SELECT 'unknown, since columns of type bytea were here bef
     WHERE c.oid >= 16384 AND c.relkind IN ('r', 'p', 'm', 'f') AND a.attnum > 0 AND NOT a.attisdropped);
 
 -- The sort key of a text, whose byte order is the order of texts. It is compact where the server has a book. A text that is rejected is an
--- error.
+-- error, which has the position: LongRun at 1.
 CREATE FUNCTION uca_key(text) RETURNS bytea AS 'MODULE_PATHNAME', 'uca_key_of_text' LANGUAGE C IMMUTABLE STRICT PARALLEL SAFE COST 20;
 
 -- The same for rejected texts too: a byte 0 and the key, or a byte 1 and the text. So rejected texts come after all others.

@@ -600,16 +600,40 @@ static uint32 write_value(const Request *asked, const struct varlena *given, siz
     return status;
 }
 
-static void value_error(Made made, uint32 status)
+/* Whether a text is accepted, as a status, and the position of its error. */
+static uint32 check_text(Edition *edition, const struct varlena *given, size_t *position)
 {
+    uint32 status = UCA_TOO_LONG;
+
+    if (!is_too_long(given))
+        status = uca_check_text(&edition->collator, (const uint8 *) VARDATA_ANY(given), VARSIZE_ANY_EXHDR(given), position);
+    if (status == UCA_MEMORY)
+        ereport(ERROR, (errcode(ERRCODE_OUT_OF_MEMORY), errmsg("uca: out of memory")));
+    return status;
+}
+
+/* Why a text is rejected, and where if there is a position: "LongRun at 1". */
+static char *why_rejected(uint32 status, size_t position)
+{
+    if (status == UCA_TOO_LONG)
+        return pstrdup("TooLong");
+    return psprintf("%s at %zu", status == UCA_UTF8 ? "Utf8" : "LongRun", position);
+}
+
+/* The error of a status of what was asked for of these bytes. */
+static void value_error(const Request *asked, const struct varlena *given, uint32 status)
+{
+    Made made = asked->made;
+    size_t position = 0;
+
     if (status == UCA_NO_BOOK)
         ereport(ERROR, (errcode(ERRCODE_OBJECT_NOT_IN_PREREQUISITE_STATE), errmsg("uca: the server has no book, so its keys are whole"),
                         errhint("Name a book in uca.book_file, or in uca.next_book_file for the next edition, and start the server again.")));
     if (status == UCA_NO_KEY || status == UCA_NO_IMAGE)
         ereport(ERROR, (errcode(ERRCODE_INVALID_BINARY_REPRESENTATION),
                         errmsg("uca: the bytes are rejected: %s", made == REKEYED ? "NoImage" : made == EXPANDED_KEY ? "NoCompactKey" : "OtherKey")));
-    ereport(ERROR, (errcode(ERRCODE_INVALID_TEXT_REPRESENTATION),
-                    errmsg("uca: the text is rejected: %s", status == UCA_UTF8 ? "Utf8" : status == UCA_TOO_LONG ? "TooLong" : "LongRun")));
+    status = check_text(asked->edition, given, &position);
+    ereport(ERROR, (errcode(ERRCODE_INVALID_TEXT_REPRESENTATION), errmsg("uca: the text is rejected: %s", why_rejected(status, position))));
 }
 
 /* What is asked for of some bytes. */
@@ -619,7 +643,7 @@ static bytea *value_of_bytes(const Request *asked, const struct varlena *given)
     uint32 status = write_value(asked, given, 0, &value);
 
     if (status != UCA_OK)
-        value_error(asked->made, status);
+        value_error(asked, given, status);
     return value;
 }
 

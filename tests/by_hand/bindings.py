@@ -1243,7 +1243,7 @@ def postgresql(work):
     with postgresql_server(work) as (server, says, settings):
         same(says("SELECT encode(uca_key('a'), 'hex'), uca_key(NULL) IS NULL, encode(uca_any_key('a'), 'hex');"),
              "1c4700000020000000020000ffff|t|001c4700000020000000020000ffff\n", "keys")
-        same(says(f"SELECT uca_key({RUN_OF_65});", fails=True), "ERROR:  uca: the text is rejected: LongRun", "a text that is rejected")
+        same(says(f"SELECT uca_key({RUN_OF_65});", fails=True), "ERROR:  uca: the text is rejected: LongRun at 1", "a text that is rejected")
         same(says(f"SELECT substring(uca_any_key({RUN_OF_65}) for 4);"), "\\x0161cc81\n", "any key of a text that is rejected")
         same(says(f"SELECT length(uca_any_key({LONG}));"), "180000001\n", "any key of a text of 180 MB")
         same(says(f"SELECT uca_key({LONG});", fails=True), "ERROR:  uca: the text is rejected: TooLong", "a text of 180 MB")
@@ -1713,7 +1713,16 @@ def postgresql_arguments(says, fingerprint):
         for levels in (0, 3, -1):
             for it in (call.format(levels), with_fingerprint(call.format(levels), fingerprint)):
                 same(says(f"SELECT {it};", fails=True), f"ERROR:  uca: the number of levels is {levels}, and not 1 or 2", it)
-    same(says(f"SELECT uca_key({RUN_OF_65}, 1);", fails=True), "ERROR:  uca: the text is rejected: LongRun", "letters of a text that is rejected")
+    # each function that takes a text, and where the text has its error: `á` is two code points in Normalization Form D
+    for given, why in ((RUN_OF_65, "LongRun at 1"), ("'bá' || repeat(U&'\\0301', 64)", "LongRun at 2"), ("repeat('a', 1048577)", "TooLong")):
+        for call in ("uca_key({})", "uca_key({}, 2)", "uca_range_low({}, 1)", "uca_range_high({}, 2)", "uca_prefix_low({})", "uca_prefix_high({})"):
+            name, _, more = call.partition("({}")
+            for it in (f"{name}({given}{more}", f"{name}({given}, '{fingerprint}'{more}"):
+                same(says(f"SELECT {it};", fails=True), f"ERROR:  uca: the text is rejected: {why}", it)
+    # a cast that a superuser may make, and by which any bytes are a text
+    not_utf8 = "CREATE CAST (bytea AS text) WITHOUT FUNCTION; SELECT {}('\\x6162ff'::bytea::text);"
+    for it in ("uca_key", "uca_prefix_low"):
+        same(says(f"BEGIN; {not_utf8.format(it)}", fails=True), "ERROR:  uca: the text is rejected: Utf8 at 2", f"{it} of bytes that are not UTF-8")
     same(says(f"SELECT uca_prefix_low({LONG});", fails=True), "ERROR:  uca: the text is rejected: TooLong", "the beginning of a text of 180 MB")
 
 
