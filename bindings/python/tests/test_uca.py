@@ -907,7 +907,41 @@ class Positions(unittest.TestCase):
             self.assertEqual(self.rejected(collator.compare, "a", b"ab\xff"), ("Utf8", 2, "right"))
             self.assertEqual(self.rejected(collator.compare, marks, b"ab\xff"), ("LongRun", 2, "left"))
         with uca.Upgrade(*EDITIONS) as upgrade:
-            self.assertEqual(self.rejected(upgrade.affected, b"ab\xff"), ("Utf8", None, ""))
+            # U+0324 is a non-starter by the new files alone
+            run, collator = "b" + 65 * "\u0324", uca.Collator(NEW_TABLE, NEW_DATA)
+            for text, kind, position in ((b"ab\xff", "Utf8", 2), ("\ud800", "Utf8", 0), (marks, "LongRun", 2), (run, "LongRun", 1), ("a" * 1048577, "TooLong", None)):
+                self.assertEqual(self.rejected(upgrade.affected, text), (kind, None, ""))
+                self.assertEqual((collator.check(text).kind, collator.check(text).position), (kind, position))
+
+    def test_checks(self):
+        marks = 64 * "\u0301"
+        for collator in (uca.Collator(TABLE, DATA), uca.Collator(TABLE, DATA, "non-ignorable", book=BOOK)):
+            for text in ("", "a", "\u00e1" + marks[1:], "\0", b"ab", bytearray(b"ab"), "a" * 1048576):
+                self.assertIsNone(collator.check(text))
+            for text, kind, position in [
+                (b"\xff", "Utf8", 0),
+                (b"ab\xc3", "Utf8", 2),
+                (b"\xc3\xa1\xed\xa0\x80", "Utf8", 2),
+                ("a\ud800", "Utf8", 1),
+                ("a\u0301" + marks, "LongRun", 1),
+                ("b\u00e1" + marks, "LongRun", 2),
+                ("a" * 1048577, "TooLong", None),
+            ]:
+                found = collator.check(text)
+                self.assertIs(type(found), uca.TextError)
+                self.assertEqual((found.kind, found.position, found.side), (kind, position, ""))
+                self.assertEqual(self.rejected(collator.key, text), (kind, position, ""))
+            for text in (5, None, array.array("i", [97])):
+                self.assertRaises(TypeError, collator.check, text)
+            with unittest.mock.patch.object(uca._library, "uca_check_text", lambda *given: 6):
+                self.assertRaises(MemoryError, collator.check, "a")
+            collator.close()
+            self.assertRaises(uca.ClosedError, collator.check, "a")
+
+    def test_check_of_numbers(self):
+        # "9" is read as "19", so the run begins one code point later
+        with uca.Collator(NUMBERS, DATA, numeric=True) as collator:
+            self.assertEqual(str(collator.check("9" + 65 * "\u0301")), "text: LongRun at 2")
 
 
 class Values(unittest.TestCase):

@@ -147,8 +147,8 @@ class TextError(UcaError, ValueError):
         #: why: "Utf8", "TooLong" or "LongRun"
         self.kind = kind
         #: where, from 0 on. "Utf8": the first byte that is not UTF-8; of a str, it is a byte of its UTF-8. "LongRun": the code
-        #: point, in Normalization Form D of what is read of the text, at which the run begins. Else, and where an Upgrade
-        #: rejects it, None
+        #: point, in Normalization Form D of what is read of the text, at which the run begins. It is None for "TooLong", and where
+        #: an Upgrade rejects a text. Upgrade.affected says how to find it then
         self.position = position
         #: "left" or "right" if two texts were compared, else ""
         self.side = side
@@ -538,13 +538,20 @@ def _opened_upgrade(files: List[bytes], settings: Tuple[int, int]) -> _Upgrade:
     return upgrade
 
 
+def _checked_text(opened: _Collator, text: bytes) -> Tuple[int, Optional[int]]:
+    """Whether a text is accepted, as a status, and the position of its error."""
+    position = ctypes.c_size_t()
+    status = _library.uca_check_text(opened, text, len(text), position)
+    return status, position.value if status in _TEXT_ERRORS and status != _TOO_LONG else None
+
+
 def _text_error(status: int, opened: Union[_Collator, _Upgrade], texts: Sequence[bytes]) -> TextError:
     """The error of a status of a call with one text or two."""
     if isinstance(opened, _Collator):
         for side, text in zip(("left", "right") if len(texts) == 2 else ("",), texts):
-            position = ctypes.c_size_t()
-            if _library.uca_check_text(opened, text, len(text), position) == status:
-                return TextError(_TEXT_ERRORS[status], None if status == _TOO_LONG else position.value, side)
+            found, position = _checked_text(opened, text)
+            if found == status:
+                return TextError(_TEXT_ERRORS[status], position, side)
     return TextError(_TEXT_ERRORS[status])
 
 
@@ -879,6 +886,20 @@ class Collator:
             _raise(status, self._collator, "uca_compare", first, second)
         return Comparison(found.order, found.level)
 
+    def check(self, text: Text) -> Optional[TextError]:
+        """Why a text is rejected, and where; or None if it is accepted. This finds the texts of a list that have no key.
+
+        The error is returned. It is the one that :meth:`key` raises for this text.
+
+        Raises :class:`ClosedError` and MemoryError.
+        """
+        status, position = _checked_text(self._collator, _encoded(text))
+        if status == _OK:
+            return None
+        if status not in _TEXT_ERRORS:
+            _raise(status, self._collator, "uca_check_text")
+        return TextError(_TEXT_ERRORS[status], position)
+
     def order(self, left: Text, right: Text) -> int:
         """The order of any two texts or bytes: -1 if the left one comes first, 1 if the right one does, or else 0.
 
@@ -991,7 +1012,8 @@ class Upgrade:
         With ``numeric``, what is read of the text is judged. "10" is read as "210", so a change of the digit 2 affects
         it.
 
-        Raises :class:`TextError`, :class:`ClosedError` and MemoryError.
+        Raises :class:`TextError`, whose position is None; :class:`ClosedError`; MemoryError. The text is judged by the new files.
+        So :meth:`Collator.check` of a collator of these, with the same ``numeric``, tells the position.
         """
         encoded, found = _encoded(text), ctypes.c_uint32()
         status = _library.uca_affected(self._upgrade, encoded, len(encoded), found)
