@@ -19,6 +19,7 @@
 static long asked, first_failing, last_failing, failed;
 static int is_short;
 static char load[ROOM], table[ROOM], word_index[ROOM], order[ROOM], wrong_keys[ROOM], rows[ROOM];
+static char check_texts[ROOM], rejected[ROOM];
 static char load_book[ROOM], is_made_again[ROOM], is_found[ROOM], *by_book; /* by_book is a fingerprint */
 static char load_upgrade[ROOM], is_mended[ROOM], *next_edition;             /* and so is next_edition */
 static unsigned char image[64 << 10]; /* of a database with these rows */
@@ -110,6 +111,8 @@ static void use(sqlite3 *database, const char *extension, char *fingerprint)
         sqlite3_exec(database, is_found, is_wanted, "yes", NULL);
         sqlite3_exec(database, load_upgrade, is_wanted, next_edition, NULL);
         sqlite3_exec(database, is_mended, is_wanted, "yes", NULL);
+        sqlite3_exec(database, check_texts, is_wanted, "none Utf8 at 1", NULL);
+        sqlite3_exec(database, rejected, is_wanted, "an error", NULL);
         sqlite3_exec(database, "SELECT uca_load('none', 'none')", is_wanted, "an error", NULL);
         sqlite3_exec(database, "SELECT uca_key('a', '')", is_wanted, "an error", NULL);
     }
@@ -127,6 +130,8 @@ static void use_again(sqlite3 *database, const char *extension, char *fingerprin
     CHECK(sqlite3_exec(database, is_found, is_wanted, "yes", NULL) == SQLITE_OK);
     CHECK(sqlite3_exec(database, load_upgrade, is_wanted, next_edition, NULL) == SQLITE_OK);
     CHECK(sqlite3_exec(database, is_mended, is_wanted, "yes", NULL) == SQLITE_OK);
+    CHECK(sqlite3_exec(database, check_texts, is_wanted, "none Utf8 at 1", NULL) == SQLITE_OK);
+    CHECK(sqlite3_exec(database, rejected, is_wanted, "an error", NULL) == SQLITE_ERROR && !strcmp(sqlite3_errmsg(database), "uca_key: Utf8 at 1"));
     CHECK(sqlite3_exec(database, "PRAGMA integrity_check", is_wanted, "ok", NULL) == SQLITE_OK);
 }
 
@@ -218,6 +223,8 @@ int main(int count, char **words)
     snprintf(is_mended, ROOM, "SELECT iif(uca_affected('bach', '%s', '%s') AND NOT uca_affected('b', '%s', '%s')"
              " AND uca_rekey(uca_key('b', '%s'), '%s', '%s') = x'1C6100000020000000020000FFFF', 'yes', 'no')",
              used, next_edition, book, next_edition, book, book, next_edition);
+    snprintf(check_texts, ROOM, "SELECT coalesce(uca_check('a', '%s'), 'none') || ' ' || uca_check(CAST(x'61FF' AS TEXT), '%s')", used, used);
+    snprintf(rejected, ROOM, "SELECT uca_key(CAST(x'61FF' AS TEXT), '%s')", used);
     snprintf(load, ROOM, "SELECT uca_load('%s', '%s', 'shifted', '', '%s')", words[2], words[3], used);
     snprintf(table, ROOM, "CREATE TABLE IF NOT EXISTS words(word TEXT, key BLOB AS (uca_key(word, '%s')) STORED)", used);
     snprintf(word_index, ROOM, "CREATE INDEX IF NOT EXISTS by_word ON words(word COLLATE uca_%s)", used);

@@ -16,6 +16,8 @@
      uca_range_high(text, 'e7f5..', levels)   where they end: these keys are from the low end up to, and without, the high end
      uca_prefix_low(text, 'e7f5..')           where the keys begin whose level 1 begins with the letters of the text
      uca_prefix_high(text, 'e7f5..')          where they end
+     uca_check(text, 'e7f5..')                NULL where uca_key takes it, as for NULL; else a text that says why not, and where: Utf8 at 0,
+                                              LongRun at 1, TooLong; a blob, not a text; a real number, not a text
      uca_expand(key, 'e7f5..')                the whole key of a compact key; uca_compact(key, 'e7f5..') makes that compact again
      COLLATE uca_e7f5..                       the order of uca_order: texts in their order, and after them all that is no text or is
                                               rejected, by its bytes
@@ -454,6 +456,27 @@ static void make_key(sqlite3_context *context, int count, sqlite3_value **values
         make_levels(context, values, "uca_key", UCA_LOW);
     } else {
         make(context, values[0], values[1], &(request){"uca_key", KEY, 0, 0});
+    }
+}
+
+/* Returns why uca_key does not take a value, and where, or NULL. */
+static void make_check(sqlite3_context *context, int count, sqlite3_value **values)
+{
+    size_t length, position;
+    (void)count;
+    loaded *it = find_value(context, "uca_check", values[1]);
+    const char *what = what_is_no_text(sqlite3_value_type(values[0]));
+    if (it && what) {
+        sqlite3_result_text(context, what, -1, SQLITE_STATIC);
+        return;
+    }
+    const uint8_t *bytes = it ? bytes_of(context, "uca_check", values[0], 0, &length) : NULL;
+    uint32_t status = bytes ? check_text(it, bytes, length, &position) : UCA_OK;
+    char *why = is_text_error(status) ? why_rejected(status, position) : NULL;
+    if (why) {
+        sqlite3_result_text(context, why, -1, sqlite3_free);
+    } else if (status != UCA_OK) {
+        sqlite3_result_error_nomem(context);
     }
 }
 
@@ -913,6 +936,7 @@ static const struct {
     {"uca_range_high", 3, KEY_FLAGS, make_range_high},
     {"uca_prefix_low", 2, KEY_FLAGS, make_prefix_low},
     {"uca_prefix_high", 2, KEY_FLAGS, make_prefix_high},
+    {"uca_check", 2, KEY_FLAGS, make_check},
     {"uca_compact", 2, KEY_FLAGS, make_compact},
     {"uca_expand", 2, KEY_FLAGS, make_expanded},
     {"uca_affected", 3, UPGRADE_FLAGS, make_affected},

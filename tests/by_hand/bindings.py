@@ -629,6 +629,30 @@ def sqlite_arguments(work):
                 same("uca_" + found.partition("uca_")[2], f"{name}: {why}", f"{call} of {given}")
 
 
+def sqlite_checks(work):
+    """uca_check says why uca_key does not take a value, and finds the rows for which an index on keys is an error."""
+    small = small_book(work)
+    for load, used in ((sqlite_load(book=small), fingerprint_of(TABLE, DATA, book=small)), (sqlite_load(), USED)):
+        for given in ("''", "'a'", "char(0)", "5", "NULL", f"'a' || {SQLITE_MARKS.format(64)}", "replace(hex(zeroblob(1048576)), '00', 'a')"):
+            same(sqlite_says(work, f"SELECT uca_check({given}, '{used}') IS NULL;", load=load), "1\n", f"a check of {given}")
+        for given, why in (*SQLITE_REJECTED, ("x'61'", "a blob, not a text"), ("1.5", "a real number, not a text")):
+            same(sqlite_says(work, f"SELECT typeof(uca_check({given}, '{used}')), uca_check({given}, '{used}');", load=load), f"text|{why}\n", f"a check of {given}")
+        for wrong, error in ((OTHER, f"uca_check: the files of fingerprint {OTHER} are not loaded; loaded: {used}"), ("", f"uca_check: the second argument {NO_FINGERPRINT}")):
+            for given in ("'a'", "NULL", "x'61'"):
+                sqlite_fails(work, error, f"SELECT uca_check({given}, '{wrong}');", load=load)
+        rows = "CREATE TABLE words(word); INSERT INTO words VALUES ('a'), (CAST(x'61FF' AS TEXT)), (NULL), (x'61'), ('b');"
+        found = f"SELECT rowid, uca_check(word, '{used}') FROM words WHERE uca_check(word, '{used}') IS NOT NULL ORDER BY rowid;"
+        index = f"CREATE INDEX i ON words(uca_key(word, '{used}'));"
+        same(sqlite_says(work, rows, found, load=load), "2|Utf8 at 1\n4|a blob, not a text\n", "rows that are rejected")
+        sqlite_fails(work, "uca_key: Utf8 at 1", rows, index, load=load)
+        mended = f"DELETE FROM words WHERE uca_check(word, '{used}') IS NOT NULL; {index} SELECT count(*) FROM words; PRAGMA integrity_check;"
+        same(sqlite_says(work, rows, mended, load=load), "3\nok\n", "an index without these rows")
+        guarded = f"CREATE TABLE words(word CHECK (uca_check(word, '{used}') IS NULL)); INSERT INTO words VALUES ('a'), (NULL);"
+        sqlite_fails(work, "CHECK constraint failed", guarded, "INSERT INTO words VALUES (CAST(x'FF' AS TEXT));", load=load)
+        partial = f"CREATE INDEX i ON words(uca_key(word, '{used}')) WHERE uca_check(word, '{used}') IS NULL;"
+        same(sqlite_says(work, rows, partial, "SELECT count(*) FROM words; PRAGMA integrity_check;", load=load), "5\nok\n", "an index of the other rows")
+
+
 # Texts of an index on keys, and what some ranges have of them, in order.
 LOOKED_THROUGH = "('a'), ('Á'), ('ab'), ('A-'), ('-'), ('Abc'), ('b'), ('ch')"
 LOOKUPS = [("uca_range_{}('A', 1)", "a A- Á"), ("uca_prefix_{}('Ab')", "ab Abc"), ("uca_prefix_{}('c')", ""), ("uca_prefix_{}('')", "- a A- Á ab Abc b ch"),
@@ -2215,7 +2239,7 @@ def main():
         sys.exit(f"there is no {missing[0]}: run `tools/build.py uca_c uca_run` first")
     checks = [("make", make), ("valgrind", valgrind), ("sanitizers", sanitizers), ("header in C++", header), ("exported names", exports),
               ("installation", installed), ("stored run", stored_run), ("docs/BINDINGS.md", page), ("keys", keys_like(program)), ("Python", python), ("Python under valgrind", python_valgrind), ("wheel", wheel), ("sort", sorted_like(program)), ("SQLite", sqlite),
-              ("SQLite's loads", sqlite_loads), ("SQLite's files", sqlite_files), ("SQLite's compact keys", sqlite_compact), ("SQLite's numbers", sqlite_numbers), ("SQLite's arguments", sqlite_arguments),
+              ("SQLite's loads", sqlite_loads), ("SQLite's files", sqlite_files), ("SQLite's compact keys", sqlite_compact), ("SQLite's numbers", sqlite_numbers), ("SQLite's arguments", sqlite_arguments), ("SQLite's checks", sqlite_checks),
               ("SQLite's books", sqlite_books), ("SQLite's lookups", sqlite_lookups), ("SQLite's schemas", sqlite_schemas), ("SQLite's restores", sqlite_restore),
               ("SQLite's attached databases", sqlite_attached), ("SQLite's threads", sqlite_threads), ("SQLite's moves from thread to thread", sqlite_moved), ("SQLite's upgrades", sqlite_upgrades),
               ("SQLite's loads of upgrades", sqlite_upgrade_loads), ("SQLite's compact keys in upgrades", sqlite_compact_upgrades), ("SQLite's moves", sqlite_moves),
