@@ -33,7 +33,11 @@ INSERT INTO uca_files SELECT 'unknown, since columns of type bytea were here bef
 -- error, which has the position: LongRun at 1.
 CREATE FUNCTION uca_key(text) RETURNS bytea AS 'MODULE_PATHNAME', 'uca_key_of_text' LANGUAGE C IMMUTABLE STRICT PARALLEL SAFE COST 20;
 
--- The same for rejected texts too: a byte 0 and the key, or a byte 1 and the text. So rejected texts come after all others.
+-- Why a text is rejected, and where: Utf8 at 0, LongRun at 1 or TooLong. It is NULL for a text that is accepted, and for NULL. So it finds
+-- the rows for which an index on uca_key is an error.
+CREATE FUNCTION uca_check(text) RETURNS text AS 'MODULE_PATHNAME', 'uca_check_of_text' LANGUAGE C IMMUTABLE STRICT PARALLEL SAFE COST 20;
+
+-- The key for rejected texts too: a byte 0 and the key, or a byte 1 and the text. So rejected texts come after all others.
 CREATE FUNCTION uca_any_key(text) RETURNS bytea AS 'MODULE_PATHNAME', 'uca_any_key_of_text' LANGUAGE C IMMUTABLE STRICT PARALLEL SAFE COST 20;
 
 -- The key through 1 or 2 levels. Two are equal exactly if the texts have the same letters, or the same letters and accents.
@@ -65,9 +69,11 @@ LANGUAGE C STABLE PARALLEL SAFE COST 20;
 CREATE FUNCTION uca_rekey(bytea, fingerprint text, next_fingerprint text) RETURNS bytea AS 'MODULE_PATHNAME', 'uca_rekey_by_fingerprints'
 LANGUAGE C STABLE PARALLEL SAFE COST 20;
 
--- The keys by the files and settings of a fingerprint, which may be that of the next edition. The call is an error where the server has others,
--- whatever uca_files has.
+-- Keys, ranges and checks by the files and settings of a fingerprint, which may be that of the next edition. The call is an error where the
+-- server has others, whatever uca_files has.
 CREATE FUNCTION uca_key(text, fingerprint text) RETURNS bytea AS 'MODULE_PATHNAME', 'uca_key_by_fingerprint'
+LANGUAGE C IMMUTABLE PARALLEL SAFE COST 20;
+CREATE FUNCTION uca_check(text, fingerprint text) RETURNS text AS 'MODULE_PATHNAME', 'uca_check_by_fingerprint'
 LANGUAGE C IMMUTABLE PARALLEL SAFE COST 20;
 CREATE FUNCTION uca_any_key(text, fingerprint text) RETURNS bytea AS 'MODULE_PATHNAME', 'uca_any_key_by_fingerprint'
 LANGUAGE C IMMUTABLE PARALLEL SAFE COST 20;
@@ -201,8 +207,9 @@ CREATE FUNCTION uca_begins(uca_text, beginning text) RETURNS boolean LANGUAGE sq
 RETURN $1 >= uca_prefix_low($2) AND $1 < uca_prefix_high($2);
 CREATE OPERATOR ^@ (LEFTARG = uca_text, RIGHTARG = text, FUNCTION = uca_begins, RESTRICT = matchingsel, JOIN = matchingjoinsel);
 
--- Keys of such texts.
+-- Keys of such texts, and why they are rejected.
 CREATE FUNCTION uca_key(uca_text) RETURNS bytea AS 'MODULE_PATHNAME', 'uca_key_of_text' LANGUAGE C IMMUTABLE STRICT PARALLEL SAFE COST 20;
+CREATE FUNCTION uca_check(uca_text) RETURNS text AS 'MODULE_PATHNAME', 'uca_check_of_text' LANGUAGE C IMMUTABLE STRICT PARALLEL SAFE COST 20;
 CREATE FUNCTION uca_key(uca_text, levels integer) RETURNS bytea AS 'MODULE_PATHNAME', 'uca_range_low_of_text'
 LANGUAGE C IMMUTABLE STRICT PARALLEL SAFE COST 20;
 
@@ -275,7 +282,7 @@ SET search_path = pg_catalog, pg_temp SET jit = off AS $$
     ), start AS (
         -- Functions of the extension that read the files are in C. Others may call them, or compare values of uca_text.
         SELECT oid FROM pg_proc
-        WHERE prosrc ~* '\muca_(key|any_key|range_low|range_high|prefix_low|prefix_high|expand|compact)\M' AND prosrc !~ '[0-9a-f]{64}'
+        WHERE prosrc ~* '\muca_(key|check|any_key|range_low|range_high|prefix_low|prefix_high|expand|compact)\M' AND prosrc !~ '[0-9a-f]{64}'
             OR prosrc ~* '\muca_(text|text_[a-z_]+|begins)\M' AND prolang <> (SELECT oid FROM pg_language WHERE lanname = 'c')
             OR proargtypes::oid[] && (SELECT array_agg(type) FROM holds)
                 AND NOT EXISTS (SELECT FROM own WHERE class = 'pg_proc'::regclass AND object = pg_proc.oid)

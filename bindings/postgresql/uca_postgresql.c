@@ -676,6 +676,19 @@ static Datum any_key_of(FunctionCallInfo fcinfo, Edition *edition)
     PG_RETURN_BYTEA_P(value);
 }
 
+/* Why the first argument is rejected, or NULL. */
+static Datum check_of(FunctionCallInfo fcinfo, Edition *edition)
+{
+    text *given = PG_GETARG_TEXT_PP(0);
+    size_t position = 0;
+    uint32 status = check_text(edition, given, &position);
+
+    PG_FREE_IF_COPY(given, 0);
+    if (status == UCA_OK)
+        PG_RETURN_NULL();
+    PG_RETURN_TEXT_P(cstring_to_text(why_rejected(status, position)));
+}
+
 /* The next edition's key of a key of the present one. Each is compact where its edition has a book. */
 static Datum rekeyed_of(FunctionCallInfo fcinfo)
 {
@@ -805,6 +818,24 @@ Datum uca_any_key_by_fingerprint(PG_FUNCTION_ARGS)
     if (PG_ARGISNULL(0))
         PG_RETURN_NULL();
     return any_key_of(fcinfo, edition);
+}
+
+/* uca_check(text) and uca_check(text, fingerprint) return text: why a text is rejected, and where, or NULL. */
+PG_FUNCTION_INFO_V1(uca_check_of_text);
+Datum uca_check_of_text(PG_FUNCTION_ARGS)
+{
+    need_files(fcinfo->flinfo->fn_oid);
+    return check_of(fcinfo, &present);
+}
+
+PG_FUNCTION_INFO_V1(uca_check_by_fingerprint);
+Datum uca_check_by_fingerprint(PG_FUNCTION_ARGS)
+{
+    Edition *edition = named_edition(fcinfo);
+
+    if (PG_ARGISNULL(0))
+        PG_RETURN_NULL();
+    return check_of(fcinfo, edition);
 }
 
 /* uca_affected(text, fingerprint, next_fingerprint) returns boolean: whether the key of the text has to be made again for the next edition.

@@ -1724,6 +1724,46 @@ def postgresql_expand(says, fingerprint, book):
         same(says(f"SELECT {call};", fails=True), f"ERROR:  uca: the bytes are rejected: {kind}" if book else NO_SERVER_BOOK, call)
 
 
+# Texts that are rejected, and why. The position counts code points in Normalization Form D: `á` is two.
+REJECTED = [(RUN_OF_65, "LongRun at 1"), ("'bá' || repeat(U&'\\0301', 64)", "LongRun at 2"), ("repeat('a', 1048577)", "TooLong")]
+
+
+def postgresql_checks(work):
+    """uca_check says why uca_key does not take a text, and finds the rows for which an index on keys is an error."""
+    with postgresql_server(work, editions=EDITIONS[2:]) as (server, says, settings):
+        for given in ("''", "'a'", "NULL", "'a' || repeat(U&'\\0301', 64)", "repeat('a', 1048576)"):
+            calls = [f"uca_check({given})", f"uca_check(({given})::uca_text)", f"uca_check({given}, '{USED}')", f"uca_check({given}, '{NEXT}')"]
+            same(says("".join(f"SELECT {it} IS NULL;" for it in calls)), "t\n" * 4, f"a check of {given}")
+        for given, why in (*REJECTED, (LONG, "TooLong")):
+            calls = [f"uca_check({given})", f"uca_check(({given})::uca_text)", f"uca_check({given}, '{USED}')", f"uca_check({given}, '{NEXT}')"]
+            same(says("".join(f"SELECT {it};" for it in calls)), f"{why}\n" * 4, f"a check of {given}")
+        # U+0324 is a non-starter by the next edition alone
+        run = "'b' || repeat(U&'\\0324', 65)"
+        same(says(f"SELECT uca_check({run}) IS NULL, uca_check({run}, '{NEXT}');"), "t|LongRun at 1\n", "a text that the next edition rejects")
+        for wrong, error in ((f"'{OTHER}'", OTHERS_NAMED), ("NULL", "ERROR:  uca: the fingerprint is NULL")):
+            for given in ("'a'", "NULL"):
+                same(says(f"SELECT uca_check({given}, {wrong});", fails=True), error, f"a check of {given} by {wrong}")
+        says(f"CREATE TABLE words(id serial, word text); INSERT INTO words(word) VALUES ('bh'), ({RUN_OF_65}), (NULL), ('bz');")
+        same(says("SELECT id, uca_check(word) FROM words WHERE uca_check(word) IS NOT NULL;"), "2|LongRun at 1\n", "rows that are rejected")
+        same(says("CREATE INDEX by_key ON words(uca_key(word));", fails=True), "ERROR:  uca: the text is rejected: LongRun at 1", "an index on keys")
+        says("CREATE INDEX by_key ON words(uca_key(word)) WHERE uca_check(word) IS NULL;"
+             "CREATE INDEX by_id ON words(id) WHERE uca_check(word) IS NOT NULL;"
+             f"CREATE INDEX named ON words(id) WHERE uca_check(word, '{USED}') IS NOT NULL;"
+             "CREATE TABLE guarded(word text CONSTRAINT it CHECK (uca_check(word) IS NULL)); INSERT INTO guarded VALUES ('a'), (NULL);"
+             "CREATE FUNCTION is_bad(text) RETURNS boolean LANGUAGE sql IMMUTABLE AS 'SELECT public.uca_check($1) IS NOT NULL';"
+             "CREATE INDEX by_function ON guarded(is_bad(word));")
+        same(says(f"INSERT INTO guarded VALUES ({RUN_OF_65});", fails=True), 'ERROR:  new row for relation "guarded" violates check constraint "it"', "a CHECK")
+        same(says("SELECT kind, object FROM uca_dependents();"),
+             "index|public.by_function\nindex|public.by_id\nindex|public.by_key\ncheck|it on public.guarded\n", "what depends on checks")
+        by_index = "SET enable_seqscan = off; EXPLAIN (costs off) SELECT id FROM words WHERE uca_check(word) IS NOT NULL ORDER BY id;"
+        # such a scan makes no call
+        same(says(by_index), "Index Only Scan using by_id on words\n", "an index of rejected rows")
+        server.restart(re.sub("uca.(next_.*|changes|certificate)_file.*\n", "", settings).replace("/table.txt", "/tailored.txt"))
+        for it in ("SELECT uca_check('a');", "SELECT uca_check('a'::uca_text);", "INSERT INTO guarded VALUES ('a');", by_index.replace("EXPLAIN (costs off) ", "")):
+            same(says(it, fails=True), OTHER_FILES, f"{it} with other files")
+        same(says(f"SELECT uca_check('a', '{USED}');", fails=True), OTHERS_NAMED, "a check by files that the server has not")
+
+
 def postgresql_arguments(says, fingerprint):
     """What the functions make of NULL, of other fingerprints and numbers, and of texts that are rejected."""
     calls = ["uca_key({})", "uca_key({}, 1)", "uca_key('a', NULL::integer)", "uca_range_low({}, 1)", "uca_range_high({}, 1)", "uca_range_low('a', NULL)", "uca_range_high('a', NULL)"]
@@ -1737,8 +1777,8 @@ def postgresql_arguments(says, fingerprint):
         for levels in (0, 3, -1):
             for it in (call.format(levels), with_fingerprint(call.format(levels), fingerprint)):
                 same(says(f"SELECT {it};", fails=True), f"ERROR:  uca: the number of levels is {levels}, and not 1 or 2", it)
-    # each function that takes a text, and where the text has its error: `á` is two code points in Normalization Form D
-    for given, why in ((RUN_OF_65, "LongRun at 1"), ("'bá' || repeat(U&'\\0301', 64)", "LongRun at 2"), ("repeat('a', 1048577)", "TooLong")):
+    # each function that takes a text, and where the text has its error
+    for given, why in REJECTED:
         for call in ("uca_key({})", "uca_key({}, 2)", "uca_range_low({}, 1)", "uca_range_high({}, 2)", "uca_prefix_low({})", "uca_prefix_high({})"):
             name, _, more = call.partition("({}")
             for it in (f"{name}({given}{more}", f"{name}({given}, '{fingerprint}'{more}"):
@@ -2247,7 +2287,7 @@ def main():
               ("PostgreSQL", postgresql), ("PostgreSQL's settings", postgresql_settings), ("PostgreSQL's numbers", postgresql_numbers), ("PostgreSQL's dumps", postgresql_dumps),
               ("PostgreSQL's replication", postgresql_replication), ("PostgreSQL's changes", postgresql_changes), ("PostgreSQL's roles", postgresql_roles),
               ("PostgreSQL's owners", postgresql_owners), ("PostgreSQL's dependents", postgresql_dependents), ("PostgreSQL's columns", postgresql_columns), ("PostgreSQL's compact keys", postgresql_compact),
-              ("PostgreSQL's books", postgresql_books), ("PostgreSQL's upgrades", postgresql_upgrades), ("PostgreSQL's files of upgrades", postgresql_upgrade_files),
+              ("PostgreSQL's checks", postgresql_checks), ("PostgreSQL's books", postgresql_books), ("PostgreSQL's upgrades", postgresql_upgrades), ("PostgreSQL's files of upgrades", postgresql_upgrade_files),
               ("PostgreSQL on the page", postgresql_page), ("PostgreSQL's upgrade on the page", postgresql_upgrade_page),
               ("PostgreSQL's upgrade in one transaction", postgresql_one_transaction), ("PostgreSQL's orders", postgresql_like(program))]
     tried = {"C": c_words, "Python": python_words, "SQLite": sqlite_words, "PostgreSQL": postgresql_words}
