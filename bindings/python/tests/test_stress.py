@@ -36,6 +36,8 @@ class Wanted:
         left, right = chosen.choice(self.texts), chosen.choice(self.texts)
         if self.book and collator.compact(collator.expand(self.keys[right])) != self.keys[right]:
             return False
+        if collator.key_beginning(right, 20) != self.keys[right][:20] or collator.order(left, right) != self.comparisons[left, right].order:
+            return False
         return (collator.key(left), collator.compare(left, right), collator.range(right)) == (self.keys[left], self.comparisons[left, right], self.ranges[right])
 
 
@@ -61,7 +63,7 @@ def threads(work):
 
 
 class Stress(unittest.TestCase):
-    CASES = 9
+    CASES = 10
 
     def setUp(self):
         self.stop = time.monotonic() + SECONDS / self.CASES
@@ -113,6 +115,25 @@ class Stress(unittest.TestCase):
     def test_compact_keys_in_quick_turns(self):
         sys.setswitchinterval(1e-6)
         self.share(GROWING_COMPACT)
+
+    def test_shared_tables(self):
+        """Each thread has a collator of its own over one table, opens more of it, and closes them while others work."""
+        sys.setswitchinterval(1e-6)
+        for _ in self.rounds():
+            first = uca.Collator(TABLE, DATA)
+            own = [first.share() for _ in range(THREADS)]
+            first.close()
+
+            def work(number):
+                chosen = random.Random(number)
+                for _ in range(50):
+                    with own[number].share() as other:
+                        self.try_once(GROWING, own[number], chosen)
+                        self.try_once(SHORT, other, chosen)
+                own[number].close()
+
+            with threads(work):
+                pass
 
     def test_handler_of_a_signal(self):
         with uca.Collator(TABLE, DATA) as collator:
@@ -189,7 +210,7 @@ class Stress(unittest.TestCase):
 
     def test_without_the_interpreter_lock(self):
         run = ran(WITHOUT_LOCK + SOME_CASES, UCA_STRESS_SECONDS=str(SECONDS / self.CASES))
-        self.assertEqual((run.returncode, run.stdout), (0, b"5 run\n"), run.stderr.decode())
+        self.assertEqual((run.returncode, run.stdout), (0, b"6 run\n"), run.stderr.decode())
         self.calls = 1
 
 
@@ -197,7 +218,8 @@ SOME_CASES = """
 import unittest
 import test_stress
 
-names = ["test_growing_texts_in_quick_turns", "test_compact_keys_in_quick_turns", "test_handler_of_a_signal", "test_closed_meanwhile", "test_forks"]
+names = ["test_growing_texts_in_quick_turns", "test_compact_keys_in_quick_turns", "test_shared_tables", "test_handler_of_a_signal"]
+names += ["test_closed_meanwhile", "test_forks"]
 test_stress.Stress.CASES = len(names)
 result = unittest.TextTestRunner().run(unittest.TestSuite(map(test_stress.Stress, names)))
 print(f"{result.testsRun} run" if result.wasSuccessful() else "failed")
