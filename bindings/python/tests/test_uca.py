@@ -1088,7 +1088,7 @@ class Sharing(unittest.TestCase):
 
     def test_calls_between_all_steps_with_a_book(self):
         def made(collator, text):
-            return collator.key(text), collator.range(text), collator.expand(collator.key(text))
+            return collator.key(text), collator.key_beginning(text, 900), collator.range(text), collator.expand(collator.key(text))
 
         texts = ["\u00e1" * length for length in range(0, 1000, 97)]
         with uca.Collator(TABLE, DATA, book=BOOK) as alone:
@@ -1105,12 +1105,12 @@ class Sharing(unittest.TestCase):
                 self.assertEqual(self.between_all_steps(lambda: made(collator, text), other), wanted[text])
         self.assertEqual(wrong, [])
 
-    def test_close_between_all_steps_of_a_call(self):
-        with uca.Collator(TABLE, DATA, "non-ignorable") as alone:
-            wanted = alone.key("a" * 5000)
+    def close_between_all_steps(self, table, called):
+        with uca.Collator(table, DATA, "non-ignorable") as alone:
+            wanted = called(alone)
         outcomes = set()
         for last in range(1, 500):
-            collator = uca.Collator(TABLE, DATA, "non-ignorable")
+            collator = uca.Collator(table, DATA, "non-ignorable")
             steps = []
 
             def other(step):
@@ -1119,14 +1119,25 @@ class Sharing(unittest.TestCase):
                     collator.close()
 
             try:
-                self.assertEqual(self.between_all_steps(lambda: collator.key("a" * 5000), other), wanted)
-                outcomes.add("key")
+                self.assertEqual(self.between_all_steps(lambda: called(collator), other), wanted)
+                outcomes.add("result")
             except uca.ClosedError:
                 outcomes.add("closed")
             if last > max(steps):
                 break
-        self.assertEqual(outcomes, {"key", "closed"})
+        self.assertEqual(outcomes, {"result", "closed"})
         self.assertGreater(last, max(steps))
+
+    def test_close_between_all_steps_of_a_call(self):
+        # a letter of 18 weights, so that a key does not fit into its first room
+        table = TABLE + b"0063 ; " + b"[.1C7A.0020.0002]" * 18 + b"\n"
+        self.close_between_all_steps(TABLE, lambda it: it.key("a" * 5000))
+        self.close_between_all_steps(table, lambda it: it.key("c" * 300))
+        self.close_between_all_steps(table, lambda it: it.key_beginning("c" * 300, 20000))
+        self.close_between_all_steps(TABLE, lambda it: it.order("a", b"\xff"))
+        self.close_between_all_steps(TABLE, lambda it: it.check("a"))
+        self.close_between_all_steps(TABLE, lambda it: it.key_bound(1))
+        self.close_between_all_steps(TABLE, lambda it: it.share().key("a"))
 
     def test_fork(self):
         program = """
