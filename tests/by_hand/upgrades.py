@@ -313,12 +313,16 @@ def sqlite_texts(work, given):
     database.run(f"CREATE INDEX by_name ON names(name COLLATE uca_{given.old});")
     page = statements("A new edition in SQLite", given)[2]
     move = page[page.index("BEGIN IMMEDIATE;") : page.index("COMMIT;") + len("COMMIT;")]
-    ok = lambda fingerprint: f"SELECT integrity_check FROM pragma_integrity_check LIMIT 1; SELECT count(*) FROM names WHERE name > '' COLLATE uca_{fingerprint}; SELECT sql FROM sqlite_schema WHERE name = 'by_name';"
+    # a state is the test of the index, what a query finds by it, the schema, and all rows
+    ok = lambda fingerprint: ("SELECT integrity_check FROM pragma_integrity_check LIMIT 1;"
+                              f"SELECT count(*) FROM names WHERE name >= '' COLLATE uca_{fingerprint}; SELECT sql FROM sqlite_schema WHERE name = 'by_name';"
+                              "SELECT rowid, hex(CAST(name AS BLOB)), note IS NULL FROM names NOT INDEXED ORDER BY rowid;")
     states = [database.run(ok(given.old))[0]]
     kept = bindings.content(database.path)
     seconds = database.seconds_inside(move)
     states.append(database.run(ok(given.new))[0])
-    see("SQLite: an index of texts is in order", states[1].startswith("ok\n") and given.new in states[1] and given.old not in states[1], f"the move took {seconds:.1f} s")
+    holds = states[1].startswith("ok\n") and states[1] == states[0].replace(given.old, given.new)
+    see("SQLite: an index of texts is in order, and has the same rows", holds, f"the move took {seconds:.1f} s")
     _, again = database.run(f"DROP INDEX by_name; CREATE INDEX by_name ON names(name COLLATE uca_{given.new});")
     with open(database.path, "wb") as file:
         file.write(kept)
