@@ -171,6 +171,8 @@ class Sqlite:
             process.send_signal(signal.SIGKILL)
             process.wait()
             inside += self.is_inside()
+            # where the transaction was over, the machine has less other work than before
+            seconds *= 1 if self.is_inside() else 0.75
             its_state = state()
             found.append(states.index(its_state) if its_state in states else 2)
             for it in (f"{self.path}-wal", f"{self.path}-shm", f"{self.path}-journal"):
