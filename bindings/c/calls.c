@@ -1205,8 +1205,13 @@ static bool becomes(uca_upgrade *upgrade, const uint8_t *key, size_t length, con
     memset(out, 0xEE, ROOM);
     bool small = uca_rekey(upgrade, key, length, out, made_length - 1, &needed) == UCA_SMALL && needed == made_length && out[0] == 0xEE;
     bool empty = uca_rekey(upgrade, key, length, out, 0, &needed) == UCA_SMALL && needed == made_length && out[0] == 0xEE;
-    return small && empty && uca_rekey(upgrade, key, length, out, ROOM, &needed) == UCA_OK && needed == made_length && memcmp(out, made, needed) == 0
-           && out[needed] == 0xEE;
+    bool one = uca_rekey(upgrade, key, length, out, ROOM, &needed) == UCA_OK && needed == made_length && memcmp(out, made, needed) == 0
+               && out[needed] == 0xEE;
+    memset(out, 0xEE, ROOM);
+    memcpy(out, key, length);
+    bool in_place = uca_rekey_in_place(upgrade, out, length) == UCA_OK && length == made_length && memcmp(out, made, length) == 0
+                    && out[length] == 0xEE;
+    return small && empty && one && in_place;
 }
 
 #define BECOMES(upgrade, key, made) becomes(upgrade, BYTES(key), made, sizeof(made) - 1)
@@ -1216,7 +1221,10 @@ static bool becomes_none(uca_upgrade *upgrade, const uint8_t *key, size_t length
     uint8_t out[ROOM];
     size_t needed = 77;
     memset(out, 0xEE, ROOM);
-    return uca_rekey(upgrade, key, length, out, ROOM, &needed) == status && needed == 0 && out[0] == 0xEE;
+    bool none = uca_rekey(upgrade, key, length, out, ROOM, &needed) == status && needed == 0 && out[0] == 0xEE;
+    memcpy(out, key, length);
+    bool stays = uca_rekey_in_place(upgrade, out, length) == status && memcmp(out, key, length) == 0 && out[length] == 0xEE;
+    return none && stays;
 }
 
 /* The status of the fingerprints of an upgrade, which are then these digits; nothing written is all `ee`. */

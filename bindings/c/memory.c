@@ -252,7 +252,12 @@ static bool use_upgrade(opened *opened)
     uint32_t other = uca_affected(it, BYTES("10\xCC\x81"), &others);
     CHECK(others == 0 && (other == UCA_OK || (can_fail() && other == UCA_MEMORY)));
     uint32_t third = uca_rekey(it, OLD_KEY, sizeof OLD_KEY, key, sizeof key, &needed);
-    return is_made(third, key, needed, NEW_KEY, sizeof NEW_KEY) && status == UCA_OK && other == UCA_OK;
+    uint8_t moved[sizeof OLD_KEY];
+    memcpy(moved, OLD_KEY, sizeof OLD_KEY);
+    uint32_t fourth = uca_rekey_in_place(it, moved, sizeof moved);
+    CHECK(fourth == UCA_OK || (can_fail() && fourth == UCA_MEMORY));
+    CHECK(memcmp(moved, fourth == UCA_OK ? NEW_KEY : OLD_KEY, sizeof moved) == 0);
+    return is_made(third, key, needed, NEW_KEY, sizeof NEW_KEY) && status == UCA_OK && other == UCA_OK && fourth == UCA_OK;
 }
 
 /* Where a text is rejected, the beginning of a key, and the bound of keys. Returns whether nothing failed. */

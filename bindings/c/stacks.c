@@ -531,6 +531,8 @@ static void rekey_all(void)
         does(uca_affected(&upgrade, UCA_FILE_OF(texts[t]), &affected) == UCA_OK && (status == UCA_OK || (affected && status == UCA_NO_IMAGE)));
     }
     does(uca_rekey(&upgrade, BYTES("\x1C"), out, ROOM, &needed) == UCA_NO_IMAGE);
+    out[0] = 0x1C;
+    does(uca_rekey_in_place(&upgrade, out, 1) == UCA_NO_IMAGE);
 }
 
 static void fingerprint_the_upgrade(void)
@@ -580,7 +582,7 @@ static const row CALLS[] = {
     {"uca_open_upgrade", 320, open_the_upgrade},
     {"uca_upgrade_error_text", 16, tell_errors},
     {"uca_affected", 16, judge_changes},
-    {"uca_rekey", 16, rekey_all},
+    {"uca_rekey and uca_rekey_in_place", 16, rekey_all},
     {"uca_upgrade_fingerprints", 16, fingerprint_the_upgrade},
     {"uca_close", 16, close_all},
     {"uca_close_upgrade", 16, close_the_upgrade},

@@ -223,9 +223,9 @@ NEW_EDITION_ERRORS = [
     ([('"examples/table.txt"', '"examples/data.txt"')], "line 1: Line: uca_open: the table is rejected\n"),
     ([('"examples/editions/table.txt"', '"examples/data.txt"')], "uca_find_changes: status 1\nnew line 1: Line\n"),
     ([("certificate[1 << 20]", "certificate[8]")], "uca_find_changes: status 258\n"),
-    ([("changes, lengths.out,", "changes, 10,")], "file 5, line 1: Line: uca_open_upgrade: a file of the upgrade is rejected\n"),
+    ([("changes, lengths.out,", "changes, 10,")], "uca_open_upgrade: file of changes line 1: Line\n"),
     # no change lists the eighth old row, that of `ch`, whose weight has no image
-    ([("changes, lengths.out,", "changes, 11,")], "Uncovered, place 1, number 8: uca_open_upgrade: the audit rejects the upgrade\n"),
+    ([("changes, lengths.out,", "changes, 11,")], "uca_open_upgrade: refused 4 Uncovered old row 8\n"),
     ([("uca_close(&old);", "uca_close(&old);\n    kept[0] ^= 1;")], "the keys are of other files or settings\n"),
 ]
 

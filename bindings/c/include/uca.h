@@ -404,6 +404,13 @@ uint32_t uca_affected(uca_upgrade *upgrade, const uint8_t *text, size_t length, 
    Unless the status is UCA_OK, `out` is as before. */
 uint32_t uca_rekey(uca_upgrade *upgrade, const uint8_t *key, size_t length, uint8_t *out, size_t room, size_t *needed);
 
+/* What uca_rekey does, in the place of the key. The new key has as many bytes as the old one.
+
+   UCA_OK: the bytes at `key` are the new key.
+   UCA_NO_IMAGE: as for uca_rekey.
+   UCA_CLOSED, UCA_NO_IMAGE, UCA_MEMORY: the bytes at `key` are as before. */
+uint32_t uca_rekey_in_place(uca_upgrade *upgrade, uint8_t *key, size_t length);
+
 /* The fingerprints of the old keys and of the new keys, as uca_fingerprint makes them of the old files and of the new ones.
    The upgrade is for keys of the old one alone: compare it with the fingerprint that is kept beside the stored keys.
 

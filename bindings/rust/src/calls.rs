@@ -236,6 +236,7 @@ extern "C" {
         room: usize,
         needed: *mut usize,
     ) -> u32;
+    pub fn uca_rekey_in_place(upgrade: *mut Upgrade, key: *mut u8, length: usize) -> u32;
     pub fn uca_upgrade_fingerprints(upgrade: *mut Upgrade, old_out: *mut u8, new_out: *mut u8) -> u32;
     pub fn uca_close_upgrade(upgrade: *mut Upgrade);
     pub fn uca_run(

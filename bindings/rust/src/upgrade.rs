@@ -258,6 +258,21 @@ impl Upgrade {
         let made = append(new_key, key.len(), with(calls::uca_rekey, &mut self.inner, key));
         Ok(image(made)?.is_some())
     }
+
+    /// Makes the new key in place of the old key, which has as many bytes. It is `false`, and the bytes stay, where
+    /// [`Upgrade::rekey`] is `None`.
+    ///
+    /// # Errors
+    ///
+    /// [`StoredKeyError::Memory`] alone. Then the bytes stay too.
+    pub fn rekey_in_place(&mut self, key: &mut [u8]) -> Result<bool, StoredKeyError> {
+        // SAFETY: the key is borrowed for the call, which writes it alone.
+        let made = match unsafe { calls::uca_rekey_in_place(&mut self.inner, key.as_mut_ptr(), key.len()) } {
+            calls::OK => Ok(()),
+            status => Err(status),
+        };
+        Ok(image(made)?.is_some())
+    }
 }
 
 impl Drop for Upgrade {

@@ -257,7 +257,13 @@ fn bytes_without_a_new_key() {
         assert!(new_key.is_empty());
         assert_eq!(upgrade.rekey_into(&bytes_of(&b), &mut new_key), Ok(true));
         assert_eq!(new_key, bytes_of(&[0x1C61, 0, 0x20, 0, 2]));
+        let mut moved = bytes_of(key);
+        assert_eq!(upgrade.rekey_in_place(&mut moved), Ok(false), "{key:X?}");
+        assert_eq!(moved, bytes_of(key));
     }
+    let mut moved = bytes_of(&b);
+    assert_eq!(upgrade.rekey_in_place(&mut moved), Ok(true));
+    assert_eq!(moved, bytes_of(&[0x1C61, 0, 0x20, 0, 2]));
     assert_eq!(upgrade.rekey(b"\x1C"), Ok(None));
     // a key of 3 levels is none under shifted
     assert_eq!(Upgrade::options().open(FILES).unwrap().rekey(&bytes_of(&b)), Ok(None));

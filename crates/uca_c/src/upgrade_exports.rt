@@ -129,6 +129,30 @@ pub extern "C" fn uca_rekey(
     status
 }
 
+/// Makes the new key of an old key in its place.
+#[unsafe(no_mangle)]
+pub extern "C" fn uca_rekey_in_place(
+    alloc: Global,
+    upgrade: &mut UpgradeSlot,
+    key: &mut [u8],
+) -> u32
+    ensures closed { (result ≡ CLOSED) ↔ (upgrade.old.full ≡ false) }
+    ensures ok { result ≡ OK → IsRekeyed upgrade.old.handle.kept key.old key.new }
+    ensures no_image { result ≡ NO_IMAGE → rekeyed_in upgrade.old.handle.kept key.old ≡ None }
+    ensures statuses { (result ≡ OK) ⊎ (result ≡ CLOSED) ⊎ (result ≡ NO_IMAGE) ⊎ (result ≡ MEMORY) }
+    ensures stays { result ≢ OK → key.new ≡ key.old }
+    ensures full { upgrade.new.full ≡ upgrade.old.full }
+    ensures kept { upgrade.old.full ≡ true → upgrade.new.handle.kept ≡ upgrade.old.handle.kept }
+{
+    if !upgrade.full {
+        return CLOSED;
+    }
+    let mut opened = take(alloc, upgrade);
+    let status = upgrade_work::rekey_in_place(&mut opened, key);
+    put(upgrade, opened);
+    status
+}
+
 /// Writes the fingerprint of what the old keys were made by at `old_out`, and that of what the new keys are made by at
 /// `new_out`.
 #[unsafe(no_mangle)]

@@ -48,3 +48,17 @@ pub fn rekey(upgrade: &mut OpenUpgrade, key: &[u8], out: &mut [u8], needed: &mut
         Err(_) => MEMORY,
     }
 }
+
+// Makes the new key of an old key in its place.
+pub fn rekey_in_place(upgrade: &mut OpenUpgrade, key: &mut [u8]) -> u32
+    ensures ok { result ≡ OK → IsRekeyed upgrade.old key.old key.new }
+    ensures no_image { result ≡ NO_IMAGE → rekeyed_in upgrade.old key.old ≡ None }
+    ensures statuses { (result ≡ OK) ⊎ (result ≡ NO_IMAGE) ⊎ (result ≡ MEMORY) }
+    ensures stays { result ≢ OK → key.new ≡ key.old }
+    ensures upgrade { upgrade.new ≡ upgrade.old }
+{
+    let Ok(has_image) = upgrade.upgrade.rekey(key) else {
+        return MEMORY;
+    };
+    if has_image { OK } else { NO_IMAGE }
+}

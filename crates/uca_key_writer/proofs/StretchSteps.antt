@@ -1,5 +1,5 @@
 -- Reading plain code points in a row, step by step.
-use Rattle.std.proofs.Common.{◌≡◌, ℕ, ◌≤◌, List, [], ◌∷◌, ◌++◌, inr, Some, refl, sym, ap, subst, ◌∙◌, append-nil, append_assoc, arith, take, length, length-append, ◌<◌, Bool, true, nat_eq}
+use Rattle.std.proofs.Common.{◌≡◌, ℕ, ◌≤◌, Result, Ok, Err, IfOk, List, [], ◌∷◌, ◌++◌, inr, Some, refl, sym, ap, subst, ◌∙◌, append-nil, append_assoc, arith, take, length, length-append, ◌<◌, Bool, true, nat_eq}
 use Rattle.std.specs.Bool.{OnTrue}
 use Rattle.std.specs.Str.{chars}
 use Rattle.std.specs.String.{string_bytes}
@@ -12,12 +12,13 @@ use Rattle.uca_elements.specs.Collations.{Collation, elements_of}
 use Rattle.uca_plain.specs.declared.plain.KnownPoint.{KnownPoint}
 use Rattle.uca_key_writer.specs.declared.pieces.Piece.{Piece}
 use Rattle.uca_key_writer.specs.declared.pieces.Reading.{Reading}
+use Rattle.uca_key_writer.specs.declared.pieces.Reading.TheVariants.{GoesOn, Ended}
 use Rattle.uca_key_writer.specs.inside.LevelBuffers.{LevelState, HoldsLevels}
 use Rattle.uca_plain.specs.PointCache.{IsTrueEntry}
 use Rattle.uca_key_writer.specs.inside.Pieces.{points_by, piece_points, IsTrueAlone, ReadsTo, HasRead}
 use Rattle.uca_key_writer.specs.inside.Readings.{ReadsOn}
 use Rattle.uca_key_writer.specs.inside.Stretches.{ReadsUpTo, ReadsSome, ReadsMore}
-use Rattle.uca_plain.proofs.PlainTexts.{alone_no_long_run}
+use Rattle.uca_plain.proofs.PlainTexts.{alone_no_long_run, plain_texts, plain_no_long_run}
 use Rattle.uca_key_writer.proofs.PieceSteps.{elements_joined, runs_joined}
 
 -- a text of no bytes
@@ -91,6 +92,29 @@ pub stretch_ends : (c : Collation) (weighting : Weighting) (xs text rest : List 
 stretch_ends c weighting xs text rest old new last some none holds =
     let all : chars text ≡ some.more = some.split ∙ ap (λ l. some.more ++ l) none ∙ append-nil some.more in
     subst (λ l. HasRead c weighting (xs ++ l) new) (sym all) (read_last c weighting (xs ++ some.more) old new last some.reads holds)
+
+-- a text begins with a plain code point
+pub begins_plain : (c : Collation) (weighting : Weighting) (b : LevelState) (first : KnownPoint) → HoldsLevels weighting [] b → first.count ≤ 3
+    → IsTrueEntry c first → ReadsUpTo c weighting (first.point ∷ []) b first
+unfolding HasRead
+begins_plain c weighting b first empty few entry = record {
+  before = [];
+  split = refl;
+  read = (subst (λ es. HoldsLevels weighting es b) (sym (plain_texts c [] tt)) empty, plain_no_long_run c [] tt);
+  few = few;
+  entry = entry;
+}
+
+-- and what was read after its first code point was read of the text
+pub read_from_first : {E : Type 0} (c : Collation) (weighting : Weighting) (text after : List ℕ) (x : ℕ) (b : LevelState) (piece : Piece) (r : Result Reading E)
+    → chars text ≡ x ∷ chars after → IfOk r (ReadsOn c weighting (x ∷ []) after b piece) → IfOk r (ReadsOn c weighting [] text b piece)
+read_from_first c weighting text after x b piece (Ok (GoesOn rest)) is read = record {
+  more = x ∷ read.more;
+  split = is ∙ ap (λ l. x ∷ l) read.split;
+  reads = read.reads;
+}
+read_from_first c weighting text after x b piece (Ok (Ended accepted)) is read = subst (λ l. OnTrue accepted (HasRead c weighting l b)) (sym is) read
+read_from_first c weighting text after x b piece (Err e) is read = tt
 
 -- where the stretch stops, its last code point is the piece
 pub piece_stops : (c : Collation) (weighting : Weighting) (xs text rest : List ℕ) (b : LevelState) (piece : Piece) (known : KnownPoint)

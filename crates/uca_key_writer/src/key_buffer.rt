@@ -6,7 +6,7 @@ ghost use Rattle.uca_weights.specs.declared.Depth.TheVariants.{Weights};
 ghost use Rattle.uca_text.specs.Texts.{nfd_text};
 ghost use Rattle.uca_text.specs.Limits.{IsAccepted};
 ghost use Rattle.uca_text.specs.Faults.{IsCause};
-ghost use Rattle.uca_elements.specs.Collations.{collation_of, elements_of};
+ghost use Rattle.uca_elements.specs.Collations.{Collation, collation_of, elements_of};
 ghost use Rattle.uca_order.specs.Depths.{read_text, key_at};
 ghost use Rattle.uca_order.specs.Lengths.{HasShortRows};
 ghost use Rattle.uca_key_writer.specs.KeyLevels.{AreLevelsOf, levels_in};
@@ -24,7 +24,7 @@ use std::alloc::{AllocError, Allocator, Global};
 use std::marker::Model;
 use uca_elements::{Collator, Lookup};
 use uca_plain::plain::{KnownPoint, PointCache, SHORT_TEXT};
-use uca_plain::points::split_first;
+use uca_plain::points::{split_first, split_plain};
 use uca_text::{Normal, TextFault};
 use uca_weights::{Depth, Weighting};
 
@@ -352,8 +352,11 @@ fn push_pieces<L: Lookup, T: Allocator, A: Allocator>(
     ensures read { let c = collation_of L.content collator.now in
         IfOk result (λ accepted. OnTrue accepted (HasRead c weighting (chars text.now) levels.new)) }
 {
-    piece.clear();
-    let mut rest = text;
+    let mut rest = match begin_pieces(levels, weighting, points, piece, text) {
+        Ok(Reading::GoesOn(after)) => after,
+        Ok(Reading::Ended(accepted)) => return Ok(accepted),
+        Err(error) => return Err(error),
+    };
     while let Some((point, more)) = split_first(rest) {
         let known = points.get(collator, point)?;
         if known.is_bound() {
@@ -367,6 +370,27 @@ fn push_pieces<L: Lookup, T: Allocator, A: Allocator>(
         }
     }
     piece.end(levels, weighting, collator, points)
+}
+
+// Begins by the plain code points of the cache with which a text begins. There is no piece before them. Most texts have no
+// other ones.
+#[inline(always)]
+fn begin_pieces<'t, A: Allocator>(
+    levels: &mut LevelBuffers<A>,
+    weighting: Weighting,
+    points: &PointCache<A>,
+    piece: &mut Piece,
+    text: &'t str,
+) -> Result<Reading<'t>, AllocError>
+    requires { HoldsLevels weighting [] levels.old }
+    ensures { (c : Collation) → AreTrueEntries c points.now.entries.items →
+        IfOk result (ReadsOn c weighting [] text.now levels.new piece.new) }
+{
+    piece.clear();
+    match split_plain(points, text) {
+        Some((first, more)) => piece.go_on_plain(levels, weighting, points, first, more),
+        None => Ok(Reading::GoesOn(text)),
+    }
 }
 
 // Ends the piece before a plain code point, and goes on by it and by the plain code points that come next in the text.
@@ -388,7 +412,7 @@ fn push_plain<'t, L: Lookup, T: Allocator, A: Allocator>(
         IfOk result (ReadsOn c weighting (xs ++ known.point ∷ []) text.now levels.new piece.new) }
 {
     match piece.end(levels, weighting, collator, points) {
-        Ok(true) => piece.go_on_plain(levels, weighting, points, known, text),
+        Ok(true) => piece.go_on_plain(levels, weighting, points, &known, text),
         Ok(false) => Ok(Reading::Ended(false)),
         Err(error) => Err(error),
     }

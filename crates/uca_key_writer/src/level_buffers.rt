@@ -154,27 +154,28 @@ impl<A: Allocator> LevelBuffers<A> {
     }
 
     /// Adds the weights of a plain code point and of those that follow it in a text, as [`put_stretch`] puts them.
+    #[inline(always)]
     pub(crate) fn push_stretch<'t>(
         &mut self,
         weighting: Weighting,
         points: &PointCache<A>,
-        first: KnownPoint,
+        first: &KnownPoint,
         text: &'t str,
     ) -> Result<Stretch<'t>, AllocError>
-        ensures { (c : Collation) (xs : List ℕ) → AreTrueEntries c points.now.entries.items → ReadsUpTo c weighting xs self.old first →
+        ensures { (c : Collation) (xs : List ℕ) → AreTrueEntries c points.now.entries.items → ReadsUpTo c weighting xs self.old first.now →
             IfOk result (λ stretch. StretchReads c weighting xs text.now self.new stretch) }
     {
         if first.is_bound() {
-            return Ok(Stretch::Stopped(first, text));
+            return Ok(Stretch::Stopped(*first, text));
         }
         match weighting {
             Weighting::NonIgnorable => self.push_stretch_by(
                 Weighting::NonIgnorable,
                 points,
-                &first,
+                first,
                 text,
             ),
-            Weighting::Shifted => self.push_stretch_by(Weighting::Shifted, points, &first, text),
+            Weighting::Shifted => self.push_stretch_by(Weighting::Shifted, points, first, text),
         }
     }
 

@@ -163,10 +163,10 @@ impl Piece {
         levels: &mut LevelBuffers<A>,
         weighting: Weighting,
         points: &PointCache<A>,
-        first: KnownPoint,
+        first: &KnownPoint,
         text: &'t str,
     ) -> Result<Reading<'t>, AllocError>
-        ensures { (c : Collation) (xs : List ℕ) → AreTrueEntries c points.now.entries.items → ReadsUpTo c weighting xs levels.old first →
+        ensures { (c : Collation) (xs : List ℕ) → AreTrueEntries c points.now.entries.items → ReadsUpTo c weighting xs levels.old first.now →
             IfOk result (ReadsOn c weighting xs text.now levels.new self.new) }
     {
         match levels.push_stretch(weighting, points, first, text) {

@@ -81,18 +81,16 @@ fn lengthen<A: Allocator>(slots: &mut Vec<[u8; 2], A>, more: usize) -> Result<()
     slots.resize(wanted, [0; 2])
 }
 
-// Puts a weight after the first `count`, where 0 says that there is none. Returns how many weights there are then.
+// Puts a weight after the first `count`, where 0 says that there is none. Returns how many weights there are then. A 0 is
+// written too, and is not counted: no processor foretells which weights are 0.
 #[inline(always)]
 fn put(slots: &mut [[u8; 2]], count: usize, weight: u16) -> usize
     requires { count < length slots.old }
     ensures held { held slots.new result ≡ held slots.old count ++ (if weight == 0 then [] else weight_bytes weight) }
     ensures count { result ≤ count + 1 }
 {
-    if weight == 0 {
-        return count;
-    }
     slots[count] = weight.to_be_bytes();
-    count + 1
+    if weight == 0 { count } else { count + 1 }
 }
 
 // Whether the nearest element with a primary weight is variable, which only `Shifted` asks.
@@ -139,7 +137,12 @@ fn put_element(
         primary: put(primary, counts.primary, first),
         secondary: put(secondary, counts.secondary, second),
         tertiary: put(tertiary, counts.tertiary, third),
-        quaternary: put(quaternary, counts.quaternary, fourth),
+        // `NonIgnorable` has no weights of level 4, so no slot is written for it
+        quaternary: if fourth == 0 {
+            counts.quaternary
+        } else {
+            put(quaternary, counts.quaternary, fourth)
+        },
     }
 }
 

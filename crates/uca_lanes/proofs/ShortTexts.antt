@@ -1,7 +1,7 @@
 -- Two short texts, with zeros after each.
-use Rattle.std.proofs.Common.{◌≡◌, ℕ, suc, ◌+◌, ◌-◌, ◌<◌, ◌≤◌, ◌↔◌, List, ◌++◌, length, length-append, get_or, min, replicate, refl, sym, subst, ap, ap₂, ◌∙◌, arith, append_assoc}
+use Rattle.std.proofs.Common.{◌≡◌, ℕ, suc, ◌+◌, ◌-◌, ◌<◌, ◌≤◌, ◌↔◌, List, ◌++◌, length, length-append, get_or, min, replicate, refl, sym, subst, ap, ap₂, ◌∙◌, arith, append_assoc, append-nil, take_all}
 use Rattle.std.specs.Str.{IsUtf8}
-use Rattle.std.proofs.lemmas.List.{get_or_append_left, get_or_at, take_at, drop_at}
+use Rattle.std.proofs.lemmas.List.{get_or_append_left, get_or_at, take_at, drop_at, length-replicate}
 use Rattle.std.proofs.lemmas.Str.{IsUtf8-append, IsUtf8-take, IsUtf8-drop, IsCharBoundary-before_ascii}
 use Rattle.simdutf8.proofs.StepsLemmas.{IsUtf8-append_ascii, IsUtf8-after_ascii, IsAscii-replicate}
 use Rattle.uca_lanes.specs.Shared.{IsSharedLen}
@@ -42,6 +42,34 @@ both_texts left right one other few is is_too =
       λ h. subst IsUtf8 (sym same) (IsUtf8-append left (zeros (suc n) ++ padded right) h.0 (zeros_before.1 (zeros_after.1 h.1))),
     )
 
+-- ---- Whether both are UTF-8, where they are the same
+
+zeroth : (k : ℕ) → 0 + k ≡ k
+zeroth k = omega arith
+
+same_padded : (left right one other : List ℕ) → length left ≤ 15 → length right ≤ 15 → one ≡ padded left → other ≡ padded right
+    → IsSameRun one other 0 0 16 16 → one ≡ other
+same_padded left right one other few few_too is is_too run =
+    let long : (bytes lanes : List ℕ) → length bytes ≤ 15 → lanes ≡ padded bytes → length lanes ≡ 16 =
+    (λ bytes lanes within spelled. ap (λ l. length l) spelled ∙ length-append bytes (zeros (16 - length bytes)) ∙ omega (arith, within, length-replicate {A = ℕ} (16 - length bytes) 0)) in
+    let one_long = long left one few is in
+    let other_long = long right other few_too is_too in
+    sym (take_all 16 one (omega (arith, one_long)))
+    ∙ same_front 16 one other (omega (arith, one_long)) (omega (arith, other_long)) (λ i below. subst (λ n. get_or one n 0 ≡ get_or other n 0) (zeroth i) (run.are i below))
+    ∙ take_all 16 other (omega (arith, other_long))
+
+pub same_texts : (left right one other : List ℕ) → length left ≤ 15 → length right ≤ 15 → one ≡ padded left → other ≡ padded right
+    → IsSameRun one other 0 0 16 16 → IsUtf8 (joined one (zeros 16) 16) ↔ (IsUtf8 left × IsUtf8 right)
+same_texts left right one other few few_too is is_too run =
+    let zeros_after : (bytes : List ℕ) → IsUtf8 (padded bytes) ↔ IsUtf8 bytes =
+    (λ bytes. IsUtf8-append_ascii bytes (zeros (16 - length bytes)) (IsAscii-replicate (16 - length bytes) 0 (omega arith))) in
+    let same = same_padded left right one other few few_too is is_too run in
+    let whole : joined one (zeros 16) 16 ≡ one = append-nil one in (
+      λ u. (let text = subst IsUtf8 whole u in
+          ((zeros_after left).0 (subst IsUtf8 is text), (zeros_after right).0 (subst IsUtf8 (same ∙ is_too) text))),
+      λ h. subst IsUtf8 (sym whole) (subst IsUtf8 (sym is) ((zeros_after left).1 h.0)),
+    )
+
 -- ---- What they have in common
 
 in_padded : (bytes lanes : List ℕ) (i : ℕ) → lanes ≡ padded bytes → i < length bytes → get_or lanes i 0 ≡ get_or bytes i 0
@@ -59,9 +87,6 @@ shared_of_padded left right one other same shared few few_too is is_too run leas
       subst (λ n. n < length left → n < length right → get_or left n 0 ≡ get_or right n 0 → ⊥) (sym all) apart_at more more_too;
 }
   where
-    zeroth : (k : ℕ) → 0 + k ≡ k
-    zeroth k = omega arith
-
     are : (i : ℕ) → i < same → i < length left → i < length right → get_or left i 0 ≡ get_or right i 0
     are i below within within_too =
         sym (in_padded left one i is within)

@@ -36,9 +36,17 @@ pub fn shared_of_short(left: &[u8], right: &[u8]) -> Option<usize>
     }
     let one = with_zeros(left);
     let other = with_zeros(right);
+    let same = same_of_sixteen(one, other);
+    if same == 16 {
+        // both have the same bytes, so one of them is judged
+        return if are_utf8(one, u8x16::splat(0), 16) {
+            Some(left.len().min(right.len()))
+        } else {
+            None
+        };
+    }
     if !are_utf8(one, other, 0) {
         return None;
     }
-    let same = same_of_sixteen(one, other);
     Some(same.min(left.len()).min(right.len()))
 }

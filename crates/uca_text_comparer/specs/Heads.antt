@@ -16,6 +16,7 @@ abbrev pub primary_of : Weighting → Element → ℕ
 primary_of NonIgnorable e = e.primary
 primary_of Shifted e = if e.mark then 0 else e.primary
 
+-- no element has a weight at level 1
 abbrev pub HaveNone : Weighting → List Element → Type 0
 HaveNone weighting es = AllByRecursion (λ e. primary_of weighting e ≡ 0) es
 
@@ -30,7 +31,7 @@ IsHeaded weighting weight [] = ⊥
 IsHeaded weighting weight (e ∷ es) = (primary_of weighting e ≡ weight) × HaveNone weighting es
 
 -- Where the head says so, the code point is plain. Where its weight is not 0, the code point is plain, and its first element has
--- this weight at level 1. Where it says that too, no other element has one.
+-- this weight at level 1. Where the head says that it is alone, its weight is not 0, and no other element has one.
 pub record IsTrueHead (c : Collation) (weighting : Weighting) (x : ℕ) (head : Head) : Type 0 where
   pub plain : head.plain ≡ true → IsPlain c x
   pub first : head.weight ≢ 0 → IsPlain c x × IsFirstWeight weighting head.weight (elements_alone c x)

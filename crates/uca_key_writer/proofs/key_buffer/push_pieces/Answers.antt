@@ -1,17 +1,27 @@
-use Rattle.std.proofs.Common.{[], rules}
+use Rattle.std.proofs.Common.{[], rules, subst}
 use Rattle.uca_elements.specs.Collations.{collation_of}
 use Rattle.uca_plain.proofs.Results.{no_result}
-use Rattle.uca_key_writer.proofs.PieceSteps.{begin_text}
-use Rattle.uca_key_writer.proofs.StretchSteps.{piece_goes_on, piece_waits, text_ends, read_on, less_to_read}
+use Rattle.uca_key_writer.specs.inside.Readings.{ReadsOn}
+use Rattle.uca_key_writer.proofs.StretchSteps.{piece_goes_on, text_ends, read_on, less_to_read}
 use Rattle.uca_key_writer.proofs.key_buffer.push_pieces.Goals as goal
 
 pub loop-point-init : goal.loop-point-init
 loop-point-init g c = let collation = collation_of g.L.Lookup.content c.args.collator.now in record {
   utf8 = search rules;
   entries = c.requires.entries;
-  reads = piece_waits collation c.args.weighting [] c.args.text.now c.args.levels.now c.clear.new.self
-      (begin_text collation c.args.weighting c.args.levels.now c.clear.new.self c.requires.empty c.clear.ensures.points c.clear.ensures.alone);
+  reads = subst (ReadsOn collation c.args.weighting [] c.args.text.now c.begin_pieces.new.levels c.begin_pieces.new.piece) c.in-Ok-GoesOn.field-0-is
+      (c.in-Ok-GoesOn.ensures collation c.requires.entries);
 }
+
+pub returns-in-Ok-Ended : goal.returns-in-Ok-Ended
+returns-in-Ok-Ended g c = let collation = collation_of g.L.Lookup.content c.args.collator.now in record {
+  entries = c.requires.entries;
+  read = subst (ReadsOn collation c.args.weighting [] c.args.text.now c.begin_pieces.new.levels c.begin_pieces.new.piece) c.in-Ok-Ended.field-0-is
+      (c.in-Ok-Ended.ensures collation c.requires.entries);
+}
+
+pub returns-in-Err : goal.returns-in-Err
+returns-in-Err g c = record { entries = c.requires.entries; read = tt }
 
 pub loop-point-preserved-then-is_bound : goal.loop-point-preserved-then-is_bound
 loop-point-preserved-then-is_bound g c =
@@ -41,28 +51,28 @@ loop-point-preserved g c =
       entries = c.push_plain.ensures.entries;
       reads = piece_goes_on collation c.args.weighting c.args.text.now c.loop-point.rest.now c.in-Some.more.now _ c.in-Some.point _ _ c.loop-point.piece _
           so_far c.in-Some.ensures
-          (read_on collation c.args.weighting so_far.more _ _ c.in-Some.point c.in-Some.more.now _ _ _ c.in_ok-known.ensures.known.0 c.in-Ok-GoesOn.field-0-is
-          (c.in-Ok-GoesOn.ensures.read so_far.more so_far.reads));
+          (read_on collation c.args.weighting so_far.more _ _ c.in-Some.point c.in-Some.more.now _ _ _ c.in_ok-known.ensures.known.0 c.in-Ok-GoesOn-push_plain.field-0-is
+          (c.in-Ok-GoesOn-push_plain.ensures.read so_far.more so_far.reads));
     }
 
 pub loop-point-smaller : goal.loop-point-smaller
 loop-point-smaller g c =
     let collation = collation_of g.L.Lookup.content c.args.collator.now in
     let so_far = c.loop-point.invariant.reads in
-    let ran = read_on collation c.args.weighting so_far.more _ _ c.in-Some.point c.in-Some.more.now _ _ _ c.in_ok-known.ensures.known.0 c.in-Ok-GoesOn.field-0-is
-    (c.in-Ok-GoesOn.ensures.read so_far.more so_far.reads) in
+    let ran = read_on collation c.args.weighting so_far.more _ _ c.in-Some.point c.in-Some.more.now _ _ _ c.in_ok-known.ensures.known.0 c.in-Ok-GoesOn-push_plain.field-0-is
+    (c.in-Ok-GoesOn-push_plain.ensures.read so_far.more so_far.reads) in
     less_to_read _ _ _ c.in-Some.point ran.more c.in-Some.ensures ran.split
 
-pub returns-in-Ok-Ended : goal.returns-in-Ok-Ended
-returns-in-Ok-Ended g c =
+pub returns-in-Ok-Ended-push_plain : goal.returns-in-Ok-Ended-push_plain
+returns-in-Ok-Ended-push_plain g c =
     let collation = collation_of g.L.Lookup.content c.args.collator.now in
     let so_far = c.loop-point.invariant.reads in
     record {
       entries = c.push_plain.ensures.entries;
       read = text_ends collation c.args.weighting c.args.text.now c.loop-point.rest.now c.in-Some.more.now c.in-Some.point _ _ c.loop-point.piece
-          c.in-Ok-Ended.accepted so_far c.in-Some.ensures
-          (read_on collation c.args.weighting so_far.more _ _ c.in-Some.point c.in-Some.more.now _ _ _ c.in_ok-known.ensures.known.0 c.in-Ok-Ended.field-0-is
-          (c.in-Ok-Ended.ensures.read so_far.more so_far.reads));
+          c.in-Ok-Ended-push_plain.accepted so_far c.in-Some.ensures
+          (read_on collation c.args.weighting so_far.more _ _ c.in-Some.point c.in-Some.more.now _ _ _ c.in_ok-known.ensures.known.0 c.in-Ok-Ended-push_plain.field-0-is
+          (c.in-Ok-Ended-push_plain.ensures.read so_far.more so_far.reads));
     }
 
 pub returns-in_err-known : goal.returns-in_err-known
@@ -71,5 +81,5 @@ returns-in_err-known g c = record { entries = c.get.ensures.entries; read = no_r
 pub returns-in_err-rest : goal.returns-in_err-rest
 returns-in_err-rest g c = record { entries = c.get.ensures.entries; read = no_result c.from_residual-in_err-rest.result _ c.from_residual-in_err-rest.ensures.0 }
 
-pub returns-in-Err : goal.returns-in-Err
-returns-in-Err g c = record { entries = c.push_plain.ensures.entries; read = tt }
+pub returns-in-Err-push_plain : goal.returns-in-Err-push_plain
+returns-in-Err-push_plain g c = record { entries = c.push_plain.ensures.entries; read = tt }
