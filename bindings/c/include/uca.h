@@ -210,7 +210,8 @@ size_t uca_collator_size(void);
 
 /* Opens a closed collator by the bytes of a table (allkeys.txt) and of a data file. `weighting` is a uca_weighting.
    `depth` is a uca_depth, or UCA_IDENTICAL | UCA_NUMERIC. The error is 0 and 0 unless the status is UCA_TABLE or
-   UCA_DATA. uca_open_with takes all this as one struct, and a book if there is one.
+   UCA_DATA. uca_open_with takes all this as one struct, and a book if there is one. An older library that does not know a number
+   of a newer uca.h returns UCA_ARGUMENT.
 
    UCA_OK: the bytes mean a table and a data file, and texts are keyed by these until uca_close.
    UCA_ALREADY_OPEN, UCA_ARGUMENT, UCA_TABLE, UCA_DATA, UCA_MEMORY: the collator is as before. */
