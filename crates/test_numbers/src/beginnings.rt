@@ -8,7 +8,7 @@ use std::cmp::Ordering;
 use std::cmp::Ordering::{Greater, Less};
 use std::test::Fail;
 use test_kit::{DATA, NUMBER_TABLE, data_of, holds, repeated, table_of};
-use uca_lanes::{is_utf8, marks_of_pairs, same_pairs, shared_len, shared_of_short};
+use uca_lanes::{are_same_short, is_utf8, marks_of_pairs, same_pairs, shared_len, shared_of_short};
 use uca_match::{Collator, Lookup, Trie};
 use uca_text_comparer::TextComparison;
 use uca_weights::{Depth, Numbers, Settings, Source, Weighting};
@@ -73,7 +73,7 @@ const MORE_ROWS: &str = "0041 ; [.1C47.0020.0008]\n\
 /// Two texts and their order, first where variable elements are non-ignorable, and then where they are shifted: a hyphen has
 /// no weight at level 1 then. Where the next code points have the same weight, those after them decide. Two letters may have
 /// their first byte in common.
-const HEADS: [(&str, &str, Option<Ordering>, Option<Ordering>); 16] = [
+const HEADS: [(&str, &str, Option<Ordering>, Option<Ordering>); 18] = [
     ("Ab", "aa", Some(Greater), Some(Greater)),
     ("aAa", "aab", Some(Less), Some(Less)),
     ("A", "ab", Some(Less), Some(Less)),
@@ -90,6 +90,8 @@ const HEADS: [(&str, &str, Option<Ordering>, Option<Ordering>); 16] = [
     ("\u{df}a", "bb", None, None),
     ("b\u{df}", "a\u{df}", Some(Greater), Some(Greater)),
     ("\u{905}", "a", Some(Greater), Some(Greater)),
+    ("b\u{3b1}", "a", Some(Greater), Some(Greater)),
+    ("b\u{301}", "a", None, None),
 ];
 
 /// Each row of table 3-7 of the Unicode Standard, by its first and its last code point.
@@ -191,7 +193,7 @@ const RUNS: [(usize, usize, usize, usize, usize); 16] = [
 
 /// Two texts, and how many bytes they have in common, if each has at most fifteen and is UTF-8. A text that ends within a
 /// code point is not UTF-8, also where the other one begins with the bytes that are missing.
-const SHORT: [(&[u8], &[u8], Option<usize>); 27] = [
+const SHORT: [(&[u8], &[u8], Option<usize>); 28] = [
     (b"", b"", Some(0)),
     (b"", b"a", Some(0)),
     (b"cart", b"cast", Some(2)),
@@ -208,6 +210,7 @@ const SHORT: [(&[u8], &[u8], Option<usize>); 27] = [
     (b"abcdefghijklmno", b"b", Some(0)),
     (b"abcdefghijklmnop", b"", None),
     (b"", b"abcdefghijklmnop", None),
+    (b"abcdefghijklmnop", b"abcdefghijklmnop", None),
     (b"\xC3", b"\xA9", None),
     (b"abcdefghijklmn\xC3", b"\xA9", None),
     (b"a", b"a\x80", None),
@@ -295,6 +298,8 @@ fn check_short() -> Result<(), Fail> {
             shared_of_short(left, right) == wanted,
             "what short texts share",
         )?;
+        let same = left == right && wanted.is_some();
+        holds(are_same_short(left, right) == same, "same short texts")?;
     }
     Ok(())
 }

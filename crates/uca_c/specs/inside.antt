@@ -1,4 +1,5 @@
 pub mod Crossing
 pub mod Handles
+pub mod Joining
 pub mod TextKeys
 pub mod UpgradeHandles

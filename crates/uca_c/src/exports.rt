@@ -19,6 +19,7 @@ use crate::statuses::{ALREADY_OPEN, CLOSED, MEMORY, OK, SMALL};
 use crate::structs::{Comparison, FileError};
 use crate::{opening, work};
 use std::alloc::Global;
+use uca_lanes::are_same_short;
 
 /// The number of this interface.
 #[unsafe(no_mangle)]
@@ -142,6 +143,30 @@ pub extern "C" fn uca_key(
     status
 }
 
+// Compares two texts by an open collator, without keys. It stands apart, so that two texts that are the same need no collator.
+#[inline(never)]
+fn compare_open(
+    alloc: Global,
+    collator: &mut Slot,
+    left: &[u8],
+    right: &[u8],
+    comparison: &mut Comparison,
+) -> u32
+    requires { collator.old.full ≡ true }
+    ensures ok { result ≡ OK → IsComparison (bytes_compared (keying_at collator.old.handle.kept) left.now right.now)
+        comparison.new.order comparison.new.level }
+    ensures rejected { IsCompareStatus (keying_at collator.old.handle.kept) left.now right.now result }
+    ensures none { result ≢ OK → (comparison.new.order ≡ pos 0) × (comparison.new.level ≡ 0) }
+    ensures open { collator.new.full ≡ true }
+    ensures keying { keying_at collator.new.handle.kept ≡ keying_at collator.old.handle.kept }
+    ensures book { collator.new.handle.kept.book ≡ collator.old.handle.kept.book }
+{
+    let mut opened = take(alloc, collator);
+    let status = work::compare(&mut opened, left, right, comparison);
+    put(collator, opened);
+    status
+}
+
 /// Compares two texts, without keys.
 #[unsafe(no_mangle)]
 pub extern "C" fn uca_compare(
@@ -165,8 +190,26 @@ pub extern "C" fn uca_compare(
         *comparison = Comparison { order: 0, level: 0 };
         return CLOSED;
     }
+    if are_same_short(left, right) {
+        *comparison = Comparison { order: 0, level: 0 };
+        return OK;
+    }
+    compare_open(alloc, collator, left, right, comparison)
+}
+
+// Orders two byte strings by an open collator. It stands apart, as `compare_open` does.
+#[inline(never)]
+fn order_open(alloc: Global, collator: &mut Slot, left: &[u8], right: &[u8], order: &mut i32) -> u32
+    requires { collator.old.full ≡ true }
+    ensures ok { result ≡ OK → IsOrderNumber (keying_at collator.old.handle.kept) left.now right.now order.new }
+    ensures statuses { (result ≡ OK) ⊎ (result ≡ MEMORY) }
+    ensures none { result ≢ OK → order.new ≡ pos 0 }
+    ensures open { collator.new.full ≡ true }
+    ensures keying { keying_at collator.new.handle.kept ≡ keying_at collator.old.handle.kept }
+    ensures book { collator.new.handle.kept.book ≡ collator.old.handle.kept.book }
+{
     let mut opened = take(alloc, collator);
-    let status = work::compare(&mut opened, left, right, comparison);
+    let status = work::order(&mut opened, left, right, order);
     put(collator, opened);
     status
 }
@@ -192,10 +235,11 @@ pub extern "C" fn uca_order(
         *order = 0;
         return CLOSED;
     }
-    let mut opened = take(alloc, collator);
-    let status = work::order(&mut opened, left, right, order);
-    put(collator, opened);
-    status
+    if are_same_short(left, right) {
+        *order = 0;
+        return OK;
+    }
+    order_open(alloc, collator, left, right, order)
 }
 
 /// Compares two stored keys, which have so many levels.

@@ -11,6 +11,7 @@ mod compact_work;
 mod crossing;
 mod exports;
 mod handle;
+mod joining;
 mod kept;
 mod numbers;
 mod open_collator;

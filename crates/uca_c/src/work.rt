@@ -1,10 +1,10 @@
 //! What a call does with an open collator.
 
-ghost use Rattle.std.specs.Prelude.{◌≡◌, ◌≢◌, ◌⊎◌, Some, pos, IfErr, IfOk, OnOk};
+ghost use Rattle.std.specs.Prelude.{◌≡◌, ◌≢◌, ◌⊎◌, Some, pos, IfErr, IfOk, IfSome, OnOk};
 ghost use Rattle.std.specs.Bool.{OnTrue};
 ghost use Rattle.std.specs.Str.{IsUtf8};
 ghost use Rattle.uca_order.specs.Depths.{ReadText};
-ghost use Rattle.uca_order.specs.Keyings.{bytes_compared};
+ghost use Rattle.uca_order.specs.Keyings.{bytes_compared, key_of_bytes};
 ghost use Rattle.uca_compact.specs.CompactKeys.{compact_key, text_parts};
 ghost use Rattle.uca_owned.specs.Causes.{IsAcceptedBy, IsKeyCause};
 ghost use Rattle.uca_owned.specs.Owned.{keying_in};
@@ -13,6 +13,7 @@ ghost use Rattle.uca_c.specs.inside.TextKeys.{IsKeyOf, IsTextKey};
 ghost use Rattle.uca_c.specs.Statuses.{IsKeyStatus, IsCompareStatus};
 ghost use Rattle.uca_c.specs.Results.{WritesKey, IsTooSmall, IsComparison, IsOrderNumber};
 
+use crate::joining::join_levels;
 use crate::numbers::number_of_order;
 use crate::open_collator::OpenCollator;
 use crate::statuses::{MEMORY, OK, SMALL, status_of_text, status_of_texts};
@@ -112,6 +113,52 @@ pub(crate) fn make_compact(
     }
 }
 
+// Writes the key of a text of its levels, with no copy of it in the collator. There is no result if they are not made without
+// the key.
+fn write_levels(
+    collator: &mut OwnedCollator,
+    text: &[u8],
+    out: &mut [u8],
+    needed: &mut usize,
+) -> Option<u32>
+    ensures ok { let key = key_of_bytes (keying_in collator.old) text.now in
+        IfSome result (λ status. status ≡ OK → WritesKey key out.old out.new needed.new) }
+    ensures small { let key = key_of_bytes (keying_in collator.old) text.now in
+        IfSome result (λ status. status ≡ SMALL → IsTooSmall key out.old needed.new) }
+    ensures rejected { IfSome result (λ status. IsKeyStatus (keying_in collator.old) text.now status) }
+    ensures unwritten { result ≢ Some OK → out.new ≡ out.old }
+    ensures none { result ≢ Some OK → result ≢ Some SMALL → needed.new ≡ needed.old }
+    ensures keying { keying_in collator.new ≡ keying_in collator.old }
+{
+    match collator.make_levels(text) {
+        Ok(true) => {
+            let weighting = collator.settings().weighting;
+            join_levels(&collator.levels(), weighting, out, needed)
+        }
+        Ok(false) => None,
+        Err(_) => Some(MEMORY),
+    }
+}
+
+// Writes the key of a text where it has room, and how many bytes it has.
+fn write_whole(collator: &mut OwnedCollator, text: &[u8], out: &mut [u8], needed: &mut usize) -> u32
+    requires { needed.old ≡ 0 }
+    ensures ok { result ≡ OK → WritesKey (key_of_bytes (keying_in collator.old) text.now) out.old out.new needed.new }
+    ensures small { result ≡ SMALL → IsTooSmall (key_of_bytes (keying_in collator.old) text.now) out.old needed.new }
+    ensures rejected { IsKeyStatus (keying_in collator.old) text.now result }
+    ensures unwritten { result ≢ OK → out.new ≡ out.old }
+    ensures none { result ≢ OK → result ≢ SMALL → needed.new ≡ 0 }
+    ensures keying { keying_in collator.new ≡ keying_in collator.old }
+{
+    if let Some(status) = write_levels(collator, text, out, needed) {
+        return status;
+    }
+    match collator.make_key(text) {
+        Ok(()) => copy_out(collator.key(), out, needed),
+        Err(fault) => status_of_text(fault),
+    }
+}
+
 // Writes the key of a text where it has room, and how many bytes it has.
 pub fn write_key(
     collator: &mut OpenCollator,
@@ -129,12 +176,7 @@ pub fn write_key(
 {
     *needed = 0;
     match &mut collator.compacter {
-        None => {
-            if let Err(fault) = collator.collator.make_key(text) {
-                return status_of_text(fault);
-            }
-            copy_out(collator.collator.key(), out, needed)
-        }
+        None => write_whole(&mut collator.collator, text, out, needed),
         Some(compacter) => {
             let made = &mut collator.made;
             if let Err(fault) = make_compact(&mut collator.collator, compacter, text, made) {

@@ -1,5 +1,5 @@
 -- Two short texts, with zeros after each.
-use Rattle.std.proofs.Common.{◌≡◌, ℕ, suc, ◌+◌, ◌-◌, ◌<◌, ◌≤◌, ◌↔◌, List, ◌++◌, length, length-append, get_or, min, replicate, refl, sym, subst, ap, ap₂, ◌∙◌, arith, append_assoc, append-nil, take_all}
+use Rattle.std.proofs.Common.{◌≡◌, ℕ, suc, ◌+◌, ◌-◌, ◌<◌, ◌≤◌, ◌↔◌, List, ◌++◌, length, length-append, get_or, min, replicate, take, refl, sym, subst, ap, ap₂, ◌∙◌, arith, append_assoc, take_all}
 use Rattle.std.specs.Str.{IsUtf8}
 use Rattle.std.proofs.lemmas.List.{get_or_append_left, get_or_at, take_at, drop_at, length-replicate}
 use Rattle.std.proofs.lemmas.Str.{IsUtf8-append, IsUtf8-take, IsUtf8-drop, IsCharBoundary-before_ascii}
@@ -42,7 +42,7 @@ both_texts left right one other few is is_too =
       λ h. subst IsUtf8 (sym same) (IsUtf8-append left (zeros (suc n) ++ padded right) h.0 (zeros_before.1 (zeros_after.1 h.1))),
     )
 
--- ---- Whether both are UTF-8, where they are the same
+-- ---- Whether both are the same
 
 zeroth : (k : ℕ) → 0 + k ≡ k
 zeroth k = omega arith
@@ -58,17 +58,14 @@ same_padded left right one other few few_too is is_too run =
     ∙ same_front 16 one other (omega (arith, one_long)) (omega (arith, other_long)) (λ i below. subst (λ n. get_or one n 0 ≡ get_or other n 0) (zeroth i) (run.are i below))
     ∙ take_all 16 other (omega (arith, other_long))
 
-pub same_texts : (left right one other : List ℕ) → length left ≤ 15 → length right ≤ 15 → one ≡ padded left → other ≡ padded right
-    → IsSameRun one other 0 0 16 16 → IsUtf8 (joined one (zeros 16) 16) ↔ (IsUtf8 left × IsUtf8 right)
-same_texts left right one other few few_too is is_too run =
-    let zeros_after : (bytes : List ℕ) → IsUtf8 (padded bytes) ↔ IsUtf8 bytes =
-    (λ bytes. IsUtf8-append_ascii bytes (zeros (16 - length bytes)) (IsAscii-replicate (16 - length bytes) 0 (omega arith))) in
-    let same = same_padded left right one other few few_too is is_too run in
-    let whole : joined one (zeros 16) 16 ≡ one = append-nil one in (
-      λ u. (let text = subst IsUtf8 whole u in
-          ((zeros_after left).0 (subst IsUtf8 is text), (zeros_after right).0 (subst IsUtf8 (same ∙ is_too) text))),
-      λ h. subst IsUtf8 (sym whole) (subst IsUtf8 (sym is) ((zeros_after left).1 h.0)),
-    )
+-- they are as long, so they are the same
+pub same_texts : (left right one other : List ℕ) → length left ≤ 15 → length left ≡ length right → one ≡ padded left → other ≡ padded right
+    → IsSameRun one other 0 0 16 16 → left ≡ right
+same_texts left right one other few long is is_too run =
+    let same = same_padded left right one other few (omega (arith, few, long)) is is_too run in
+    sym (take_at left (zeros (16 - length left)) (length left) refl)
+    ∙ ap (take (length left)) (sym is ∙ same ∙ is_too)
+    ∙ take_at right (zeros (16 - length right)) (length left) (sym long)
 
 -- ---- What they have in common
 

@@ -11,13 +11,19 @@ use Rattle.uca_lanes.specs.inside.Marks.{joined}
 zero_is_ascii : 0 < 128
 zero_is_ascii = omega arith
 
-pub of_few : (bytes lanes : List ℕ) (t : Bool) → lanes ≡ bytes ++ replicate (16 - length bytes) 0 → (IsTrue t ↔ IsUtf8 (joined lanes (replicate 16 0) 16))
-    → MatchBool t (IsUtf8 bytes) (¬ (IsUtf8 bytes))
-of_few bytes lanes t spelled judged =
+-- few bytes are judged with zeros after them
+pub with_zeros_judged : (bytes lanes : List ℕ) → lanes ≡ bytes ++ replicate (16 - length bytes) 0 → IsUtf8 (joined lanes (replicate 16 0) 16) ↔ IsUtf8 bytes
+with_zeros_judged bytes lanes spelled =
     let pad : List ℕ = replicate (16 - length bytes) 0 in
     let same : joined lanes (replicate 16 0) 16 ≡ bytes ++ pad = append-nil lanes ∙ spelled in
     let plain = IsUtf8-append_ascii bytes pad (IsAscii-replicate (16 - length bytes) 0 zero_is_ascii) in
-    cases_from_iff (λ on. plain.0 (subst IsUtf8 same (judged.0 on)), λ u. judged.1 (subst IsUtf8 (sym same) (plain.1 u)))
+    (λ u. plain.0 (subst IsUtf8 same u), λ u. subst IsUtf8 (sym same) (plain.1 u))
+
+pub of_few : (bytes lanes : List ℕ) (t : Bool) → lanes ≡ bytes ++ replicate (16 - length bytes) 0 → (IsTrue t ↔ IsUtf8 (joined lanes (replicate 16 0) 16))
+    → MatchBool t (IsUtf8 bytes) (¬ (IsUtf8 bytes))
+of_few bytes lanes t spelled judged =
+    let whole = with_zeros_judged bytes lanes spelled in
+    cases_from_iff (λ on. whole.0 (judged.0 on), λ u. judged.1 (whole.1 u))
 
 pub of_more : (bytes : List ℕ) (t : Bool) → 16 < length bytes → length bytes ≤ 32
     → (IsTrue t ↔ IsUtf8 (joined (chunk 0 16 bytes) (chunk (length bytes - 16) 16 bytes) (32 - length bytes))) → MatchBool t (IsUtf8 bytes) (¬ (IsUtf8 bytes))

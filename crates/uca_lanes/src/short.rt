@@ -1,6 +1,7 @@
 //! Two short texts at once: whether both are UTF-8, and how many bytes they have in common.
 
-ghost use Rattle.std.specs.Prelude.{◌≤◌, length, MatchOption};
+ghost use Rattle.std.specs.Prelude.{◌≡◌, ◌≤◌, length, MatchOption};
+ghost use Rattle.std.specs.Bool.{MatchBool};
 ghost use Rattle.std.specs.Str.{IsUtf8};
 ghost use Rattle.uca_lanes.specs.Shared.{IsSharedLen};
 ghost use Rattle.uca_lanes.specs.inside.Lanes.{IsSameRun};
@@ -36,17 +37,25 @@ pub fn shared_of_short(left: &[u8], right: &[u8]) -> Option<usize>
     }
     let one = with_zeros(left);
     let other = with_zeros(right);
-    let same = same_of_sixteen(one, other);
-    if same == 16 {
-        // both have the same bytes, so one of them is judged
-        return if are_utf8(one, u8x16::splat(0), 16) {
-            Some(left.len().min(right.len()))
-        } else {
-            None
-        };
-    }
     if !are_utf8(one, other, 0) {
         return None;
     }
+    let same = same_of_sixteen(one, other);
     Some(same.min(left.len()).min(right.len()))
+}
+
+/// Whether two texts of at most fifteen bytes are the same, and UTF-8 (the Unicode Standard, section 3.9, table 3-7). For
+/// example, `cart` and `cart` are. One of the two is judged.
+#[inline(always)]
+pub fn are_same_short(left: &[u8], right: &[u8]) -> bool
+    ensures { MatchBool result
+        ((length left.now ≤ 15) × (left.now ≡ right.now) × IsUtf8 left.now)
+        (¬ ((length left.now ≤ 15) × (left.now ≡ right.now) × IsUtf8 left.now)) }
+{
+    if left.len() > SHORT || left.len() != right.len() {
+        return false;
+    }
+    let one = with_zeros(left);
+    let other = with_zeros(right);
+    same_of_sixteen(one, other) == 16 && are_utf8(one, u8x16::splat(0), 16)
 }

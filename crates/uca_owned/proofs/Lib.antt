@@ -1,5 +1,5 @@
 pub mod InMemory
 mod KeyBounds
-mod OrderLemmas
+pub mod OrderLemmas
 mod Rejected
 mod SharedBytes

@@ -165,7 +165,7 @@ impl OwnedCollator {
         compare_bytes(
             &*self.collation,
             &mut self.comparison,
-            self.settings,
+            &self.settings,
             left,
             right,
         )

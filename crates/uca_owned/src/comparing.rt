@@ -49,21 +49,21 @@ fn compare_same(left: &[u8], right: &[u8]) -> Option<(Ordering, u8)>
 pub(crate) fn compare_bytes(
     collation: &OwnedCollation,
     comparison: &mut TextComparison,
-    settings: Settings,
+    settings: &Settings,
     left: &[u8],
     right: &[u8],
 ) -> Result<(Ordering, u8), CompareFault>
     requires { Knows (owned_collation collation.now) comparison.old }
     ensures known { Knows (owned_collation collation.now) comparison.new }
     ensures compared { IfOk result (λ pair.
-        let answer = bytes_compared (keying_by (owned_collation collation.now) settings) left.now right.now in
+        let answer = bytes_compared (keying_by (owned_collation collation.now) settings.now) left.now right.now in
         (pair.0 ≡ answer.order) × (pair.1 ≡ answer.level)) }
     ensures accepted { let properties = properties_of collation.now.properties in OnOk result (
-        IsAcceptedText settings.numbers properties left.now × IsAcceptedText settings.numbers properties right.now) }
+        IsAcceptedText settings.now.numbers properties left.now × IsAcceptedText settings.now.numbers properties right.now) }
     ensures fault { let properties = properties_of collation.now.properties in
-        IfErr result (IsCompareCause settings.numbers properties left.now right.now) }
+        IfErr result (IsCompareCause settings.now.numbers properties left.now right.now) }
 {
-    if let Some(pair) = compare_short(comparison, settings, left, right) {
+    if let Some(pair) = compare_short(comparison, *settings, left, right) {
         return Ok(pair);
     }
     // taken apart, so that the result of `compare_short` stays in registers
@@ -71,8 +71,8 @@ pub(crate) fn compare_bytes(
     Ok(pair)
 }
 
-// How two texts of at most fifteen bytes compare, if they are the same, or differ at level 1 after the code points with which
-// both begin. There is no result for others, and where nothing is known of a code point yet.
+// How two texts of at most fifteen bytes compare, if they differ at level 1 after the code points with which both begin. There
+// is no result for others, and where nothing is known of a code point yet.
 #[inline(always)]
 fn compare_short(
     comparison: &TextComparison,
@@ -85,9 +85,6 @@ fn compare_short(
     ensures accepted { (k : Keying) → IfSome result (λ _. IsAcceptedBy k left.now × IsAcceptedBy k right.now) }
 {
     let (left_text, right_text, shared) = read_short(left, right)?;
-    if shared == left.len() && shared == right.len() {
-        return Some((Ordering::Equal, 0));
-    }
     let order = comparison.order_after(settings, left_text, right_text, shared)?;
     Some((order, 1))
 }
@@ -97,19 +94,19 @@ fn compare_short(
 fn compare_all(
     collation: &OwnedCollation,
     comparison: &mut TextComparison,
-    settings: Settings,
+    settings: &Settings,
     left: &[u8],
     right: &[u8],
 ) -> Result<(Ordering, u8), CompareFault>
     requires { Knows (owned_collation collation.now) comparison.old }
     ensures known { Knows (owned_collation collation.now) comparison.new }
     ensures compared { IfOk result (λ pair.
-        let answer = bytes_compared (keying_by (owned_collation collation.now) settings) left.now right.now in
+        let answer = bytes_compared (keying_by (owned_collation collation.now) settings.now) left.now right.now in
         (pair.0 ≡ answer.order) × (pair.1 ≡ answer.level)) }
     ensures accepted { let properties = properties_of collation.now.properties in OnOk result (
-        IsAcceptedText settings.numbers properties left.now × IsAcceptedText settings.numbers properties right.now) }
+        IsAcceptedText settings.now.numbers properties left.now × IsAcceptedText settings.now.numbers properties right.now) }
     ensures fault { let properties = properties_of collation.now.properties in
-        IfErr result (IsCompareCause settings.numbers properties left.now right.now) }
+        IfErr result (IsCompareCause settings.now.numbers properties left.now right.now) }
 {
     if let Some(pair) = compare_same(left, right) {
         return Ok(pair);
@@ -119,14 +116,14 @@ fn compare_all(
     };
     let shared = shared_len(left, right);
     let Some(right_text) = read_after(left_text, shared, right) else {
-        return match judge_text(collation, comparison, settings, left_text) {
+        return match judge_text(collation, comparison, *settings, left_text) {
             Ok(()) => Err(CompareFault::Right(KeyFault::Utf8)),
             Err(fault) => Err(CompareFault::Left(KeyFault::Text(fault))),
         };
     };
-    match comparison.order_after(settings, left_text, right_text, shared) {
+    match comparison.order_after(*settings, left_text, right_text, shared) {
         Some(order) => Ok((order, 1)),
-        None => compare_whole(collation, comparison, settings, left_text, right_text),
+        None => compare_whole(collation, comparison, *settings, left_text, right_text),
     }
 }
 

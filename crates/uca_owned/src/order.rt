@@ -39,20 +39,20 @@ const SHORT: usize = 15;
 fn order_bytes(
     collation: &OwnedCollation,
     comparison: &mut TextComparison,
-    settings: Settings,
+    settings: &Settings,
     left: &[u8],
     right: &[u8],
 ) -> Result<Ordering, AllocError>
     requires { Knows (owned_collation collation.now) comparison.old }
     ensures known { Knows (owned_collation collation.now) comparison.new }
-    ensures order { IfOk result (IsOrder (keying_by (owned_collation collation.now) settings) left.now right.now) }
+    ensures order { IfOk result (IsOrder (keying_by (owned_collation collation.now) settings.now) left.now right.now) }
 {
     if left.len() > SHORT && left == right {
         return Ok(Ordering::Equal);
     }
     match compare_bytes(collation, comparison, settings, left, right) {
         Ok(pair) => Ok(pair.0),
-        Err(fault) => order_rejected(collation, comparison, settings, left, right, fault),
+        Err(fault) => order_rejected(collation, comparison, *settings, left, right, fault),
     }
 }
 
@@ -126,7 +126,7 @@ impl OwnedCollator {
         order_bytes(
             &*self.collation,
             &mut self.comparison,
-            self.settings,
+            &self.settings,
             left,
             right,
         )

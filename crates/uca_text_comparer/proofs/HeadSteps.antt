@@ -31,6 +31,13 @@ heads_on c weighting from (first ∷ heads) head all next =
     let there : from + suc (length heads) ≡ suc from + length heads = omega arith in
     (all.0, heads_on c weighting (suc from) heads head all.1 (subst (λ n. IsTrueHead c weighting n head) there next))
 
+-- and so are the first ones
+pub first_heads : (c : Collation) (weighting : Weighting) (from count : ℕ) (heads : List Head) → AreHeadsFrom c weighting from heads
+    → AreHeadsFrom c weighting from (take count heads)
+first_heads c weighting from zero heads all = tt
+first_heads c weighting from (suc count) [] all = tt
+first_heads c weighting from (suc count) (head ∷ heads) all = (all.0, first_heads c weighting (suc from) count heads all.1)
+
 -- ---- The head of an entry
 
 not_bound : (b : Bool) (count : ℕ) → MatchBool b (3 < count) (count ≤ 3) → not b ≡ true → count ≤ 3

@@ -11,6 +11,7 @@ ghost use Rattle.uca_plain.specs.PointCache.{AreTrueEntries};
 ghost use Rattle.uca_text_comparer.specs.Heads.{AreTrueHeads};
 ghost use Rattle.uca_text_comparer.specs.inside.Beginnings.{HaveRests, DifferFirst};
 
+use crate::ascii::order_ascii;
 use crate::heads::Heads;
 use crate::next::{begins_plain, next_head};
 use std::alloc::Allocator;
@@ -101,6 +102,38 @@ fn order_cut<A: Allocator>(
     }
 }
 
+// An order of two texts, unless it is `Equal`, which says nothing of them.
+#[inline(always)]
+fn unless_equal(order: Ordering) -> Option<Ordering>
+    ensures { IfSome result (λ found. (found ≡ order) × (order ≢ Equal)) }
+{
+    match order {
+        Ordering::Equal => None,
+        Ordering::Less | Ordering::Greater => Some(order),
+    }
+}
+
+// What `order_rests` returns under the weighting of the heads, whatever the code points are.
+#[inline(never)]
+fn order_all<A: Allocator>(
+    points: &PointCache<A>,
+    heads: &Heads,
+    left: &str,
+    right: &str,
+    shared: usize,
+) -> Option<Ordering>
+    requires within { shared ≤ length left.now }
+    requires within_too { shared ≤ length right.now }
+    requires same { take shared left.now ≡ take shared right.now }
+    ensures { (c : Collation) → AreTrueEntries c points.now.entries.items → AreTrueHeads c heads.now →
+        IfSome result (DifferFirst c heads.now.weighting (chars left.now) (chars right.now)) }
+{
+    match order_heads(heads, left, right, shared) {
+        Some(order) => unless_equal(order),
+        None => order_cut(points, heads.weighting, left, right, shared),
+    }
+}
+
 /// The order of two texts that differ at level 1 after the code points with which both begin. Their first bytes are the
 /// same, so many of them. There is no result for others. Each code point up to the one after the difference has to be known
 /// and plain. Those up to the difference need a weight at level 1, and those before it no more than one.
@@ -118,14 +151,13 @@ pub(crate) fn order_rests<A: Allocator>(
         IfSome result (DifferFirst c weighting (chars left.now) (chars right.now)) }
 {
     let at = shared.min(left.len()).min(right.len());
-    if heads.weighting == weighting
-        && let Some(order) = order_heads(heads, left, right, at)
-    {
-        return if order == Ordering::Equal {
-            None
-        } else {
-            Some(order)
-        };
+    if heads.weighting != weighting {
+        return order_cut(points, weighting, left, right, at);
     }
-    order_cut(points, weighting, left, right, at)
+    if let Some(ascii) = heads.ascii()
+        && let Some(order) = order_ascii(ascii, left, right, at)
+    {
+        return unless_equal(order);
+    }
+    order_all(points, heads, left, right, at)
 }

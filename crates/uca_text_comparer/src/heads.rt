@@ -5,10 +5,11 @@ ghost use Rattle.std.specs.Bool.{OnTrue};
 ghost use Rattle.std.specs.Str.{IsCharBoundary};
 ghost use Rattle.uca_elements.specs.Collations.{Collation, collation_of};
 ghost use Rattle.uca_plain.specs.PointCache.{IsTrueEntry, AreTrueEntries};
-ghost use Rattle.uca_text_comparer.specs.Heads.{IsTrueHead, AreTrueHeads};
+ghost use Rattle.uca_text_comparer.specs.Heads.{IsTrueHead, AreHeadsFrom, AreTrueHeads};
 ghost use Rattle.uca_text_comparer.specs.inside.LevelOne.{HasNext, Decides};
 ghost use Rattle.uca_text_comparer.specs.inside.Shared.{BeginsPlain};
 
+use crate::ascii::ASCII;
 use crate::primaries::primary_of;
 use std::alloc::{AllocError, Allocator, Global};
 use uca_elements::{Collator, Lookup};
@@ -154,6 +155,16 @@ impl Heads {
             self.items.push(Head::of(weighting, &known))?;
         }
         Ok(())
+    }
+
+    /// The heads of ASCII, if they are known.
+    #[inline(always)]
+    pub(crate) fn ascii(&self) -> Option<&[Head; ASCII]>
+        ensures { (c : Collation) → AreTrueHeads c self.now →
+            IfSome result (λ heads. AreHeadsFrom c self.now.weighting 0 heads.now) }
+    {
+        let (heads, _) = self.items.split_first_chunk::<ASCII>()?;
+        Some(heads)
     }
 
     /// The head of what a text has at this position, and the position after it. There is no result for a code point that has

@@ -1,35 +1,7 @@
 -- The zeros after the left text part it from the right one.
-use Rattle.std.proofs.Common.{◌≡◌, ◌∙◌, false, true, length, min, ap, refl, arith, subst}
-use Rattle.uca_lanes.specs.inside.Lanes.{IsSameRun}
-use Rattle.uca_lanes.proofs.ShortTexts.{both_texts, same_texts, shared_of_padded}
+use Rattle.std.proofs.Common.{◌≡◌, ◌∙◌, false, true, length, min, ap, refl, arith}
+use Rattle.uca_lanes.proofs.ShortTexts.{both_texts, shared_of_padded}
 use Rattle.uca_lanes.proofs.short.shared_of_short.Goals as goal
-
-pub returns-then-are_utf8 : goal.returns-then-are_utf8
-returns-then-are_utf8 c =
-    let left = c.args.left.now in
-    let right = c.args.right.now in
-    let few = c.if-left-gt-SHORT.false in
-    let few_too = c.if-right-gt-SHORT.false in
-    let one = c.with_zeros-one.result in
-    let other = c.with_zeros-other.result in
-    let run = subst (λ n. IsSameRun one other 0 0 16 n) c.if-same-eq16.true c.same_of_sixteen-same.ensures in
-    let judged = same_texts left right one other (omega (arith, few)) (omega (arith, few_too)) c.with_zeros-one.ensures c.with_zeros-other.ensures run in
-    let texts = judged.0 (c.if-are_utf8.ensures.0 refl) in (
-      omega (arith, few),
-      omega (arith, few_too),
-      texts.0,
-      texts.1,
-      shared_of_padded left right one other 16 c.min.result (omega (arith, few)) (omega (arith, few_too)) c.with_zeros-one.ensures c.with_zeros-other.ensures run
-          (omega (arith, c.min.ensures, few, few_too)),
-    )
-
-pub returns-else-are_utf8 : goal.returns-else-are_utf8
-returns-else-are_utf8 c = λ few few_too both.
-    let one = c.with_zeros-one.result in
-    let other = c.with_zeros-other.result in
-    let run = subst (λ n. IsSameRun one other 0 0 16 n) c.if-same-eq16.true c.same_of_sixteen-same.ensures in
-    let judged = same_texts c.args.left.now c.args.right.now one other few few_too c.with_zeros-one.ensures c.with_zeros-other.ensures run in
-    let wrong : false ≡ true = c.if-are_utf8.ensures.1 (judged.1 both) in absurd cc
 
 pub returns-then-not-are_utf8 : goal.returns-then-not-are_utf8
 returns-then-not-are_utf8 c = λ few few_too both.
@@ -48,7 +20,7 @@ returns c =
       omega (arith, few_too),
       texts.0,
       texts.1,
-      shared_of_padded left right c.with_zeros-one.result c.with_zeros-other.result c.same_of_sixteen-same.result c.min-3.result
+      shared_of_padded left right c.with_zeros-one.result c.with_zeros-other.result c.same_of_sixteen-same.result c.min-2.result
           (omega (arith, few)) (omega (arith, few_too)) c.with_zeros-one.ensures c.with_zeros-other.ensures c.same_of_sixteen-same.ensures
-          (c.min-3.ensures ∙ ap (λ n. min n (length right)) c.min-2.ensures),
+          (c.min-2.ensures ∙ ap (λ n. min n (length right)) c.min.ensures),
     )

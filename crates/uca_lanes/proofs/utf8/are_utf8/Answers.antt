@@ -1,4 +1,4 @@
-use Rattle.std.proofs.Common.{ℕ, ◌≡◌, ◌↔◌, ◌&&◌, ◌+◌, ◌*◌, ◌∙◌, IsTrue, nat_eq, refl, sym, ap₂, arith, eq-eqb, eqb-true}
+use Rattle.std.proofs.Common.{ℕ, ◌≡◌, ◌↔◌, ◌&&◌, ◌+◌, ◌*◌, ◌∙◌, IsTrue, nat_eq, sym, ap₂, arith, eq-eqb, eqb-true}
 use Rattle.std.proofs.lemmas.Bool.{and_parts, and_from}
 use Rattle.uca_lanes.specs.inside.Marks.{joined}
 use Rattle.uca_lanes.proofs.CodePoints.{agree-IsUtf8, few-IsUtf8}

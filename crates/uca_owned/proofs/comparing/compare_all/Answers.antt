@@ -6,10 +6,10 @@ use Rattle.uca_owned.proofs.OrderLemmas.{accepted_bytes}
 use Rattle.uca_owned.proofs.comparing.compare_all.Goals as goal
 
 pub returns-in-Some-clause-compared : goal.returns-in-Some-clause-compared
-returns-in-Some-clause-compared c = c.in-Some.ensures.compared (keying_by (owned_collation c.args.collation.now) c.args.settings)
+returns-in-Some-clause-compared c = c.in-Some.ensures.compared (keying_by (owned_collation c.args.collation.now) c.args.settings.now)
 
 pub returns-in-Some-clause-accepted : goal.returns-in-Some-clause-accepted
-returns-in-Some-clause-accepted c = c.in-Some.ensures.accepted (keying_by (owned_collation c.args.collation.now) c.args.settings)
+returns-in-Some-clause-accepted c = c.in-Some.ensures.accepted (keying_by (owned_collation c.args.collation.now) c.args.settings.now)
 
 pub returns-in-Some-order_after-clause-accepted : goal.returns-in-Some-order_after-clause-accepted
 returns-in-Some-order_after-clause-accepted c =
@@ -17,4 +17,4 @@ returns-in-Some-order_after-clause-accepted c =
     let accepted = c.in-Some-order_after.ensures.accepted properties in
     let left = c.in-Some-read_text.ensures in
     let right = c.in-Some-read_after.ensures in
-    (accepted_bytes c.args.settings.numbers properties _ c.args.left.now left.0 left.1 accepted.0, accepted_bytes c.args.settings.numbers properties _ c.args.right.now right.0 right.1 accepted.1)
+    (accepted_bytes c.args.settings.now.numbers properties _ c.args.left.now left.0 left.1 accepted.0, accepted_bytes c.args.settings.now.numbers properties _ c.args.right.now right.0 right.1 accepted.1)
