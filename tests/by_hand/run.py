@@ -28,6 +28,7 @@ TESTS = {
     "tool_errors": [],
     "bindings": [],
     "postgresql_texts": [],
+    "postgresql_memory": [],
     "page_heap": [],
     "page": [],
     "other_languages": [],
