@@ -66,6 +66,7 @@ static void check_closed(void)
     CHECK(uca_collator_size() == sizeof(uca_collator));
     CHECK(uca_key(&closed, BYTES("a"), out, ROOM, &needed) == UCA_CLOSED && needed == 0 && out[0] == 0xEE);
     CHECK(uca_compare(&closed, BYTES("a"), BYTES("b"), &found) == UCA_CLOSED && found.order == 0 && found.level == 0);
+    CHECK(uca_compare(&closed, BYTES("a"), BYTES("a"), &found) == UCA_CLOSED);
     uca_close(&closed);
     CHECK(!closed.is_open);
 }
@@ -210,6 +211,7 @@ static void check_order(uca_collator *it)
     int32_t found = 7;
     uca_collator closed = UCA_CLOSED_COLLATOR;
     CHECK(uca_order(&closed, BYTES("a"), BYTES("b"), &found) == UCA_CLOSED && found == 0);
+    CHECK(uca_order(&closed, BYTES("a"), BYTES("a"), &found) == UCA_CLOSED);
     CHECK(is_order(it, BYTES("a"), BYTES("b"), -1));
     CHECK(is_order(it, BYTES("\xC3\xA1"), BYTES("a\xCC\x81"), 0));
     CHECK(is_order(it, BYTES("b"), BYTES("a\xFF"), -1));
