@@ -62,18 +62,21 @@ const BEGINNINGS: [(&str, &str, usize, Option<Ordering>); 15] = [
 ];
 
 /// Rows of a table, after those of the digits. They are of a capital letter with the weight of the small one, a variable
-/// hyphen, and a letter with two weights. Then come two letters of two bytes, and one of three bytes.
+/// hyphen, and two letters with two weights: one of ASCII, one of two bytes. Then come two letters of two bytes, and one of three
+/// bytes.
 const MORE_ROWS: &str = "0041 ; [.1C47.0020.0008]\n\
     002D ; [*020D.0020.0002]\n\
+    0057 ; [.1C60.0020.0008][.1C60.0020.0008]\n\
     00DF ; [.1C60.0020.0004][.0000.0024.0004][.1C60.0020.0004]\n\
     03B1 ; [.1C70.0020.0002]\n\
     03B2 ; [.1C71.0020.0002]\n\
     0905 ; [.1C80.0020.0002]\n";
 
 /// Two texts and their order, first where variable elements are non-ignorable, and then where they are shifted: a hyphen has
-/// no weight at level 1 then. Where the next code points have the same weight, those after them decide. Two letters may have
-/// their first byte in common.
-const HEADS: [(&str, &str, Option<Ordering>, Option<Ordering>); 18] = [
+/// no weight at level 1 then. Where the next code points have the same weight, those after them decide, but not after a letter
+/// with two weights. Two letters may have their first byte in common. After the letters that differ there may be a letter of two
+/// bytes, but no accent.
+const HEADS: [(&str, &str, Option<Ordering>, Option<Ordering>); 21] = [
     ("Ab", "aa", Some(Greater), Some(Greater)),
     ("aAa", "aab", Some(Less), Some(Less)),
     ("A", "ab", Some(Less), Some(Less)),
@@ -89,6 +92,9 @@ const HEADS: [(&str, &str, Option<Ordering>, Option<Ordering>); 18] = [
     ("\u{df}", "a", Some(Greater), Some(Greater)),
     ("\u{df}a", "bb", None, None),
     ("b\u{df}", "a\u{df}", Some(Greater), Some(Greater)),
+    ("W", "a", Some(Greater), Some(Greater)),
+    ("Wa", "bb", None, None),
+    ("bW", "aW", Some(Greater), Some(Greater)),
     ("\u{905}", "a", Some(Greater), Some(Greater)),
     ("b\u{3b1}", "a", Some(Greater), Some(Greater)),
     ("b\u{301}", "a", None, None),
@@ -224,6 +230,51 @@ const SHORT: [(&[u8], &[u8], Option<usize>); 28] = [
     (b"\xF0\x9F\x98\x80", b"\xF4\x90\x80\x80", None),
 ];
 
+/// Two byte strings, and whether both are one text of at most 32 bytes. Fewer than eight bytes are compared as one number. Up to
+/// sixteen are compared as two, and more as their first sixteen and their last sixteen.
+const SAME: [(&[u8], &[u8], bool); 24] = [
+    (b"", b"", true),
+    (b"cart", b"cart", true),
+    (b"cart", b"cast", false),
+    (b"cart", b"carts", false),
+    (b"a", b"a\0", false),
+    (b"\0", b"", false),
+    (b"\xC3\xA9", b"\xC3\xA9", true),
+    (b"\xC3", b"\xC3", false),
+    (b"abcdefgh\x80", b"abcdefgh\x80", false),
+    (b"abcdefghi", b"abcdefghi", true),
+    (b"abcdefghi", b"bbcdefghi", false),
+    (b"abcdefghijklmno", b"abcdefghijklmno", true),
+    (b"abcdefghijklmnop", b"abcdefghijklmnop", true),
+    (b"abcdefghijklmnop", b"abcdefghijklmnoq", false),
+    (b"abcdefghijklmno\xC3", b"abcdefghijklmno\xC3", false),
+    (b"abcdefghijklmnopq", b"abcdefghijklmnopq", true),
+    (b"abcdefghijklmnopq", b"bbcdefghijklmnopq", false),
+    (b"abcdefghijklmnopq", b"abcdefghijklmnopr", false),
+    (b"abcdefghijklmno\xC3\xA9", b"abcdefghijklmno\xC3\xA9", true),
+    (b"abcdefghijklmnopq\xC3", b"abcdefghijklmnopq\xC3", false),
+    (
+        b"abcdefghijklmnopqrstuvwxyzabcd\xC3\xA9",
+        b"abcdefghijklmnopqrstuvwxyzabcd\xC3\xA9",
+        true,
+    ),
+    (
+        b"abcdefghijklmnopqrstuvwxyzabcdef",
+        b"abcdefghijklmnopqrstuvwxyzabcdeg",
+        false,
+    ),
+    (
+        b"abcdefghijklmnopqrstuvwxyzabcdef",
+        b"abcdefghijklmnopqrstuvwxyzabcde",
+        false,
+    ),
+    (
+        b"abcdefghijklmnopqrstuvwxyzabcdefg",
+        b"abcdefghijklmnopqrstuvwxyzabcdefg",
+        false,
+    ),
+];
+
 /// A number that two bytes spell, and another one: the same bytes turned, one byte of two, or both.
 const NUMBERS: [(u16, u16); 5] = [
     (0x0020, 0x2000),
@@ -298,8 +349,13 @@ fn check_short() -> Result<(), Fail> {
             shared_of_short(left, right) == wanted,
             "what short texts share",
         )?;
-        let same = left == right && wanted.is_some();
-        holds(are_same_short(left, right) == same, "same short texts")?;
+    }
+    Ok(())
+}
+
+fn check_same() -> Result<(), Fail> {
+    for (left, right, wanted) in SAME {
+        holds(are_same_short(left, right) == wanted, "same short texts")?;
     }
     Ok(())
 }
@@ -463,6 +519,7 @@ fn check_all<L: Lookup>(alloc: Global, collator: &Collator<L>) -> Result<(), Fai
     check_known_beginnings(&comparison)?;
     check_later(&comparison, true)?;
     check_short()?;
+    check_same()?;
     check_utf8(alloc)?;
     check_runs(alloc)?;
     check_lengths(alloc, &comparison)?;

@@ -16,7 +16,7 @@ same_compared k left right same =
     subst (λ (other : List ℕ). IsComparison (bytes_compared k left other) (pos 0) 0) same
     (record { order = ap (λ (it : Comparison). order_number it.order) itself; level = ap (λ (it : Comparison). it.level) itself })
 
-pub same_accepted : (k : Keying) (left right : List ℕ) → left ≡ right → length left ≤ 15 → IsUtf8 left → IsCompareStatus k left right OK
+pub same_accepted : (k : Keying) (left right : List ℕ) → left ≡ right → length left ≤ 32 → IsUtf8 left → IsCompareStatus k left right OK
 same_accepted k left right same short utf8 =
     let accepted = short_accepted k left utf8 (omega (arith, short)) in
     subst (λ (other : List ℕ). IsCompareStatus k left other OK) same (inl (accepted, accepted, refl))

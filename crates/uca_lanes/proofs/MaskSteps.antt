@@ -1,11 +1,12 @@
 -- From vectors, masks and numbers to the bytes that they are made of.
-use Rattle.std.proofs.Common.{◌≡◌, ℕ, zero, suc, ◌+◌, ◌-◌, ◌*◌, ◌/◌, ◌%◌, ◌^◌, ◌<◌, ◌≤◌, Bool, true, false, cond, List, [], ◌∷◌, ◌++◌, map, length, take, drop, get_or, replicate, leb, eqb, w8, Fits, refl, sym, ap, ◌∙◌, arith, take_all, take-append-drop, subst, ap₂}
+use Rattle.std.proofs.Common.{◌≡◌, ℕ, zero, suc, ◌+◌, ◌-◌, ◌*◌, ◌/◌, ◌%◌, ◌^◌, ◌<◌, ◌≤◌, Bool, true, false, cond, List, [], ◌∷◌, ◌++◌, map, length, take, drop, get_or, replicate, leb, ltb, eqb, w8, Fits, refl, sym, ap, ◌∙◌, arith, take_all, take-append-drop, subst, ap₂, ltb-true, ltb-false, leb-false}
 use Rattle.std.specs.Simd.Lanes.{mask_l, number_l, digits_l, chunk}
+use Rattle.std.proofs.lemmas.Bool.{lt-leb}
 use Rattle.std.proofs.lemmas.List.{map-append, drop-map, drop-drop, get_or-drop, length-map, length-drop}
 use Rattle.std.proofs.lemmas.Nat.{shr-shr}
 use Rattle.std.proofs.lemmas.Simd.{mask_l-lt, mask_l-mod, tops_compared, zip2_splat_left, bitmask_splat, length-chunk}
 use Rattle.std.proofs.Math.Nat.{pow-suc, mul_assoc, zero-div}
-use lib.Lanes.{zip2, top}
+use lib.Lanes.{sel_l, zip2, top}
 use Rattle.uca_lanes.specs.inside.Marks.{joined, marks_from, marks_of}
 
 -- ---- masks of one vector
@@ -27,6 +28,47 @@ from_bound least bytes long = mask_bound 16 (map (leb least) bytes) (length-map 
 
 pub of_bound : (byte : ℕ) (bytes : List ℕ) → length bytes ≡ 16 → marks_of byte bytes < 2 ^ 16
 of_bound byte bytes long = mask_bound 16 (map (λ b. eqb b byte) bytes) (length-map bytes (λ b. eqb b byte) ∙ long)
+
+-- ---- the greater one of each pair
+
+abbrev greater : List ℕ → List ℕ → List ℕ
+greater xs ys = sel_l (zip2 ltb xs ys) ys xs
+
+-- where the greater one is less than this one, both are
+both_less : (least x y : ℕ) → leb least (cond (ltb x y) y x) ≡ false → (leb least x ≡ false) × (leb least y ≡ false)
+both_less least x y = by_order (ltb x y) refl
+  where
+    by_order : (b : Bool) → ltb x y ≡ b → leb least (cond b y x) ≡ false → (leb least x ≡ false) × (leb least y ≡ false)
+    by_order true less below =
+        let within : x < y = ltb-true x y less in
+        let under : y < least = leb-false least y below in (lt-leb least x (omega (arith, within, under)), below)
+    by_order false not_less below =
+        let within : y ≤ x = ltb-false x y not_less in
+        let under : x < least = leb-false least x below in (below, lt-leb least y (omega (arith, within, under)))
+
+no_bit : (m : Bool) (n : ℕ) → cond m 1 0 + 2 * n ≡ 0 → (m ≡ false) × (n ≡ 0)
+no_bit true n none = absurd (omega (arith, none))
+no_bit false n none = (refl, omega (arith, none))
+
+none_greater : (least : ℕ) (xs ys : List ℕ) → length xs ≡ length ys → marks_from least (greater xs ys) ≡ 0
+    → (marks_from least xs ≡ 0) × (marks_from least ys ≡ 0)
+none_greater least [] [] long none = (refl, refl)
+none_greater least [] (y ∷ ys) long none = absurd (omega (arith, long))
+none_greater least (x ∷ xs) [] long none = absurd (omega (arith, long))
+none_greater least (x ∷ xs) (y ∷ ys) long none =
+    let bits = no_bit (leb least (cond (ltb x y) y x)) (marks_from least (greater xs ys)) none in
+    let less = both_less least x y bits.0 in
+    let rest = none_greater least xs ys (omega (arith, long)) bits.1 in (
+      ap₂ (λ (b : Bool) (n : ℕ). cond b 1 0 + 2 * n) less.0 rest.0,
+      ap₂ (λ (b : Bool) (n : ℕ). cond b 1 0 + 2 * n) less.1 rest.1,
+    )
+
+-- the mask of the greater one of each pair, as vectors have it
+pub none_in_both : (least mask : ℕ) (xs ys : List ℕ) → length xs ≡ 16 → length ys ≡ 16
+    → mask ≡ marks_from least (sel_l (map (top 7) (zip2 (λ a b. cond (ltb a b) 255 0) xs ys)) ys xs) → mask ≡ 0
+    → (marks_from least xs ≡ 0) × (marks_from least ys ≡ 0)
+none_in_both least mask xs ys long long_too is none =
+    none_greater least xs ys (omega (arith, long, long_too)) (ap (λ ms. marks_from least (sel_l ms ys xs)) (sym (tops_compared w8 ltb xs ys)) ∙ sym is ∙ none)
 
 -- ---- masks of a front and a back
 
@@ -56,6 +98,14 @@ module _ (p : ℕ → Bool) (front back : List ℕ) (both : ℕ) (long : length 
       ∙ ap (λ n. mask_l (map p front) + mask_l (map p (drop both back)) * 2 ^ n) (sym (length-map front p ∙ long))
       ∙ sym (mask-append (map p front) (map p (drop both back)))
       ∙ ap mask_l (sym (map-append p front (drop both back)))
+
+-- no byte of the two is at least this one, so none of those that are joined
+pub none_joined : (least : ℕ) (front back : List ℕ) (both : ℕ) → length front ≡ 16 → marks_from least front ≡ 0 → marks_from least back ≡ 0
+    → marks_from least (joined front back both) ≡ 0
+none_joined least front back both long none none_too =
+    sym (joined_masks (leb least) front back both long)
+    ∙ ap₂ (λ (m n : ℕ). m + n / 2 ^ both * 65536) none none_too
+    ∙ ap (λ (n : ℕ). 0 + n * 65536) (zero-div (2 ^ both))
 
 -- ---- numbers
 
@@ -98,11 +148,17 @@ take_are (suc n) [] are k = record { fits = omega arith }
 take_are (suc n) (x ∷ xs) are zero = are 0
 take_are (suc n) (x ∷ xs) are (suc k) = take_are n xs (tail_are x xs are) k
 
-chunk_are : (at n : ℕ) (xs : List ℕ) → AreBytes xs → AreBytes (chunk at n xs)
+pub chunk_are : (at n : ℕ) (xs : List ℕ) → AreBytes xs → AreBytes (chunk at n xs)
 chunk_are at n xs are = take_are n (drop at xs) (drop_are at xs are)
 
 pub number_bound : (at n : ℕ) (xs : List ℕ) → AreBytes xs → at + n ≤ length xs → number_l 256 (chunk at n xs) < 256 ^ n
 number_bound at n xs are room = subst (λ k. number_l 256 (chunk at n xs) < 256 ^ k) (length-chunk at n xs room) (number-lt (chunk at n xs) (chunk_are at n xs are))
+
+-- two shifts by half of some bytes are one by all of them
+pub two_shifts : (n bytes : ℕ) → n / 2 ^ (4 * bytes) / 2 ^ (4 * bytes) ≡ n / 2 ^ (8 * bytes)
+two_shifts n bytes =
+    let sum : 4 * bytes + 4 * bytes ≡ 8 * bytes = omega arith in
+    shr-shr n (4 * bytes) (4 * bytes) ∙ ap (λ (k : ℕ). n / 2 ^ k) sum
 
 -- the first h bytes, and those of the last h that are not among them
 pub halves : (h both : ℕ) (xs : List ℕ) → AreBytes xs → h ≤ length xs → both + length xs ≡ h + h

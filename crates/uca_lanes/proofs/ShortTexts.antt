@@ -1,13 +1,17 @@
--- Two short texts, with zeros after each.
-use Rattle.std.proofs.Common.{◌≡◌, ℕ, suc, ◌+◌, ◌-◌, ◌<◌, ◌≤◌, ◌↔◌, List, ◌++◌, length, length-append, get_or, min, replicate, take, refl, sym, subst, ap, ap₂, ◌∙◌, arith, append_assoc, take_all}
+-- Two short texts: with zeros after each, or by the numbers that their bytes spell.
+use Rattle.std.proofs.Common.{◌≡◌, ℕ, suc, ◌+◌, ◌-◌, ◌<◌, ◌≤◌, ◌↔◌, List, ◌++◌, length, length-append, get_or, min, replicate, take, drop, refl, sym, subst, ap, ap₂, ◌∙◌, arith, append_assoc, take_all}
 use Rattle.std.specs.Str.{IsUtf8}
-use Rattle.std.proofs.lemmas.List.{get_or_append_left, get_or_at, take_at, drop_at, length-replicate}
+use Rattle.std.specs.Simd.Lanes.{chunk, digits_l, number_l}
+use Rattle.std.proofs.lemmas.List.{get_or_append_left, get_or_at, take_at, drop_at}
+use Rattle.std.proofs.lemmas.Simd.{length-chunk}
 use Rattle.std.proofs.lemmas.Str.{IsUtf8-append, IsUtf8-take, IsUtf8-drop, IsCharBoundary-before_ascii}
 use Rattle.simdutf8.proofs.StepsLemmas.{IsUtf8-append_ascii, IsUtf8-after_ascii, IsAscii-replicate}
 use Rattle.uca_lanes.specs.Shared.{IsSharedLen}
 use Rattle.uca_lanes.specs.inside.Lanes.{IsSameRun}
 use Rattle.uca_lanes.specs.inside.Marks.{joined}
 use Rattle.uca_lanes.proofs.LaneSteps.{same_front}
+use Rattle.uca_lanes.proofs.MaskSteps.{AreBytes, chunk_are, spelled}
+use Rattle.uca_lanes.proofs.Whole.{ends}
 
 abbrev zeros : ℕ → List ℕ
 zeros n = replicate n 0
@@ -47,25 +51,52 @@ both_texts left right one other few is is_too =
 zeroth : (k : ℕ) → 0 + k ≡ k
 zeroth k = omega arith
 
-same_padded : (left right one other : List ℕ) → length left ≤ 15 → length right ≤ 15 → one ≡ padded left → other ≡ padded right
-    → IsSameRun one other 0 0 16 16 → one ≡ other
-same_padded left right one other few few_too is is_too run =
-    let long : (bytes lanes : List ℕ) → length bytes ≤ 15 → lanes ≡ padded bytes → length lanes ≡ 16 =
-    (λ bytes lanes within spelled. ap (λ l. length l) spelled ∙ length-append bytes (zeros (16 - length bytes)) ∙ omega (arith, within, length-replicate {A = ℕ} (16 - length bytes) 0)) in
-    let one_long = long left one few is in
-    let other_long = long right other few_too is_too in
-    sym (take_all 16 one (omega (arith, one_long)))
-    ∙ same_front 16 one other (omega (arith, one_long)) (omega (arith, other_long)) (λ i below. subst (λ n. get_or one n 0 ≡ get_or other n 0) (zeroth i) (run.are i below))
-    ∙ take_all 16 other (omega (arith, other_long))
+-- sixteen bytes, of which none differs
+same_sixteen : (one other : List ℕ) → length one ≡ 16 → length other ≡ 16 → IsSameRun one other 0 0 16 16 → one ≡ other
+same_sixteen one other long long_too run =
+    sym (take_all 16 one (omega (arith, long)))
+    ∙ same_front 16 one other (omega (arith, long)) (omega (arith, long_too)) (λ i below. subst (λ n. get_or one n 0 ≡ get_or other n 0) (zeroth i) (run.are i below))
+    ∙ take_all 16 other (omega (arith, long_too))
 
--- they are as long, so they are the same
-pub same_texts : (left right one other : List ℕ) → length left ≤ 15 → length left ≡ length right → one ≡ padded left → other ≡ padded right
-    → IsSameRun one other 0 0 16 16 → left ≡ right
-same_texts left right one other few long is is_too run =
-    let same = same_padded left right one other few (omega (arith, few, long)) is is_too run in
-    sym (take_at left (zeros (16 - length left)) (length left) refl)
-    ∙ ap (take (length left)) (sym is ∙ same ∙ is_too)
-    ∙ take_at right (zeros (16 - length right)) (length left) (sym long)
+-- bytes of one length that spell one number
+pub same_number : (k : ℕ) (xs ys : List ℕ) → AreBytes xs → AreBytes ys → length xs ≤ k → length xs ≡ length ys → number_l 256 xs ≡ number_l 256 ys → xs ≡ ys
+same_number k xs ys are are_too few long same =
+    sym (take_at xs (zeros (k - length xs)) (length xs) refl)
+    ∙ ap (take (length xs)) (sym (spelled k xs are few) ∙ ap (digits_l 256 k) same ∙ spelled k ys are_too (omega (arith, few, long)))
+    ∙ take_at ys (zeros (k - length ys)) (length xs) (sym long)
+
+-- the first bytes are the same, and the last ones
+same_halves : (h : ℕ) (left right : List ℕ) → length left ≡ length right → h ≤ length left → length left ≤ h + h
+    → chunk 0 h left ≡ chunk 0 h right → chunk (length left - h) h left ≡ chunk (length left - h) h right → left ≡ right
+same_halves h left right long some few front back =
+    sym (ends h left some few)
+    ∙ ap₂ (λ f b. f ++ drop (h + h - length left) b) front back
+    ∙ ap (λ n. chunk 0 h right ++ drop (h + h - n) (chunk (n - h) h right)) long
+    ∙ ends h right (omega (arith, some, long)) (omega (arith, few, long))
+
+-- up to sixteen bytes, by two numbers
+pub same_eights : (left right : List ℕ) → AreBytes left → AreBytes right → length left ≡ length right → 8 ≤ length left → length left ≤ 16
+    → number_l 256 (chunk 0 8 left) ≡ number_l 256 (chunk 0 8 right)
+    → number_l 256 (chunk (length left - 8) 8 left) ≡ number_l 256 (chunk (length left - 8) 8 right) → left ≡ right
+same_eights left right are are_too long some few first last =
+    let at = length left - 8 in
+    let same : (k : ℕ) → k + 8 ≤ length left → number_l 256 (chunk k 8 left) ≡ number_l 256 (chunk k 8 right) → chunk k 8 left ≡ chunk k 8 right =
+    (λ k within number.
+    let here = length-chunk k 8 left within in
+    let there = length-chunk k 8 right (omega (arith, within, long)) in
+    same_number 8 (chunk k 8 left) (chunk k 8 right) (chunk_are k 8 left are) (chunk_are k 8 right are_too) (omega (arith, here)) (here ∙ sym there) number) in
+    same_halves 8 left right long some (omega (arith, few)) (same 0 (omega (arith, some)) first) (same at (omega (arith, some)) last)
+
+-- more than sixteen bytes, by the first sixteen and the last sixteen
+pub same_ends : (left right : List ℕ) → length left ≡ length right → 16 < length left → length left ≤ 32
+    → IsSameRun (chunk 0 16 left) (chunk 0 16 right) 0 0 16 16
+    → IsSameRun (chunk (length left - 16) 16 left) (chunk (length left - 16) 16 right) 0 0 16 16 → left ≡ right
+same_ends left right long some few fronts backs =
+    let at = length left - 16 in
+    let same : (k : ℕ) → k + 16 ≤ length left → IsSameRun (chunk k 16 left) (chunk k 16 right) 0 0 16 16 → chunk k 16 left ≡ chunk k 16 right =
+    (λ k within run.
+    same_sixteen (chunk k 16 left) (chunk k 16 right) (length-chunk k 16 left within) (length-chunk k 16 right (omega (arith, within, long))) run) in
+    same_halves 16 left right long (omega (arith, some)) (omega (arith, few)) (same 0 (omega (arith, some)) fronts) (same at (omega (arith, some)) backs)
 
 -- ---- What they have in common
 

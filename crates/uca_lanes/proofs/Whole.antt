@@ -25,13 +25,23 @@ of_few bytes lanes t spelled judged =
     let whole = with_zeros_judged bytes lanes spelled in
     cases_from_iff (λ on. whole.0 (judged.0 on), λ u. judged.1 (whole.1 u))
 
+-- the first bytes and the last ones are all, where there are enough of both
+pub ends : (h : ℕ) (bytes : List ℕ) → h ≤ length bytes → length bytes ≤ h + h
+    → chunk 0 h bytes ++ drop (h + h - length bytes) (chunk (length bytes - h) h bytes) ≡ bytes
+ends h bytes some few =
+    let at = length bytes - h in
+    let both = h + h - length bytes in
+    let reached : at + both ≡ h = omega (arith, some, few) in
+    let is_back : chunk at h bytes ≡ drop at bytes = take_all h (drop at bytes) (omega (arith, length-drop at bytes, some)) in
+    let rest : drop both (chunk at h bytes) ≡ drop h bytes = ap (drop both) is_back ∙ drop-drop both at bytes ∙ ap (λ k. drop k bytes) reached in
+    ap (λ l. take h bytes ++ l) rest ∙ take-append-drop h bytes
+
+pub of_ends : (bytes : List ℕ) (t : Bool) → 16 < length bytes → length bytes ≤ 32
+    → (IsTrue t ↔ IsUtf8 (joined (chunk 0 16 bytes) (chunk (length bytes - 16) 16 bytes) (32 - length bytes))) → IsTrue t ↔ IsUtf8 bytes
+of_ends bytes t some few judged =
+    let same = ends 16 bytes (omega (arith, some)) (omega (arith, few)) in
+    (λ on. subst IsUtf8 same (judged.0 on), λ u. judged.1 (subst IsUtf8 (sym same) u))
+
 pub of_more : (bytes : List ℕ) (t : Bool) → 16 < length bytes → length bytes ≤ 32
     → (IsTrue t ↔ IsUtf8 (joined (chunk 0 16 bytes) (chunk (length bytes - 16) 16 bytes) (32 - length bytes))) → MatchBool t (IsUtf8 bytes) (¬ (IsUtf8 bytes))
-of_more bytes t some few judged =
-    let at = length bytes - 16 in
-    let both = 32 - length bytes in
-    let reached : at + both ≡ 16 = omega (arith, some, few) in
-    let is_back : chunk at 16 bytes ≡ drop at bytes = take_all 16 (drop at bytes) (omega (arith, length-drop at bytes, some)) in
-    let rest : drop both (chunk at 16 bytes) ≡ drop 16 bytes = ap (drop both) is_back ∙ drop-drop both at bytes ∙ ap (λ k. drop k bytes) reached in
-    let same : joined (chunk 0 16 bytes) (chunk at 16 bytes) both ≡ bytes = ap (λ l. take 16 bytes ++ l) rest ∙ take-append-drop 16 bytes in
-    cases_from_iff (λ on. subst IsUtf8 same (judged.0 on), λ u. judged.1 (subst IsUtf8 (sym same) u))
+of_more bytes t some few judged = cases_from_iff (of_ends bytes t some few judged)

@@ -1,4 +1,4 @@
-//! Two short texts at once: whether both are UTF-8, and how many bytes they have in common.
+//! Two short texts at once: whether both are UTF-8, how many bytes they have in common, and whether they are the same.
 
 ghost use Rattle.std.specs.Prelude.{◌≡◌, ◌≤◌, length, MatchOption};
 ghost use Rattle.std.specs.Bool.{MatchBool};
@@ -7,11 +7,14 @@ ghost use Rattle.uca_lanes.specs.Shared.{IsSharedLen};
 ghost use Rattle.uca_lanes.specs.inside.Lanes.{IsSameRun};
 
 use crate::first_set;
-use crate::utf8::{are_utf8, with_zeros};
+use crate::utf8::{are_utf8, number_of_eight, number_of_few, with_zeros};
 use std::simd::prelude::*;
 
 // After so many bytes there is a zero among sixteen.
 const SHORT: usize = 15;
+
+// So many bytes are two times sixteen, of which some may be in both.
+const AT_ONCE: usize = 32;
 
 // How many of sixteen bytes are the same in both, before the first that is not.
 #[inline(always)]
@@ -44,18 +47,42 @@ pub fn shared_of_short(left: &[u8], right: &[u8]) -> Option<usize>
     Some(same.min(left.len()).min(right.len()))
 }
 
-/// Whether two texts of at most fifteen bytes are the same, and UTF-8 (the Unicode Standard, section 3.9, table 3-7). For
-/// example, `cart` and `cart` are. One of the two is judged.
+// Whether two strings of at most sixteen bytes, and of one length, are the same.
+#[inline(always)]
+fn are_same_few(left: &[u8], right: &[u8]) -> bool
+    requires long { length left.now ≡ length right.now }
+    requires few { length left.now ≤ 16 }
+    ensures { MatchBool result (left.now ≡ right.now) (¬ (left.now ≡ right.now)) }
+{
+    let len = left.len();
+    if len < 8 {
+        return number_of_few(left) == number_of_few(right);
+    }
+    number_of_eight(left, 0) == number_of_eight(right, 0)
+        && number_of_eight(left, len - 8) == number_of_eight(right, len - 8)
+}
+
+/// Whether two texts of at most 32 bytes are the same, and UTF-8 (the Unicode Standard, section 3.9, table 3-7). For
+/// example, `cart` and `cart` are. One of the two is judged. Of texts of more bytes it returns `false`, whatever they are.
 #[inline(always)]
 pub fn are_same_short(left: &[u8], right: &[u8]) -> bool
     ensures { MatchBool result
-        ((length left.now ≤ 15) × (left.now ≡ right.now) × IsUtf8 left.now)
-        (¬ ((length left.now ≤ 15) × (left.now ≡ right.now) × IsUtf8 left.now)) }
+        ((length left.now ≤ 32) × (left.now ≡ right.now) × IsUtf8 left.now)
+        (¬ ((length left.now ≤ 32) × (left.now ≡ right.now) × IsUtf8 left.now)) }
 {
-    if left.len() > SHORT || left.len() != right.len() {
+    let len = left.len();
+    if len != right.len() {
         return false;
     }
-    let one = with_zeros(left);
-    let other = with_zeros(right);
-    same_of_sixteen(one, other) == 16 && are_utf8(one, u8x16::splat(0), 16)
+    if len <= 16 {
+        return are_same_few(left, right) && are_utf8(with_zeros(left), u8x16::splat(0), 16);
+    }
+    if len > AT_ONCE {
+        return false;
+    }
+    let front = u8x16::from_slice(left);
+    let back = u8x16::from_slice(&left[len - 16..]);
+    let fronts = same_of_sixteen(front, u8x16::from_slice(right));
+    let backs = same_of_sixteen(back, u8x16::from_slice(&right[len - 16..]));
+    fronts.min(backs) == 16 && are_utf8(front, back, 32 - len as u64)
 }

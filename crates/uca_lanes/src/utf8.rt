@@ -1,6 +1,6 @@
 //! Whether bytes are UTF-8. Up to 32 of them are judged with no loop, by masks with one bit for each byte.
 
-ghost use Rattle.std.specs.Prelude.{◌≡◌, ◌↔◌, ◌+◌, ◌-◌, ◌<◌, ◌≤◌, ◌^◌, ◌++◌, length, replicate, IsTrue};
+ghost use Rattle.std.specs.Prelude.{false, ◌≡◌, ◌↔◌, ◌+◌, ◌-◌, ◌<◌, ◌≤◌, ◌^◌, ◌++◌, length, replicate, IsTrue};
 ghost use Rattle.std.specs.Bool.{MatchBool};
 ghost use Rattle.std.specs.Str.{IsUtf8};
 ghost use Rattle.std.specs.Simd.Lanes.{chunk, number_l};
@@ -28,18 +28,18 @@ fn number_of_four(bytes: &[u8], at: usize) -> u64
     u64::from(u32x1::from_le_bytes(u8x4::from_slice(&bytes[at..])).to_array()[0])
 }
 
-// The number that eight bytes spell.
+/// The number that eight bytes spell.
 #[inline(always)]
-fn number_of_eight(bytes: &[u8], at: usize) -> u64
+pub(crate) fn number_of_eight(bytes: &[u8], at: usize) -> u64
     requires { at + 8 ≤ length bytes.now }
     ensures { result ≡ number_l 256 (chunk at 8 bytes.now) }
 {
     u64x1::from_le_bytes(u8x8::from_slice(&bytes[at..])).to_array()[0]
 }
 
-// The number that up to eight bytes spell. Of the last four, those that are among the first four fall out.
+/// The number that up to eight bytes spell. Of the last four, those that are among the first four fall out.
 #[inline(always)]
-fn number_of_few(bytes: &[u8]) -> u64
+pub(crate) fn number_of_few(bytes: &[u8]) -> u64
     requires { length bytes.now ≤ 8 }
     ensures { result ≡ number_l 256 bytes.now }
 {
@@ -57,17 +57,19 @@ fn number_of_few(bytes: &[u8]) -> u64
     }
 }
 
-/// Up to sixteen bytes, and zeros after them.
+/// Up to sixteen bytes, and zeros after them. Most words have eight bytes or more. After eight there are 64 bits of zeros. No
+/// shift is as far, so there are two.
 #[inline(always)]
 pub(crate) fn with_zeros(bytes: &[u8]) -> u8x16
     requires { length bytes.now ≤ 16 }
     ensures { result ≡ bytes.now ++ replicate (16 - length bytes.now) 0 }
 {
     let len = bytes.len();
-    if len <= 8 {
+    if len < 8 {
         return u64x2::from_array([number_of_few(bytes), 0]).to_le_bytes();
     }
-    let after = number_of_eight(bytes, len - 8) >> (8 * (16 - len));
+    let half = 4 * (16 - len);
+    let after = number_of_eight(bytes, len - 8) >> half >> half;
     u64x2::from_array([number_of_eight(bytes, 0), after]).to_le_bytes()
 }
 
@@ -111,6 +113,15 @@ fn marks_of(front: u8x16, back: u8x16, both: u64, byte: u8) -> u64
     mask_of(front, byte) + after * 0x1_0000
 }
 
+// Whether some byte is at least this one, in the front or in the whole back.
+#[inline(always)]
+fn has_from(front: u8x16, back: u8x16, least: u8) -> bool
+    ensures front { result ≡ false → marks_from least front ≡ 0 }
+    ensures back { result ≡ false → marks_from least back ≡ 0 }
+{
+    mask_from(front.simd_max(back), least) != 0
+}
+
 // Whether each code point has as many bytes as its first byte says, and no byte is one that UTF-8 does not have.
 #[inline(always)]
 fn counts_agree(front: u8x16, back: u8x16, both: u64) -> bool
@@ -151,7 +162,7 @@ pub(crate) fn are_utf8(front: u8x16, back: u8x16, both: u64) -> bool
     requires { both ≤ 16 }
     ensures { IsTrue result ↔ IsUtf8 (joined front back both) }
 {
-    if marks_from(front, back, both, 0xE0) != 0 {
+    if has_from(front, back, 0xE0) {
         return counts_agree(front, back, both) & seconds_agree(front, back, both);
     }
     let high = marks_from(front, back, both, 0x80);

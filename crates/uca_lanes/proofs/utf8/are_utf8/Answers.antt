@@ -1,11 +1,12 @@
-use Rattle.std.proofs.Common.{ℕ, ◌≡◌, ◌↔◌, ◌&&◌, ◌+◌, ◌*◌, ◌∙◌, IsTrue, nat_eq, sym, ap₂, arith, eq-eqb, eqb-true}
+use Rattle.std.proofs.Common.{ℕ, ◌≡◌, ◌↔◌, ◌&&◌, ◌+◌, ◌*◌, ◌∙◌, IsTrue, nat_eq, refl, sym, ap₂, eq-eqb, eqb-true}
 use Rattle.std.proofs.lemmas.Bool.{and_parts, and_from}
 use Rattle.uca_lanes.specs.inside.Marks.{joined}
 use Rattle.uca_lanes.proofs.CodePoints.{agree-IsUtf8, few-IsUtf8}
+use Rattle.uca_lanes.proofs.MaskSteps.{none_joined}
 use Rattle.uca_lanes.proofs.utf8.are_utf8.Goals as goal
 
-pub returns-then-marks_from-ne0 : goal.returns-then-marks_from-ne0
-returns-then-marks_from-ne0 c =
+pub returns-then-has_from : goal.returns-then-has_from
+returns-then-has_from c =
     let agree = agree-IsUtf8 (joined c.args.front c.args.back c.args.both) in
     let counts = c.counts_agree.ensures in
     let seconds = c.seconds_agree.ensures in (
@@ -26,7 +27,8 @@ returns c =
     let leads = c.marks_from-leads in
     let high = c.marks_from-high in
     let tests = both_equal starts.result leads.result (2 * leads.result + starts.result) high.result in
-    let few = few-IsUtf8 bytes (sym c.marks_from.ensures.marks ∙ omega (arith, c.if-marks_from-ne0.false)) in
+    let none = c.if-has_from.ensures in
+    let few = few-IsUtf8 bytes (none_joined 0xe0 c.args.front c.args.back c.args.both c.fits-front.0 (none.front refl) (none.back refl)) in
     let doubled = ap₂ (λ (m n : ℕ). 2 * m + n) leads.ensures.marks starts.ensures.marks in (
       λ t. (let h = tests.0 t in few.0 (sym starts.ensures.marks ∙ h.0 ∙ leads.ensures.marks, sym doubled ∙ h.1 ∙ high.ensures.marks)),
       λ u. (let h = few.1 u in tests.1 (starts.ensures.marks ∙ h.0 ∙ sym leads.ensures.marks, doubled ∙ h.1 ∙ sym high.ensures.marks)),
