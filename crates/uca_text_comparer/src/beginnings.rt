@@ -155,9 +155,9 @@ pub(crate) fn order_rests<A: Allocator>(
         return order_cut(points, weighting, left, right, at);
     }
     if let Some(ascii) = heads.ascii()
-        && let Some(order) = order_ascii(ascii, left, right, at)
+        && let Some(found) = order_ascii(ascii, left, right, at)
     {
-        return unless_equal(order);
+        return found;
     }
     order_all(points, heads, left, right, at)
 }

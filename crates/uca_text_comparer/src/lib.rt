@@ -22,7 +22,7 @@
 //! Whoever needs no numbers of elements asks `order_beginnings` first. It looks up only the code points that come after
 //! what two short texts have in common (`beginnings`). Whoever knows how many bytes they share asks
 //! `order_after`. Whoever compares many texts calls `learn_heads` before: one array then has the weights at level 1 of the
-//! code points up to U+07FF (`heads`). Those of ASCII are looked at first (`ascii`). Others than these 2,048 are looked up
+//! code points up to U+07FF (`heads`). Those of ASCII are looked at first (`ascii`). All but these 2,048 are looked up
 //! where those of all texts so far are kept (`next`).
 #![tactic(auto)]
 

@@ -7,13 +7,13 @@ use Rattle.uca_text_comparer.specs.inside.LevelOne.{CompareAsRests}
 use Rattle.uca_text_comparer.proofs.ascii.order_ascii.Given as goal
 
 -- at level 1 the texts compare as what is left of them, if a code point begins there
-abbrev pub invariant-loop-first : goal.invariant-loop-first
-invariant-loop-first l = record {
+abbrev pub invariant-loop-at : goal.invariant-loop-at
+invariant-loop-at l = record {
   within : l.at ≤ length l.left;
   within_too : l.at ≤ length l.right;
   rests : (c : Collation) (weighting : Weighting) → AreHeadsFrom c weighting 0 l.heads → IsCharBoundary l.left l.at →
       CompareAsRests c weighting (chars l.left) (chars l.right) (chars (drop l.at l.left)) (chars (drop l.at l.right));
 }
 
-abbrev pub decreases-loop-first : goal.decreases-loop-first
-decreases-loop-first l = length l.left - l.at
+abbrev pub decreases-loop-at : goal.decreases-loop-at
+decreases-loop-at l = length l.left - l.at
