@@ -1,4 +1,4 @@
--- Levels that are joined where the caller says are the key.
+-- Levels that are joined in the caller's memory are the key.
 use Rattle.std.proofs.Common.{◌≡◌, ◌≤◌, ◌∙◌, ◌++◌, ◌∷◌, [], ℕ, List, take, drop, length, append_assoc, refl, sym, ap, arith}
 use Rattle.uca_weights.specs.declared.Weighting.{Weighting}
 use Rattle.uca_weights.specs.declared.Weighting.TheVariants.{NonIgnorable, Shifted}

@@ -143,7 +143,8 @@ pub extern "C" fn uca_key(
     status
 }
 
-// Compares two texts by an open collator, without keys. It stands apart, so that two texts that are the same need no collator.
+// Compares two texts by an open collator, without keys. It stands apart, so that `uca_compare` saves few registers where
+// both texts are the same short one.
 #[inline(never)]
 fn compare_open(
     alloc: Global,
@@ -197,7 +198,7 @@ pub extern "C" fn uca_compare(
     compare_open(alloc, collator, left, right, comparison)
 }
 
-// Orders two byte strings by an open collator. It stands apart, as `compare_open` does.
+// Orders two byte strings by an open collator. It stands apart for the same reason as `compare_open`.
 #[inline(never)]
 fn order_open(alloc: Global, collator: &mut Slot, left: &[u8], right: &[u8], order: &mut i32) -> u32
     requires { collator.old.full ≡ true }

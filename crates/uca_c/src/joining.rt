@@ -1,4 +1,5 @@
-//! How the levels of a key are joined where the caller says.
+//! How the levels of a key are joined in the caller's memory. For example, `1C 47`, `00 20` and `00 02` become
+//! `1C 47 00 00 00 20 00 00 00 02`.
 
 ghost use Rattle.std.specs.Prelude.{◌≡◌, ◌≢◌, ◌⊎◌, ◌+◌, ◌++◌, ◌∷◌, ◌≤◌, List, ℕ, None, Some, length, drop, IfSome};
 ghost use Rattle.uca_c.specs.Results.{WritesKey, IsTooSmall};
@@ -22,9 +23,9 @@ fn joined_len(levels: &KeyLevels<'_>, weighting: Weighting) -> Option<usize>
     }
 }
 
-// Writes bytes after those that are written, and returns how many are then.
+// Writes bytes after those that are written, and returns how many are written then.
 #[inline(always)]
-fn put(out: &mut [u8], at: usize, bytes: &[u8]) -> usize
+fn put_bytes(out: &mut [u8], at: usize, bytes: &[u8]) -> usize
     requires { at + length bytes.now ≤ length out.old }
     ensures written { (key before : List ℕ) → IsWritten key before at out.old → IsWritten (key ++ bytes.now) before result out.new }
     ensures count { result ≡ at + length bytes.now }
@@ -44,8 +45,8 @@ fn put_level(out: &mut [u8], at: usize, level: &[u8]) -> usize
     ensures count { result ≡ at + (2 + length level.now) }
     ensures room { length out.new ≡ length out.old }
 {
-    let at = put(out, at, &SEPARATOR);
-    put(out, at, level)
+    let at = put_bytes(out, at, &SEPARATOR);
+    put_bytes(out, at, level)
 }
 
 // Writes the levels one after another where the caller has room, and how many bytes they have. There is no result if no memory
@@ -67,7 +68,7 @@ pub(crate) fn join_levels(
     if out.len() < len {
         return Some(SMALL);
     }
-    let at = put(out, 0, levels.primary);
+    let at = put_bytes(out, 0, levels.primary);
     let at = put_level(out, at, levels.secondary);
     let at = put_level(out, at, levels.tertiary);
     match weighting {

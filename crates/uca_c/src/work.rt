@@ -22,6 +22,7 @@ use std::alloc::AllocError;
 use uca_compact::{KeyCompacter, LevelBytes};
 use uca_owned::{KeyFault, OwnedCollator};
 use uca_text::TextFault;
+use uca_weights::Depth;
 
 // Copies bytes to where they have room, and tells how many they are.
 pub(crate) fn copy_out(bytes: &[u8], out: &mut [u8], needed: &mut usize) -> u32
@@ -113,9 +114,9 @@ pub(crate) fn make_compact(
     }
 }
 
-// Writes the key of a text of its levels, with no copy of it in the collator. There is no result if they are not made without
-// the key.
-fn write_levels(
+// Writes the key of a text from its levels, with no copy of it in the collator. There is no result if the levels are not made
+// without the key, as at an identical level.
+fn write_joined(
     collator: &mut OwnedCollator,
     text: &[u8],
     out: &mut [u8],
@@ -130,11 +131,12 @@ fn write_levels(
     ensures none { result ≢ Some OK → result ≢ Some SMALL → needed.new ≡ needed.old }
     ensures keying { keying_in collator.new ≡ keying_in collator.old }
 {
+    let settings = collator.settings();
+    if settings.depth == Depth::Identical {
+        return None;
+    }
     match collator.make_levels(text) {
-        Ok(true) => {
-            let weighting = collator.settings().weighting;
-            join_levels(&collator.levels(), weighting, out, needed)
-        }
+        Ok(true) => join_levels(&collator.levels(), settings.weighting, out, needed),
         Ok(false) => None,
         Err(_) => Some(MEMORY),
     }
@@ -150,7 +152,7 @@ fn write_whole(collator: &mut OwnedCollator, text: &[u8], out: &mut [u8], needed
     ensures none { result ≢ OK → result ≢ SMALL → needed.new ≡ 0 }
     ensures keying { keying_in collator.new ≡ keying_in collator.old }
 {
-    if let Some(status) = write_levels(collator, text, out, needed) {
+    if let Some(status) = write_joined(collator, text, out, needed) {
         return status;
     }
     match collator.make_key(text) {

@@ -102,7 +102,7 @@ impl OwnedCollator {
 
     /// Makes the levels of the sort key of a text, over those that were there, and returns `true`.
     /// [`levels`](OwnedCollator::levels) returns them. They are not joined to a key. So it takes less time where a
-    /// compact key is made of them. The key that was made last is then unspecified.
+    /// compact key is made of them, or the caller joins them. The key that was made last is then unspecified.
     ///
     /// It returns `false` if the bytes are not UTF-8, or the levels are not made without the key. So it is at the depth
     /// `Identical`, for a text that is rejected, and where more than 524,288 bytes are read. No clause says when. The

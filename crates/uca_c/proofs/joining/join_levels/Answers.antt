@@ -5,7 +5,7 @@ use Rattle.uca_c.proofs.joining.join_levels.Goals as goal
 pub returns-in-NonIgnorable-clause-ok : goal.returns-in-NonIgnorable-clause-ok
 returns-in-NonIgnorable-clause-ok c ok =
     let before = c.args.out.now in
-    let one = c.put-at.ensures.written [] before (none_written before) in
+    let one = c.put_bytes-at.ensures.written [] before (none_written before) in
     let two = c.put_level-at.ensures.written _ before one in
     let three = c.put_level-at-2.ensures.written _ before two in
     writes _ _ before _ _ _ three (joined_three c.args.weighting c.args.levels.now c.in-NonIgnorable.is) c.in_ok-len.ensures (omega (arith, c.if-out-len.false))
@@ -13,7 +13,7 @@ returns-in-NonIgnorable-clause-ok c ok =
 pub returns-in-Shifted-clause-ok : goal.returns-in-Shifted-clause-ok
 returns-in-Shifted-clause-ok c ok =
     let before = c.args.out.now in
-    let one = c.put-at.ensures.written [] before (none_written before) in
+    let one = c.put_bytes-at.ensures.written [] before (none_written before) in
     let two = c.put_level-at.ensures.written _ before one in
     let three = c.put_level-at-2.ensures.written _ before two in
     let four = c.put_level.ensures.written _ before three in
