@@ -51,7 +51,7 @@ both_texts left right one other few is is_too =
 zeroth : (k : ℕ) → 0 + k ≡ k
 zeroth k = omega arith
 
--- sixteen bytes, of which none differs
+-- sixteen bytes are the same in both
 same_sixteen : (one other : List ℕ) → length one ≡ 16 → length other ≡ 16 → IsSameRun one other 0 0 16 16 → one ≡ other
 same_sixteen one other long long_too run =
     sym (take_all 16 one (omega (arith, long)))
