@@ -8,7 +8,10 @@ use std::cmp::Ordering;
 use std::cmp::Ordering::{Greater, Less};
 use std::test::Fail;
 use test_kit::{DATA, NUMBER_TABLE, data_of, holds, repeated, table_of};
-use uca_lanes::{are_same_short, is_utf8, marks_of_pairs, same_pairs, shared_len, shared_of_short};
+use uca_lanes::{
+    are_same_narrow, are_same_short, is_utf8, marks_of_pairs, same_pairs, shared_len,
+    shared_of_short,
+};
 use uca_match::{Collator, Lookup, Trie};
 use uca_text_comparer::TextComparison;
 use uca_weights::{Depth, Numbers, Settings, Source, Weighting};
@@ -74,9 +77,9 @@ const MORE_ROWS: &str = "0041 ; [.1C47.0020.0008]\n\
 
 /// Two texts and their order, first where variable elements are non-ignorable, and then where they are shifted: a hyphen has
 /// no weight at level 1 then. Where the next code points have the same weight, those after them decide, but not after a letter
-/// with two weights. Two letters may have their first byte in common. After the letters that differ there may be a letter of two
-/// bytes, but no accent.
-const HEADS: [(&str, &str, Option<Ordering>, Option<Ordering>); 21] = [
+/// with two weights. Two letters may have their first byte in common. After the letters that differ there may be a letter of
+/// two or three bytes, but no accent.
+const HEADS: [(&str, &str, Option<Ordering>, Option<Ordering>); 27] = [
     ("Ab", "aa", Some(Greater), Some(Greater)),
     ("aAa", "aab", Some(Less), Some(Less)),
     ("A", "ab", Some(Less), Some(Less)),
@@ -98,6 +101,12 @@ const HEADS: [(&str, &str, Option<Ordering>, Option<Ordering>); 21] = [
     ("\u{905}", "a", Some(Greater), Some(Greater)),
     ("b\u{3b1}", "a", Some(Greater), Some(Greater)),
     ("b\u{301}", "a", None, None),
+    ("a", "b\u{3b1}", Some(Less), Some(Less)),
+    ("a", "b\u{301}", None, None),
+    ("b\u{905}", "a", Some(Greater), Some(Greater)),
+    ("a", "b\u{905}", Some(Less), Some(Less)),
+    ("a", "ab\u{3b1}", Some(Less), Some(Less)),
+    ("a", "ab\u{301}", None, None),
 ];
 
 /// Each row of table 3-7 of the Unicode Standard, by its first and its last code point.
@@ -230,47 +239,73 @@ const SHORT: [(&[u8], &[u8], Option<usize>); 28] = [
     (b"\xF0\x9F\x98\x80", b"\xF4\x90\x80\x80", None),
 ];
 
-/// Two byte strings, and whether both are one text of at most 32 bytes. Fewer than eight bytes are compared as one number. Up to
-/// sixteen are compared as two, and more as their first sixteen and their last sixteen.
-const SAME: [(&[u8], &[u8], bool); 24] = [
-    (b"", b"", true),
-    (b"cart", b"cart", true),
-    (b"cart", b"cast", false),
-    (b"cart", b"carts", false),
-    (b"a", b"a\0", false),
-    (b"\0", b"", false),
-    (b"\xC3\xA9", b"\xC3\xA9", true),
-    (b"\xC3", b"\xC3", false),
-    (b"abcdefgh\x80", b"abcdefgh\x80", false),
-    (b"abcdefghi", b"abcdefghi", true),
-    (b"abcdefghi", b"bbcdefghi", false),
-    (b"abcdefghijklmno", b"abcdefghijklmno", true),
-    (b"abcdefghijklmnop", b"abcdefghijklmnop", true),
-    (b"abcdefghijklmnop", b"abcdefghijklmnoq", false),
-    (b"abcdefghijklmno\xC3", b"abcdefghijklmno\xC3", false),
-    (b"abcdefghijklmnopq", b"abcdefghijklmnopq", true),
-    (b"abcdefghijklmnopq", b"bbcdefghijklmnopq", false),
-    (b"abcdefghijklmnopq", b"abcdefghijklmnopr", false),
-    (b"abcdefghijklmno\xC3\xA9", b"abcdefghijklmno\xC3\xA9", true),
-    (b"abcdefghijklmnopq\xC3", b"abcdefghijklmnopq\xC3", false),
+/// Two byte strings, whether both are one text of at most 32 bytes, and whether it has at most sixteen and no code point of
+/// three bytes or more. Fewer than eight bytes are compared as one number. Up to sixteen are compared as two, and more as their
+/// first sixteen and their last sixteen.
+const SAME: [(&[u8], &[u8], bool, bool); 30] = [
+    (b"", b"", true, true),
+    (b"cart", b"cart", true, true),
+    (b"cart", b"cast", false, false),
+    (b"cart", b"carts", false, false),
+    (b"a", b"a\0", false, false),
+    (b"\0", b"", false, false),
+    (b"\xC3\xA9", b"\xC3\xA9", true, true),
+    (b"\xDF\xBF", b"\xDF\xBF", true, true),
+    (b"\xE0\xA0\x80", b"\xE0\xA0\x80", true, false),
+    (
+        b"abcdefghijklm\xE0\xA0\x80",
+        b"abcdefghijklm\xE0\xA0\x80",
+        true,
+        false,
+    ),
+    (b"\xE0\xA0", b"\xE0\xA0", false, false),
+    (b"\xC1\xBF", b"\xC1\xBF", false, false),
+    (b"\xC1", b"\xC1", false, false),
+    (b"\xC3", b"\xC3", false, false),
+    (b"abcdefgh\x80", b"abcdefgh\x80", false, false),
+    (b"abcdefghi", b"abcdefghi", true, true),
+    (b"abcdefghi", b"bbcdefghi", false, false),
+    (b"abcdefghijklmno", b"abcdefghijklmno", true, true),
+    (b"abcdefghijklmnop", b"abcdefghijklmnop", true, true),
+    (b"abcdefghijklmnop", b"abcdefghijklmnoq", false, false),
+    (b"abcdefghijklmno\xC3", b"abcdefghijklmno\xC3", false, false),
+    (b"abcdefghijklmnopq", b"abcdefghijklmnopq", true, false),
+    (b"abcdefghijklmnopq", b"bbcdefghijklmnopq", false, false),
+    (b"abcdefghijklmnopq", b"abcdefghijklmnopr", false, false),
+    (
+        b"abcdefghijklmno\xC3\xA9",
+        b"abcdefghijklmno\xC3\xA9",
+        true,
+        false,
+    ),
+    (
+        b"abcdefghijklmnopq\xC3",
+        b"abcdefghijklmnopq\xC3",
+        false,
+        false,
+    ),
     (
         b"abcdefghijklmnopqrstuvwxyzabcd\xC3\xA9",
         b"abcdefghijklmnopqrstuvwxyzabcd\xC3\xA9",
         true,
+        false,
     ),
     (
         b"abcdefghijklmnopqrstuvwxyzabcdef",
         b"abcdefghijklmnopqrstuvwxyzabcdeg",
+        false,
         false,
     ),
     (
         b"abcdefghijklmnopqrstuvwxyzabcdef",
         b"abcdefghijklmnopqrstuvwxyzabcde",
         false,
+        false,
     ),
     (
         b"abcdefghijklmnopqrstuvwxyzabcdefg",
         b"abcdefghijklmnopqrstuvwxyzabcdefg",
+        false,
         false,
     ),
 ];
@@ -354,8 +389,12 @@ fn check_short() -> Result<(), Fail> {
 }
 
 fn check_same() -> Result<(), Fail> {
-    for (left, right, wanted) in SAME {
+    for (left, right, wanted, is_narrow) in SAME {
         holds(are_same_short(left, right) == wanted, "same short texts")?;
+        holds(
+            are_same_narrow(left, right) == is_narrow,
+            "same texts of few bytes",
+        )?;
     }
     Ok(())
 }

@@ -19,7 +19,7 @@ use crate::statuses::{ALREADY_OPEN, CLOSED, MEMORY, OK, SMALL};
 use crate::structs::{Comparison, FileError};
 use crate::{opening, work};
 use std::alloc::Global;
-use uca_lanes::are_same_short;
+use uca_lanes::{are_same_narrow, are_same_short};
 
 /// The number of this interface.
 #[unsafe(no_mangle)]
@@ -143,8 +143,8 @@ pub extern "C" fn uca_key(
     status
 }
 
-// Compares two texts by an open collator, without keys. It stands apart, so that `uca_compare` saves few registers where
-// both texts are the same short one.
+// Compares two texts by an open collator, without keys. It stands apart, so that `uca_compare` saves few registers where both
+// texts are the same narrow one. Another short text is equal to itself too, with no collator taken out.
 #[inline(never)]
 fn compare_open(
     alloc: Global,
@@ -162,6 +162,10 @@ fn compare_open(
     ensures keying { keying_at collator.new.handle.kept ≡ keying_at collator.old.handle.kept }
     ensures book { collator.new.handle.kept.book ≡ collator.old.handle.kept.book }
 {
+    if are_same_short(left, right) {
+        *comparison = Comparison { order: 0, level: 0 };
+        return OK;
+    }
     let mut opened = take(alloc, collator);
     let status = work::compare(&mut opened, left, right, comparison);
     put(collator, opened);
@@ -191,7 +195,7 @@ pub extern "C" fn uca_compare(
         *comparison = Comparison { order: 0, level: 0 };
         return CLOSED;
     }
-    if are_same_short(left, right) {
+    if are_same_narrow(left, right) {
         *comparison = Comparison { order: 0, level: 0 };
         return OK;
     }
@@ -209,6 +213,10 @@ fn order_open(alloc: Global, collator: &mut Slot, left: &[u8], right: &[u8], ord
     ensures keying { keying_at collator.new.handle.kept ≡ keying_at collator.old.handle.kept }
     ensures book { collator.new.handle.kept.book ≡ collator.old.handle.kept.book }
 {
+    if are_same_short(left, right) {
+        *order = 0;
+        return OK;
+    }
     let mut opened = take(alloc, collator);
     let status = work::order(&mut opened, left, right, order);
     put(collator, opened);
@@ -236,7 +244,7 @@ pub extern "C" fn uca_order(
         *order = 0;
         return CLOSED;
     }
-    if are_same_short(left, right) {
+    if are_same_narrow(left, right) {
         *order = 0;
         return OK;
     }

@@ -46,7 +46,7 @@ both_less least x y = by_order (ltb x y) refl
         let within : y ≤ x = ltb-false x y not_less in
         let under : x < least = leb-false least x below in (below, lt-leb least y (omega (arith, within, under)))
 
-no_bit : (m : Bool) (n : ℕ) → cond m 1 0 + 2 * n ≡ 0 → (m ≡ false) × (n ≡ 0)
+pub no_bit : (m : Bool) (n : ℕ) → cond m 1 0 + 2 * n ≡ 0 → (m ≡ false) × (n ≡ 0)
 no_bit true n none = absurd (omega (arith, none))
 no_bit false n none = (refl, omega (arith, none))
 

@@ -104,7 +104,7 @@ in_padded : (bytes lanes : List ℕ) (i : ℕ) → lanes ≡ padded bytes → i 
 in_padded bytes lanes i is within = ap (λ l. get_or l i 0) is ∙ get_or_append_left bytes (zeros (16 - length bytes)) 0 i within
 
 pub shared_of_padded : (left right one other : List ℕ) (same shared : ℕ) → length left ≤ 15 → length right ≤ 15 → one ≡ padded left → other ≡ padded right
-    → IsSameRun one other 0 0 16 same → shared ≡ min (min same (length left)) (length right) → IsSharedLen left right shared
+    → IsSameRun one other 0 0 16 same → shared ≡ min same (min (length left) (length right)) → IsSharedLen left right shared
 shared_of_padded left right one other same shared few few_too is is_too run least = record {
   in_left = omega (arith, least);
   in_right = omega (arith, least);

@@ -12,12 +12,18 @@ zero_is_ascii : 0 < 128
 zero_is_ascii = omega arith
 
 -- few bytes are judged with zeros after them
+pub padded_judged : (bytes lanes : List ℕ) → lanes ≡ bytes ++ replicate (16 - length bytes) 0 → IsUtf8 lanes ↔ IsUtf8 bytes
+padded_judged bytes lanes spelled =
+    let pad : List ℕ = replicate (16 - length bytes) 0 in
+    let plain = IsUtf8-append_ascii bytes pad (IsAscii-replicate (16 - length bytes) 0 zero_is_ascii) in
+    (λ u. plain.0 (subst IsUtf8 spelled u), λ u. subst IsUtf8 (sym spelled) (plain.1 u))
+
+-- and with no byte of the back
 pub with_zeros_judged : (bytes lanes : List ℕ) → lanes ≡ bytes ++ replicate (16 - length bytes) 0 → IsUtf8 (joined lanes (replicate 16 0) 16) ↔ IsUtf8 bytes
 with_zeros_judged bytes lanes spelled =
-    let pad : List ℕ = replicate (16 - length bytes) 0 in
-    let same : joined lanes (replicate 16 0) 16 ≡ bytes ++ pad = append-nil lanes ∙ spelled in
-    let plain = IsUtf8-append_ascii bytes pad (IsAscii-replicate (16 - length bytes) 0 zero_is_ascii) in
-    (λ u. plain.0 (subst IsUtf8 same u), λ u. subst IsUtf8 (sym same) (plain.1 u))
+    let judged = padded_judged bytes lanes spelled in
+    let same : joined lanes (replicate 16 0) 16 ≡ lanes = append-nil lanes in
+    (λ u. judged.0 (subst IsUtf8 same u), λ u. subst IsUtf8 (sym same) (judged.1 u))
 
 pub of_few : (bytes lanes : List ℕ) (t : Bool) → lanes ≡ bytes ++ replicate (16 - length bytes) 0 → (IsTrue t ↔ IsUtf8 (joined lanes (replicate 16 0) 16))
     → MatchBool t (IsUtf8 bytes) (¬ (IsUtf8 bytes))

@@ -1,3 +1,4 @@
+pub mod Narrow
 pub mod Pairs
 pub mod Shared
 pub mod inside

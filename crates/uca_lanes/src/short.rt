@@ -3,11 +3,12 @@
 ghost use Rattle.std.specs.Prelude.{◌≡◌, ◌≤◌, length, MatchOption};
 ghost use Rattle.std.specs.Bool.{MatchBool};
 ghost use Rattle.std.specs.Str.{IsUtf8};
+ghost use Rattle.uca_lanes.specs.Narrow.{AreNarrow};
 ghost use Rattle.uca_lanes.specs.Shared.{IsSharedLen};
 ghost use Rattle.uca_lanes.specs.inside.Lanes.{IsSameRun};
 
 use crate::first_set;
-use crate::utf8::{are_utf8, number_of_eight, number_of_few, with_zeros};
+use crate::utf8::{are_utf8, is_narrow_utf8, number_of_eight, number_of_few, with_zeros};
 use std::simd::prelude::*;
 
 // After so many bytes there is a zero among sixteen.
@@ -44,7 +45,8 @@ pub fn shared_of_short(left: &[u8], right: &[u8]) -> Option<usize>
         return None;
     }
     let same = same_of_sixteen(one, other);
-    Some(same.min(left.len()).min(right.len()))
+    let most = left.len().min(right.len());
+    Some(same.min(most))
 }
 
 // Whether two strings of at most sixteen bytes, and of one length, are the same.
@@ -60,6 +62,22 @@ fn are_same_few(left: &[u8], right: &[u8]) -> bool
     }
     number_of_eight(left, 0) == number_of_eight(right, 0)
         && number_of_eight(left, len - 8) == number_of_eight(right, len - 8)
+}
+
+/// Whether two texts of at most sixteen bytes are the same, and UTF-8 (the Unicode Standard, section 3.9, table 3-7) of code
+/// points of one or two bytes. For example, `cart` and `cart` are. Of texts of more bytes, or with a code point of three or
+/// four, it returns `false`, whatever they are. It judges no such code point, so it takes fewer instructions than
+/// [`are_same_short`].
+#[inline(always)]
+pub fn are_same_narrow(left: &[u8], right: &[u8]) -> bool
+    ensures { MatchBool result
+        ((length left.now ≤ 16) × (left.now ≡ right.now) × IsUtf8 left.now × AreNarrow left.now)
+        (¬ ((length left.now ≤ 16) × (left.now ≡ right.now) × IsUtf8 left.now × AreNarrow left.now)) }
+{
+    if left.len() != right.len() || left.len() > 16 {
+        return false;
+    }
+    are_same_few(left, right) && is_narrow_utf8(with_zeros(left))
 }
 
 /// Whether two texts of at most 32 bytes are the same, and UTF-8 (the Unicode Standard, section 3.9, table 3-7). For

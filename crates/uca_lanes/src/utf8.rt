@@ -4,6 +4,7 @@ ghost use Rattle.std.specs.Prelude.{false, ◌≡◌, ◌↔◌, ◌+◌, ◌-�
 ghost use Rattle.std.specs.Bool.{MatchBool};
 ghost use Rattle.std.specs.Str.{IsUtf8};
 ghost use Rattle.std.specs.Simd.Lanes.{chunk, number_l};
+ghost use Rattle.uca_lanes.specs.Narrow.{AreNarrow};
 ghost use Rattle.uca_lanes.specs.inside.Marks.{joined, marks_from, marks_of, CountsAgree, SecondsAgree};
 
 use std::simd::prelude::*;
@@ -155,8 +156,29 @@ fn seconds_agree(front: u8x16, back: u8x16, both: u64) -> bool
         & (after_f4 & from_90 == 0)
 }
 
-/// Whether these bytes are UTF-8. Most have no code point of more than two bytes. It is not asked whether all are ASCII: where
-/// only some texts are, that takes more time than it saves.
+// Whether bytes are UTF-8, where none is E0 or more. It is not asked whether all are ASCII: where only some texts are, that takes
+// more time than it saves.
+#[inline(always)]
+fn are_utf8_if_narrow(front: u8x16, back: u8x16, both: u64) -> bool
+    requires both { both ≤ 16 }
+    requires narrow { marks_from 0xE0 (joined front back both) ≡ 0 }
+    ensures { IsTrue result ↔ IsUtf8 (joined front back both) }
+{
+    let high = marks_from(front, back, both, 0x80);
+    let starts = marks_from(front, back, both, 0xC0);
+    let leads = marks_from(front, back, both, 0xC2);
+    (starts == leads) & (2 * leads + starts == high)
+}
+
+/// Whether sixteen bytes are UTF-8, and none is E0 or more: no code point has three bytes or more.
+#[inline(always)]
+pub(crate) fn is_narrow_utf8(bytes: u8x16) -> bool
+    ensures { IsTrue result ↔ (IsUtf8 bytes × AreNarrow bytes) }
+{
+    mask_from(bytes, 0xE0) == 0 && are_utf8_if_narrow(bytes, u8x16::splat(0), 16)
+}
+
+/// Whether these bytes are UTF-8. Most have no code point of more than two bytes.
 #[inline(always)]
 pub(crate) fn are_utf8(front: u8x16, back: u8x16, both: u64) -> bool
     requires { both ≤ 16 }
@@ -165,10 +187,7 @@ pub(crate) fn are_utf8(front: u8x16, back: u8x16, both: u64) -> bool
     if has_from(front, back, 0xE0) {
         return counts_agree(front, back, both) & seconds_agree(front, back, both);
     }
-    let high = marks_from(front, back, both, 0x80);
-    let starts = marks_from(front, back, both, 0xC0);
-    let leads = marks_from(front, back, both, 0xC2);
-    (starts == leads) & (2 * leads + starts == high)
+    are_utf8_if_narrow(front, back, both)
 }
 
 // Whether any number of bytes is UTF-8. It stands apart, so that `is_utf8` needs no memory for what core returns.

@@ -150,13 +150,12 @@ pub(crate) fn order_rests<A: Allocator>(
     ensures { (c : Collation) → AreTrueEntries c points.now.entries.items → AreTrueHeads c heads.now →
         IfSome result (DifferFirst c weighting (chars left.now) (chars right.now)) }
 {
-    let at = shared.min(left.len()).min(right.len());
+    let most = left.len().min(right.len());
+    let at = shared.min(most);
     if heads.weighting != weighting {
         return order_cut(points, weighting, left, right, at);
     }
-    if let Some(ascii) = heads.ascii()
-        && let Some(found) = order_ascii(ascii, left, right, at)
-    {
+    if let Some(found) = order_ascii(heads, left, right, at) {
         return found;
     }
     order_all(points, heads, left, right, at)

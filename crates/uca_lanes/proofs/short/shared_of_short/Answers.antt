@@ -1,5 +1,5 @@
 -- The zeros after the left text part it from the right one.
-use Rattle.std.proofs.Common.{◌≡◌, ◌∙◌, false, true, length, min, ap, refl, arith}
+use Rattle.std.proofs.Common.{◌≡◌, ◌∙◌, false, true, min, ap, refl, arith}
 use Rattle.uca_lanes.proofs.ShortTexts.{both_texts, shared_of_padded}
 use Rattle.uca_lanes.proofs.short.shared_of_short.Goals as goal
 
@@ -20,7 +20,7 @@ returns c =
       omega (arith, few_too),
       texts.0,
       texts.1,
-      shared_of_padded left right c.with_zeros-one.result c.with_zeros-other.result c.same_of_sixteen-same.result c.min-2.result
+      shared_of_padded left right c.with_zeros-one.result c.with_zeros-other.result c.same_of_sixteen-same.result c.min.result
           (omega (arith, few)) (omega (arith, few_too)) c.with_zeros-one.ensures c.with_zeros-other.ensures c.same_of_sixteen-same.ensures
-          (c.min-2.ensures ∙ ap (λ n. min n (length right)) c.min.ensures),
+          (c.min.ensures ∙ ap (min c.same_of_sixteen-same.result) c.min-most.ensures),
     )

@@ -1,5 +1,4 @@
-use Rattle.std.proofs.Common.{◌≡◌, ◌∙◌, drop, refl, arith, inl}
-use Rattle.std.specs.Prelude.{◌≢◌}
+use Rattle.std.proofs.Common.{drop, refl, arith, inl}
 use Rattle.std.specs.Str.{chars}
 use Rattle.std.proofs.lemmas.Bool.{OnTrue_at}
 use Rattle.uca_text_comparer.proofs.BeginningSteps.{rests_cut}
@@ -20,7 +19,9 @@ loop-at-init c =
     }
 
 pub returns-then-branch-2 : goal.returns-then-branch-2
-returns-then-branch-2 c = λ collation weighting heads.
+returns-then-branch-2 c = λ collation true_heads.
+    let weighting = c.args.heads.now.weighting in
+    let heads = c.in_ok-ascii.ensures collation true_heads in
     let left = c.args.left.now in
     let right = c.args.right.now in
     let at = c.loop-at.at in
@@ -28,8 +29,8 @@ returns-then-branch-2 c = λ collation weighting heads.
     differ_at collation weighting (chars left) (chars right) (chars (drop at left)) (chars (drop at right)) _ _
     c.in_ok-first.first c.in_ok-second.second c.cmp.result rests
     (c.in_ok-first.ensures.next collation weighting heads) (c.in_ok-second.ensures.next collation weighting heads) c.if-first-second.true
-    (inl c.if-first-eq0.false) (inl c.if-second-eq0.false) (OnTrue_at c.if-branch.true (c.in_ok-goes_on_plain.ensures collation weighting heads))
-    (OnTrue_at c.if-branch-2.true (c.in_ok-goes_on_plain-2.ensures collation weighting heads)) c.cmp.ensures
+    (inl c.if-first-eq0.false) (inl c.if-second-eq0.false) (OnTrue_at c.if-branch.true (c.in_ok-any_goes_on_plain.ensures collation true_heads heads))
+    (OnTrue_at c.if-branch-2.true (c.in_ok-any_goes_on_plain-2.ensures collation true_heads heads)) c.cmp.ensures
 
 pub loop-at-preserved : goal.loop-at-preserved
 loop-at-preserved c =

@@ -11,7 +11,7 @@ abbrev pub invariant-loop-at : goal.invariant-loop-at
 invariant-loop-at l = record {
   within : l.at ≤ length l.left;
   within_too : l.at ≤ length l.right;
-  rests : (c : Collation) (weighting : Weighting) → AreHeadsFrom c weighting 0 l.heads → IsCharBoundary l.left l.at →
+  rests : (c : Collation) (weighting : Weighting) → AreHeadsFrom c weighting 0 l.ascii → IsCharBoundary l.left l.at →
       CompareAsRests c weighting (chars l.left) (chars l.right) (chars (drop l.at l.left)) (chars (drop l.at l.right));
 }
 
