@@ -167,11 +167,12 @@ static void report(bench *it, const char *name, call uca, call icu, const text *
     printf("%s %.1f %.1f\n", name, time_of(it, uca, rights, pairs), time_of(it, icu, rights, pairs));
 }
 
-enum { MOST_THREADS = 64 };
+enum { MOST_THREADS = 64, APART = 128 };
 
-/* A thread, with a collator and memory of its own over the same lines. */
+/* A thread, with a collator and memory of its own over the same lines. A call writes its collator. So no two workers have a
+   line of the cache in common, nor two lines that are fetched together. */
 typedef struct worker {
-    pthread_t thread;
+    _Alignas(APART) pthread_t thread;
     bench own;
     call make;
 } worker;

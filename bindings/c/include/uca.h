@@ -228,7 +228,8 @@ uint32_t uca_open_compact(uca_collator *collator, const uint8_t *table, size_t t
 
 /* Opens `other`, which is closed, as one more collator with all that `collator` keys texts by, and with its book. Both share the
    table and the data file. From then on each may be in a call of another thread at the same time, and may be closed before the
-   other. The two are not the same uca_collator.
+   other. The two are not the same uca_collator. A call writes its uca_collator, so threads are faster where theirs are 128 bytes
+   apart.
 
    UCA_OK: the keys, ranges and comparisons of `other` are those of `collator`, until uca_close of `other`.
    UCA_CLOSED: `collator` is closed.
