@@ -10,7 +10,7 @@ use std::test::Fail;
 use test_kit::{DATA, NUMBER_TABLE, data_of, holds, repeated, table_of};
 use uca_lanes::{
     are_same_narrow, are_same_short, is_utf8, marks_of_pairs, same_pairs, shared_len,
-    shared_of_short,
+    shared_of_longer, shared_of_short,
 };
 use uca_match::{Collator, Lookup, Trie};
 use uca_text_comparer::TextComparison;
@@ -107,6 +107,36 @@ const HEADS: [(&str, &str, Option<Ordering>, Option<Ordering>); 27] = [
     ("a", "b\u{905}", Some(Less), Some(Less)),
     ("a", "ab\u{3b1}", Some(Less), Some(Less)),
     ("a", "ab\u{301}", None, None),
+];
+
+/// Two texts, how many bytes they have in common, and their order by the next bytes, first where variable elements are
+/// non-ignorable, and then where they are shifted. The next bytes have to be letters of ASCII with other weights at level 1.
+/// What comes after them has to be plain. All code points are that begin with D4, as U+0500 does. Not all are that begin with
+/// CC, as U+0301 does, or with CE, as U+03B1 does: U+0390 has more than three elements here. Of bytes that begin longer code
+/// points nothing is known.
+const AT_ONCE: [(&str, &str, usize, Option<Ordering>, Option<Ordering>); 22] = [
+    ("a", "b", 0, Some(Less), Some(Less)),
+    ("b", "a", 0, Some(Greater), Some(Greater)),
+    ("Ab", "b", 0, Some(Less), Some(Less)),
+    ("aab", "aba", 1, Some(Less), Some(Less)),
+    ("A", "a", 0, None, None),
+    ("W", "b", 0, None, None),
+    ("W", "a", 0, Some(Greater), Some(Greater)),
+    ("-", "a", 0, Some(Less), None),
+    ("a", "-", 0, Some(Greater), None),
+    ("b-", "a-", 0, Some(Greater), Some(Greater)),
+    ("", "a", 0, None, None),
+    ("a", "", 0, None, None),
+    ("a", "ab", 1, None, None),
+    ("\u{3b1}", "a", 0, None, None),
+    ("\u{3b1}", "\u{3b2}", 1, None, None),
+    ("b\u{500}", "a", 0, Some(Greater), Some(Greater)),
+    ("a", "b\u{500}", 0, Some(Less), Some(Less)),
+    ("b\u{3b1}", "a", 0, None, None),
+    ("b\u{301}", "a", 0, None, None),
+    ("a", "b\u{301}", 0, None, None),
+    ("b\u{905}", "a", 0, None, None),
+    ("a\u{301}b", "a\u{301}a", 3, Some(Greater), Some(Greater)),
 ];
 
 /// Each row of table 3-7 of the Unicode Standard, by its first and its last code point.
@@ -237,6 +267,37 @@ const SHORT: [(&[u8], &[u8], Option<usize>); 28] = [
     (b"", b"abcdefghijkl\xE1\x80\x80", Some(0)),
     (b"\xF0\x9F\x98\x80", b"\xF0\x9F\x98\x81", Some(3)),
     (b"\xF0\x9F\x98\x80", b"\xF4\x90\x80\x80", None),
+];
+
+/// Two texts, and how many of their first sixteen bytes are the same, if each has at most 32 and is UTF-8. The last bytes are
+/// judged too, and so is a code point that ends after the first sixteen.
+const LONGER: [(&[u8], &[u8], Option<usize>); 18] = [
+    (b"", b"", Some(0)),
+    (b"a", b"a\0", Some(1)),
+    (b"Sonnenaufgang", b"Sonnenblumenfeld", Some(6)),
+    (b"Sonnenblumenfeld", b"Sonnenblumenfelder", Some(16)),
+    (b"abcdefghijklmnopqr", b"abcdefghijklmnopqs", Some(16)),
+    (b"abcdefghijklmnopqrstuvwxyzabcdef", b"b", Some(0)),
+    (b"b", b"abcdefghijklmnopqrstuvwxyzabcdef", Some(0)),
+    (b"abcdefghijklmnopqrstuvwxyzabcdefg", b"b", None),
+    (b"b", b"abcdefghijklmnopqrstuvwxyzabcdefg", None),
+    (
+        b"abcdefghijklmno\xC3\xA9",
+        b"abcdefghijklmno\xC3\xA8",
+        Some(16),
+    ),
+    (
+        b"abcdefghijklm\xE0\xA0\x80xyz",
+        b"abcdefghijklm\xE0\xA0\x81xyz",
+        Some(15),
+    ),
+    (b"abcdefghijklmnopq\xC3", b"a", None),
+    (b"a", b"abcdefghijklmnopq\xC3", None),
+    (b"abcdefghijklmno\x80q", b"a", None),
+    (b"a", b"abcdefghijklmno\xC3\xC3\xA9", None),
+    (b"\xC3", b"\xA9", None),
+    (b"a\xFF", b"a", None),
+    (b"a", b"a\xFF", None),
 ];
 
 /// Two byte strings, whether both are one text of at most 32 bytes, and whether it has at most sixteen and no code point of
@@ -388,6 +449,16 @@ fn check_short() -> Result<(), Fail> {
     Ok(())
 }
 
+fn check_longer() -> Result<(), Fail> {
+    for (left, right, wanted) in LONGER {
+        holds(
+            shared_of_longer(left, right) == wanted,
+            "what longer texts share",
+        )?;
+    }
+    Ok(())
+}
+
 fn check_same() -> Result<(), Fail> {
     for (left, right, wanted, is_narrow) in SAME {
         holds(are_same_short(left, right) == wanted, "same short texts")?;
@@ -501,7 +572,10 @@ fn check_by_value(comparison: &TextComparison) -> Result<(), Fail> {
         let found = comparison.order_beginnings(settings, left, right);
         holds(found == wanted, left)?;
     }
-    Ok(())
+    holds(
+        comparison.order_at_once(settings, "a", "b", 0).is_none(),
+        "numbers by value",
+    )
 }
 
 fn check_heads(comparison: &TextComparison, weighting: Weighting) -> Result<(), Fail> {
@@ -520,6 +594,35 @@ fn check_heads(comparison: &TextComparison, weighting: Weighting) -> Result<(), 
     Ok(())
 }
 
+fn check_at_once(
+    comparison: &TextComparison,
+    weighting: Weighting,
+    is_known: bool,
+) -> Result<(), Fail> {
+    let settings = Settings {
+        weighting,
+        ..settings_by(Numbers::AsText)
+    };
+    holds(
+        comparison
+            .order_at_once(settings, "aab", "aba", 0)
+            .is_none(),
+        "texts that have more in common",
+    )?;
+    for (left, right, count, not_ignored, shifted) in AT_ONCE {
+        let shared = shared_len(left.as_bytes(), right.as_bytes());
+        holds(shared == count, right)?;
+        let wanted = match weighting {
+            Weighting::NonIgnorable => not_ignored,
+            Weighting::Shifted => shifted,
+        };
+        let wanted = if is_known { wanted } else { None };
+        let found = comparison.order_at_once(settings, left, right, shared);
+        holds(found == wanted, left)?;
+    }
+    Ok(())
+}
+
 /// What is known under one weighting is not asked under the other one.
 fn check_under<L: Lookup>(
     comparison: &mut TextComparison,
@@ -530,8 +633,11 @@ fn check_under<L: Lookup>(
     ensures { Knows (collation_of L.content collator.now) comparison.new }
 {
     comparison.learn_heads(collator, weighting)?;
-    check_heads(comparison, Weighting::NonIgnorable)?;
-    check_heads(comparison, Weighting::Shifted)
+    for other in [Weighting::NonIgnorable, Weighting::Shifted] {
+        check_heads(comparison, other)?;
+        check_at_once(comparison, other, other == weighting)?;
+    }
+    Ok(())
 }
 
 fn check_weightings<L: Lookup>(alloc: Global, collator: &Collator<L>) -> Result<(), Fail> {
@@ -558,6 +664,7 @@ fn check_all<L: Lookup>(alloc: Global, collator: &Collator<L>) -> Result<(), Fai
     check_known_beginnings(&comparison)?;
     check_later(&comparison, true)?;
     check_short()?;
+    check_longer()?;
     check_same()?;
     check_utf8(alloc)?;
     check_runs(alloc)?;

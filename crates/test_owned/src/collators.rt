@@ -3,6 +3,7 @@
 
 use std::alloc::Global;
 use std::cmp::Ordering;
+use std::cmp::Ordering::{Greater, Less};
 use std::test::Fail;
 use test_kit::{holds, repeated, same_bytes};
 use uca_owned::{KeyFault, OwnedCollator};
@@ -27,6 +28,31 @@ const RANDOM_LENGTHS: usize = 300;
 
 /// How many pages of 256 code points a text has. A collator keeps something of each.
 const PAGES: [u32; 7] = [1, 2, 255, 256, 257, 400, 504];
+
+/// Two byte strings, and the order that the first bytes tell that differ: first of at most fifteen bytes, then of at most 32.
+/// Of longer ones the first seventeen are looked at. Nothing is told of texts that are the same there, and of bytes that are
+/// not UTF-8.
+const AT_ONCE: [(&[u8], &[u8], Option<Ordering>, Option<Ordering>); 14] = [
+    (b"a", b"b", Some(Less), Some(Less)),
+    (b"ba", b"ab", Some(Greater), Some(Greater)),
+    (b"ab", b"aa", Some(Greater), Some(Greater)),
+    (b"a", b"a", None, None),
+    (b"a", b"ab", None, None),
+    (b"", b"a", None, None),
+    (b"a\xFF", b"b", None, None),
+    (b"a", b"b\xFF", None, None),
+    (b"aaaaaaaaaaaaaaaa", b"b", None, Some(Less)),
+    (b"b", b"aaaaaaaaaaaaaaaa", None, Some(Greater)),
+    (b"aaaaaaaaaaaaaaaaaaaaaaaaaaaaaaaa", b"b", None, Some(Less)),
+    (b"aaaaaaaaaaaaaaaaaaaaaaaaaaaaaaaaa", b"b", None, None),
+    (
+        b"aaaaaaaaaaaaaaaab",
+        b"aaaaaaaaaaaaaaaaa",
+        None,
+        Some(Greater),
+    ),
+    (b"aaaaaaaaaaaaaaaaab", b"aaaaaaaaaaaaaaaaaa", None, None),
+];
 
 fn opened(alloc: Global) -> Result<OwnedCollator, Fail> {
     let asked = Asked::as_text(Some(Weighting::NonIgnorable), Depth::Weights);
@@ -130,6 +156,31 @@ fn check_other(first: &mut OwnedCollator, alloc: Global) -> Result<(), Fail> {
 #[test]
 fn collators_that_share_a_table(rt: HostRuntime) -> Result<(), Fail> {
     check_other(&mut opened(rt.alloc())?, rt.alloc())
+}
+
+fn check_at_once(collator: &OwnedCollator, is_known: bool) -> Result<(), Fail> {
+    for (left, right, of_short, of_longer) in AT_ONCE {
+        let of_short = if is_known { of_short } else { None };
+        let of_longer = if is_known { of_longer } else { None };
+        holds(collator.order_short(left, right) == of_short, "short texts")?;
+        holds(
+            collator.order_longer(left, right) == of_longer,
+            "longer texts",
+        )?;
+    }
+    Ok(())
+}
+
+fn check_before_and_after(collator: &mut OwnedCollator) -> Result<(), Fail> {
+    check_at_once(collator, false)?;
+    let found = collator.compare(b"a", b"b")?;
+    holds(found == (Less, 1), "a comparison")?;
+    check_at_once(collator, true)
+}
+
+#[test]
+fn orders_that_are_told_at_once(rt: HostRuntime) -> Result<(), Fail> {
+    check_before_and_after(&mut opened(rt.alloc())?)
 }
 
 /// The levels of the key of `ba`, one letter after the other.

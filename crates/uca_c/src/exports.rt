@@ -17,9 +17,12 @@ use crate::numbers::number_of_order;
 use crate::slot::{Slot, put, take};
 use crate::statuses::{ALREADY_OPEN, CLOSED, MEMORY, OK, SMALL};
 use crate::structs::{Comparison, FileError};
-use crate::{opening, work};
+use crate::{at_once, opening, work};
 use std::alloc::Global;
 use uca_lanes::{are_same_narrow, are_same_short};
+
+// Two texts of so many bytes are judged together.
+const SHORT: usize = 15;
 
 /// The number of this interface.
 #[unsafe(no_mangle)]
@@ -143,10 +146,9 @@ pub extern "C" fn uca_key(
     status
 }
 
-// Compares two texts by an open collator, without keys. It stands apart, so that `uca_compare` saves few registers where both
-// texts are the same narrow one. Another short text is equal to itself too, with no collator taken out.
+// Compares any two texts by an open collator, without keys. A short text is equal to itself, with no collator taken out.
 #[inline(never)]
-fn compare_open(
+fn compare_any(
     alloc: Global,
     collator: &mut Slot,
     left: &[u8],
@@ -170,6 +172,68 @@ fn compare_open(
     let status = work::compare(&mut opened, left, right, comparison);
     put(collator, opened);
     status
+}
+
+// What `compare_any` does. Where the first bytes that differ tell the order of two texts of at most 32 bytes, it takes less time.
+#[inline(never)]
+fn compare_longer(
+    alloc: Global,
+    collator: &mut Slot,
+    left: &[u8],
+    right: &[u8],
+    comparison: &mut Comparison,
+) -> u32
+    requires { collator.old.full ≡ true }
+    ensures ok { result ≡ OK → IsComparison (bytes_compared (keying_at collator.old.handle.kept) left.now right.now)
+        comparison.new.order comparison.new.level }
+    ensures rejected { IsCompareStatus (keying_at collator.old.handle.kept) left.now right.now result }
+    ensures none { result ≢ OK → (comparison.new.order ≡ pos 0) × (comparison.new.level ≡ 0) }
+    ensures open { collator.new.full ≡ true }
+    ensures keying { keying_at collator.new.handle.kept ≡ keying_at collator.old.handle.kept }
+    ensures book { collator.new.handle.kept.book ≡ collator.old.handle.kept.book }
+{
+    if are_same_short(left, right) {
+        *comparison = Comparison { order: 0, level: 0 };
+        return OK;
+    }
+    match at_once::order_longer(alloc, collator, left, right) {
+        Some(order) => {
+            *comparison = Comparison::of_letters(order);
+            OK
+        }
+        None => compare_any(alloc, collator, left, right, comparison),
+    }
+}
+
+// What `compare_any` does. Where the first bytes that differ tell the order of two texts of at most fifteen bytes, it takes less
+// time. After that it calls nothing, so it saves few registers. `uca_compare` saves fewer, where both texts are the same narrow one.
+#[inline(never)]
+fn compare_open(
+    alloc: Global,
+    collator: &mut Slot,
+    left: &[u8],
+    right: &[u8],
+    comparison: &mut Comparison,
+) -> u32
+    requires { collator.old.full ≡ true }
+    ensures ok { result ≡ OK → IsComparison (bytes_compared (keying_at collator.old.handle.kept) left.now right.now)
+        comparison.new.order comparison.new.level }
+    ensures rejected { IsCompareStatus (keying_at collator.old.handle.kept) left.now right.now result }
+    ensures none { result ≢ OK → (comparison.new.order ≡ pos 0) × (comparison.new.level ≡ 0) }
+    ensures open { collator.new.full ≡ true }
+    ensures keying { keying_at collator.new.handle.kept ≡ keying_at collator.old.handle.kept }
+    ensures book { collator.new.handle.kept.book ≡ collator.old.handle.kept.book }
+{
+    if left.len() > SHORT || right.len() > SHORT {
+        return compare_longer(alloc, collator, left, right, comparison);
+    }
+    match at_once::order_short(alloc, collator, left, right) {
+        Some(order) => {
+            *comparison = Comparison::of_letters(order);
+            OK
+        }
+        None => compare_any(alloc, collator, left, right, comparison),
+    }
 }
 
 /// Compares two texts, without keys.
@@ -202,9 +266,9 @@ pub extern "C" fn uca_compare(
     compare_open(alloc, collator, left, right, comparison)
 }
 
-// Orders two byte strings by an open collator. It stands apart for the same reason as `compare_open`.
+// Orders any two byte strings by an open collator. A short text is equal to itself, with no collator taken out.
 #[inline(never)]
-fn order_open(alloc: Global, collator: &mut Slot, left: &[u8], right: &[u8], order: &mut i32) -> u32
+fn order_any(alloc: Global, collator: &mut Slot, left: &[u8], right: &[u8], order: &mut i32) -> u32
     requires { collator.old.full ≡ true }
     ensures ok { result ≡ OK → IsOrderNumber (keying_at collator.old.handle.kept) left.now right.now order.new }
     ensures statuses { (result ≡ OK) ⊎ (result ≡ MEMORY) }
@@ -221,6 +285,59 @@ fn order_open(alloc: Global, collator: &mut Slot, left: &[u8], right: &[u8], ord
     let status = work::order(&mut opened, left, right, order);
     put(collator, opened);
     status
+}
+
+// What `order_any` does, as `compare_longer` does what `compare_any` does.
+#[inline(never)]
+fn order_longer(
+    alloc: Global,
+    collator: &mut Slot,
+    left: &[u8],
+    right: &[u8],
+    order: &mut i32,
+) -> u32
+    requires { collator.old.full ≡ true }
+    ensures ok { result ≡ OK → IsOrderNumber (keying_at collator.old.handle.kept) left.now right.now order.new }
+    ensures statuses { (result ≡ OK) ⊎ (result ≡ MEMORY) }
+    ensures none { result ≢ OK → order.new ≡ pos 0 }
+    ensures open { collator.new.full ≡ true }
+    ensures keying { keying_at collator.new.handle.kept ≡ keying_at collator.old.handle.kept }
+    ensures book { collator.new.handle.kept.book ≡ collator.old.handle.kept.book }
+{
+    if are_same_short(left, right) {
+        *order = 0;
+        return OK;
+    }
+    match at_once::order_longer(alloc, collator, left, right) {
+        Some(found) => {
+            *order = number_of_order(found);
+            OK
+        }
+        None => order_any(alloc, collator, left, right, order),
+    }
+}
+
+// What `order_any` does, as `compare_open` does what `compare_any` does.
+#[inline(never)]
+fn order_open(alloc: Global, collator: &mut Slot, left: &[u8], right: &[u8], order: &mut i32) -> u32
+    requires { collator.old.full ≡ true }
+    ensures ok { result ≡ OK → IsOrderNumber (keying_at collator.old.handle.kept) left.now right.now order.new }
+    ensures statuses { (result ≡ OK) ⊎ (result ≡ MEMORY) }
+    ensures none { result ≢ OK → order.new ≡ pos 0 }
+    ensures open { collator.new.full ≡ true }
+    ensures keying { keying_at collator.new.handle.kept ≡ keying_at collator.old.handle.kept }
+    ensures book { collator.new.handle.kept.book ≡ collator.old.handle.kept.book }
+{
+    if left.len() > SHORT || right.len() > SHORT {
+        return order_longer(alloc, collator, left, right, order);
+    }
+    match at_once::order_short(alloc, collator, left, right) {
+        Some(found) => {
+            *order = number_of_order(found);
+            OK
+        }
+        None => order_any(alloc, collator, left, right, order),
+    }
 }
 
 /// Orders two byte strings: accepted texts in their order, and all other bytes after them, in the order of bytes.

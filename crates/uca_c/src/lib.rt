@@ -6,6 +6,7 @@
 //! those of an `OwnedUpgrade` (`uca_upgrade`). Each error is a status.
 #![tactic(auto)]
 
+mod at_once;
 mod compact_exports;
 mod compact_work;
 mod crossing;

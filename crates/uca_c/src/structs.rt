@@ -1,5 +1,11 @@
 //! What a call tells beside its status.
 
+ghost use Rattle.std.specs.Prelude.{◌≡◌};
+ghost use Rattle.uca_c.specs.Numbers.{order_number};
+
+use crate::numbers::number_of_order;
+use std::cmp::Ordering;
+
 /// Where a file is rejected, and why.
 #[repr(C)]
 #[derive(Clone, Copy, Debug, Drop)]
@@ -38,4 +44,17 @@ pub struct Comparison {
     pub order: i32,
     /// The first level at which they differ, from 1 on, or 0 if none does.
     pub level: u32,
+}
+
+impl Comparison {
+    /// What tells the order of two texts that differ at level 1.
+    #[inline(always)]
+    pub(crate) fn of_letters(order: Ordering) -> Comparison
+        ensures { (result.order ≡ order_number order) × (result.level ≡ 1) }
+    {
+        Comparison {
+            order: number_of_order(order),
+            level: 1,
+        }
+    }
 }

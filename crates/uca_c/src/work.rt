@@ -19,6 +19,7 @@ use crate::open_collator::OpenCollator;
 use crate::statuses::{MEMORY, OK, SMALL, status_of_text, status_of_texts};
 use crate::structs::Comparison;
 use std::alloc::AllocError;
+use std::cmp::Ordering;
 use uca_compact::{KeyCompacter, LevelBytes};
 use uca_owned::{KeyFault, OwnedCollator};
 use uca_text::TextFault;
@@ -228,6 +229,26 @@ pub fn compare(
     ensures book { collator.new.book ≡ collator.old.book }
 {
     compare_texts(&mut collator.collator, left, right, comparison)
+}
+
+// The order of two texts of at most fifteen bytes, where their first bytes that differ tell it.
+#[inline(always)]
+pub fn order_short(collator: &OpenCollator, left: &[u8], right: &[u8]) -> Option<Ordering>
+    ensures compared { IfSome result (λ order. let answer = bytes_compared (keying_at collator.now) left.now right.now in
+        (order ≡ answer.order) × (1 ≡ answer.level)) }
+    ensures accepted { let k = keying_at collator.now in IfSome result (λ _. IsAcceptedBy k left.now × IsAcceptedBy k right.now) }
+{
+    collator.collator.order_short(left, right)
+}
+
+// The order of two texts of at most 32 bytes, where their first bytes that differ tell it.
+#[inline(always)]
+pub fn order_longer(collator: &OpenCollator, left: &[u8], right: &[u8]) -> Option<Ordering>
+    ensures compared { IfSome result (λ order. let answer = bytes_compared (keying_at collator.now) left.now right.now in
+        (order ≡ answer.order) × (1 ≡ answer.level)) }
+    ensures accepted { let k = keying_at collator.now in IfSome result (λ _. IsAcceptedBy k left.now × IsAcceptedBy k right.now) }
+{
+    collator.collator.order_longer(left, right)
 }
 
 // Orders two byte strings.

@@ -2,7 +2,7 @@
 use Rattle.std.proofs.Common.{◌≡◌, ℕ, suc, ◌+◌, ◌-◌, ◌<◌, ◌≤◌, ◌↔◌, List, ◌++◌, length, length-append, get_or, min, replicate, take, drop, refl, sym, subst, ap, ap₂, ◌∙◌, arith, append_assoc, take_all}
 use Rattle.std.specs.Str.{IsUtf8}
 use Rattle.std.specs.Simd.Lanes.{chunk, digits_l, number_l}
-use Rattle.std.proofs.lemmas.List.{get_or_append_left, get_or_at, take_at, drop_at}
+use Rattle.std.proofs.lemmas.List.{get_or_append_left, get_or_at, take_at, drop_at, length-take}
 use Rattle.std.proofs.lemmas.Simd.{length-chunk}
 use Rattle.std.proofs.lemmas.Str.{IsUtf8-append, IsUtf8-take, IsUtf8-drop, IsCharBoundary-before_ascii}
 use Rattle.simdutf8.proofs.StepsLemmas.{IsUtf8-append_ascii, IsUtf8-after_ascii, IsAscii-replicate}
@@ -103,7 +103,7 @@ same_ends left right long some few fronts backs =
 in_padded : (bytes lanes : List ℕ) (i : ℕ) → lanes ≡ padded bytes → i < length bytes → get_or lanes i 0 ≡ get_or bytes i 0
 in_padded bytes lanes i is within = ap (λ l. get_or l i 0) is ∙ get_or_append_left bytes (zeros (16 - length bytes)) 0 i within
 
-pub shared_of_padded : (left right one other : List ℕ) (same shared : ℕ) → length left ≤ 15 → length right ≤ 15 → one ≡ padded left → other ≡ padded right
+pub shared_of_padded : (left right one other : List ℕ) (same shared : ℕ) → length left ≤ 16 → length right ≤ 16 → one ≡ padded left → other ≡ padded right
     → IsSameRun one other 0 0 16 same → shared ≡ min same (min (length left) (length right)) → IsSharedLen left right shared
 shared_of_padded left right one other same shared few few_too is is_too run least = record {
   in_left = omega (arith, least);
@@ -125,3 +125,14 @@ shared_of_padded left right one other same shared few few_too is is_too run leas
     apart_at within within_too equal =
         run.apart (omega (arith, within, few)) (subst (λ n. get_or one n 0 ≡ get_or other n 0) (sym (zeroth same))
         (in_padded left one same is within ∙ equal ∙ sym (in_padded right other same is_too within_too)))
+
+-- so it is of the first sixteen bytes of longer texts
+pub shared_of_fronts : (left right one other : List ℕ) (same shared : ℕ) → one ≡ take 16 left ++ zeros (16 - length left)
+    → other ≡ take 16 right ++ zeros (16 - length right) → IsSameRun one other 0 0 16 same → shared ≡ min same (min (length left) (length right))
+    → IsSharedLen (take 16 left) (take 16 right) shared
+shared_of_fronts left right one other same shared is is_too run least =
+    shared_of_padded (take 16 left) (take 16 right) one other same shared (omega (arith, length-take 16 left)) (omega (arith, length-take 16 right))
+    (is ∙ pad left) (is_too ∙ pad right) run (omega (arith, least, run.within, length-take 16 left, length-take 16 right))
+  where
+    pad : (bytes : List ℕ) → take 16 bytes ++ zeros (16 - length bytes) ≡ padded (take 16 bytes)
+    pad bytes = ap (λ n. take 16 bytes ++ zeros n) (omega (arith, length-take 16 bytes))

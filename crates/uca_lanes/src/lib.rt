@@ -14,7 +14,7 @@ mod short;
 mod utf8;
 
 pub use pairs::{marks_of_pairs, same_pairs};
-pub use short::{are_same_narrow, are_same_short, shared_of_short};
+pub use short::{are_same_narrow, are_same_short, shared_of_longer, shared_of_short};
 use std::simd::prelude::*;
 pub use utf8::is_utf8;
 

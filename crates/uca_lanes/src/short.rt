@@ -1,6 +1,6 @@
 //! Two short texts at once: whether both are UTF-8, how many bytes they have in common, and whether they are the same.
 
-ghost use Rattle.std.specs.Prelude.{◌≡◌, ◌≤◌, length, MatchOption};
+ghost use Rattle.std.specs.Prelude.{◌≡◌, ◌↔◌, ◌-◌, ◌≤◌, ◌++◌, length, replicate, take, IsTrue, MatchOption};
 ghost use Rattle.std.specs.Bool.{MatchBool};
 ghost use Rattle.std.specs.Str.{IsUtf8};
 ghost use Rattle.uca_lanes.specs.Narrow.{AreNarrow};
@@ -47,6 +47,60 @@ pub fn shared_of_short(left: &[u8], right: &[u8]) -> Option<usize>
     let same = same_of_sixteen(one, other);
     let most = left.len().min(right.len());
     Some(same.min(most))
+}
+
+// Up to sixteen of the first bytes of a text, and zeros after them.
+#[inline(always)]
+fn front_of(bytes: &[u8]) -> u8x16
+    ensures { result ≡ take 16 bytes.now ++ replicate (16 - length bytes.now) 0 }
+{
+    if bytes.len() <= 16 {
+        with_zeros(bytes)
+    } else {
+        u8x16::from_slice(bytes)
+    }
+}
+
+// Whether a text of at most 32 bytes that begins so is UTF-8.
+#[inline(always)]
+fn is_utf8_after(front: u8x16, bytes: &[u8]) -> bool
+    requires few { length bytes.now ≤ 32 }
+    requires front { front ≡ take 16 bytes.now ++ replicate (16 - length bytes.now) 0 }
+    ensures { IsTrue result ↔ IsUtf8 bytes.now }
+{
+    let len = bytes.len();
+    if len <= 16 {
+        return are_utf8(front, u8x16::splat(0), 16);
+    }
+    are_utf8(
+        front,
+        u8x16::from_slice(&bytes[len - 16..]),
+        32 - len as u64,
+    )
+}
+
+/// How many of the first sixteen bytes two texts of at most 32 bytes have in common at their beginning. For example,
+/// `Sonnenaufgang` and `Sonnenblumenfeld` have six. There is no result if a text has more bytes or is not UTF-8 (the Unicode
+/// Standard, section 3.9, table 3-7). Each text is judged alone, so [`shared_of_short`] takes fewer instructions where it can
+/// tell.
+#[inline(always)]
+pub fn shared_of_longer(left: &[u8], right: &[u8]) -> Option<usize>
+    ensures { MatchOption result
+        (length left.now ≤ 32 → length right.now ≤ 32 → ¬ (IsUtf8 left.now × IsUtf8 right.now))
+        (λ shared. (length left.now ≤ 32) × (length right.now ≤ 32) × IsUtf8 left.now × IsUtf8 right.now
+        × IsSharedLen (take 16 left.now) (take 16 right.now) shared) }
+{
+    if left.len() > AT_ONCE || right.len() > AT_ONCE {
+        return None;
+    }
+    let one = front_of(left);
+    let other = front_of(right);
+    if !is_utf8_after(one, left) || !is_utf8_after(other, right) {
+        return None;
+    }
+    let same = same_of_sixteen(one, other);
+    let shorter = left.len().min(right.len());
+    Some(same.min(shorter))
 }
 
 // Whether two strings of at most sixteen bytes, and of one length, are the same.

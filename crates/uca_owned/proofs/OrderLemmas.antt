@@ -54,8 +54,8 @@ short_accepted k bytes utf8 short = record {
   accepted = short_text_accepted k.settings.numbers k.collation.properties bytes utf8 short;
 }
 
--- so are two of at most fifteen bytes
-pub shorts_accepted : (k : Keying) (left right : List ℕ) → IsUtf8 left × IsUtf8 right → (length left ≤ 15) × (length right ≤ 15)
+-- so are two
+pub shorts_accepted : (k : Keying) (left right : List ℕ) → IsUtf8 left × IsUtf8 right → (length left ≤ 32) × (length right ≤ 32)
     → IsAcceptedBy k left × IsAcceptedBy k right
 shorts_accepted k left right utf8 short =
     (short_accepted k left utf8.0 (omega (arith, short.0)), short_accepted k right utf8.1 (omega (arith, short.1)))

@@ -13,7 +13,7 @@ ghost use Rattle.uca_text_comparer.specs.Heads.{Knows};
 ghost use Rattle.uca_owned.specs.Causes.{IsAcceptedText, IsAcceptedBy, IsKeyCause, IsCompareCause};
 
 use crate::faults::{CompareFault, KeyFault};
-use crate::reading::{read_after, read_short, read_text};
+use crate::reading::{read_after, read_longer, read_short, read_text};
 use std::cmp::Ordering;
 use uca_lanes::shared_len;
 use uca_match::OwnedCollation;
@@ -23,6 +23,9 @@ use uca_weights::Settings;
 
 /// A text of so many bytes is accepted: what is read of it has at most 64 code points in Normalization Form D.
 const SHORT_TEXT: usize = 32;
+
+/// Two texts of so many bytes are judged together.
+const SHORTER: usize = 15;
 
 // How a short text compares with itself. It is accepted, so none of its code points is looked up. There is no result
 // for two other texts, for a long one, and for bytes that are no UTF-8.
@@ -71,8 +74,59 @@ pub(crate) fn compare_bytes(
     Ok(pair)
 }
 
-// How two texts of at most fifteen bytes compare, if they differ at level 1 after the code points with which both begin. There
-// is no result for others, and where nothing is known of a code point yet.
+/// The order of two texts of at most fifteen bytes by the first bytes that differ, where these tell it.
+#[inline(always)]
+pub(crate) fn first_of_short(
+    comparison: &TextComparison,
+    settings: Settings,
+    left: &[u8],
+    right: &[u8],
+) -> Option<Ordering>
+    ensures compared { (c : Collation) → Knows c comparison.now → IfSome result (λ order.
+        let answer = bytes_compared (keying_by c settings) left.now right.now in (order ≡ answer.order) × (1 ≡ answer.level)) }
+    ensures accepted { (k : Keying) → IfSome result (λ _. IsAcceptedBy k left.now × IsAcceptedBy k right.now) }
+{
+    let (one, other, shared) = read_short(left, right)?;
+    let order = comparison.order_at_once(settings, one, other, shared)?;
+    Some(order)
+}
+
+/// The order of two texts of at most 32 bytes by the first bytes that differ, where these tell it.
+#[inline(always)]
+pub(crate) fn first_of_longer(
+    comparison: &TextComparison,
+    settings: Settings,
+    left: &[u8],
+    right: &[u8],
+) -> Option<Ordering>
+    ensures compared { (c : Collation) → Knows c comparison.now → IfSome result (λ order.
+        let answer = bytes_compared (keying_by c settings) left.now right.now in (order ≡ answer.order) × (1 ≡ answer.level)) }
+    ensures accepted { (k : Keying) → IfSome result (λ _. IsAcceptedBy k left.now × IsAcceptedBy k right.now) }
+{
+    let (left_text, right_text, shared) = read_longer(left, right)?;
+    let order = comparison.order_at_once(settings, left_text, right_text, shared)?;
+    Some(order)
+}
+
+// The order of two texts of at most 32 bytes, as `compare_short` tells it of shorter ones.
+#[inline(never)]
+fn order_longer(
+    comparison: &TextComparison,
+    settings: Settings,
+    left: &[u8],
+    right: &[u8],
+) -> Option<Ordering>
+    ensures compared { (c : Collation) → Knows c comparison.now → IfSome result (λ order.
+        let answer = bytes_compared (keying_by c settings) left.now right.now in (order ≡ answer.order) × (1 ≡ answer.level)) }
+    ensures accepted { (k : Keying) → IfSome result (λ _. IsAcceptedBy k left.now × IsAcceptedBy k right.now) }
+{
+    let (left_text, right_text, shared) = read_longer(left, right)?;
+    let order = comparison.order_after(settings, left_text, right_text, shared)?;
+    Some(order)
+}
+
+// How two texts of at most 32 bytes compare, if they differ at level 1 after the code points with which both begin. There is
+// no result for others, and where nothing is known of a code point yet.
 #[inline(always)]
 fn compare_short(
     comparison: &TextComparison,
@@ -84,6 +138,10 @@ fn compare_short(
         let answer = bytes_compared (keying_by c settings) left.now right.now in (pair.0 ≡ answer.order) × (pair.1 ≡ answer.level)) }
     ensures accepted { (k : Keying) → IfSome result (λ _. IsAcceptedBy k left.now × IsAcceptedBy k right.now) }
 {
+    if left.len() > SHORTER || right.len() > SHORTER {
+        let order = order_longer(comparison, settings, left, right)?;
+        return Some((order, 1));
+    }
     let (left_text, right_text, shared) = read_short(left, right)?;
     let order = comparison.order_after(settings, left_text, right_text, shared)?;
     Some((order, 1))

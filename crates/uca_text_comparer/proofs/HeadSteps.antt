@@ -1,42 +1,48 @@
 -- What the heads of code points say.
-use Rattle.std.proofs.Common.{◌≡◌, ◌≢◌, ◌+◌, ◌<◌, ◌≤◌, ℕ, zero, suc, List, [], ◌∷◌, ◌++◌, length, take, drop, drop-cons, get_or, Bool, true, false, not, sym, ap, subst, ◌∙◌, arith}
+use Rattle.std.proofs.Common.{◌≡◌, ◌≢◌, ◌+◌, ◌-◌, ◌*◌, ◌/◌, ◌<◌, ◌≤◌, ltb, ltb-true, ltb-false, cond, refl, ℕ, zero, suc, List, [], ◌∷◌, ◌++◌, length, take, drop, drop-cons, get_or, Bool, true, false, not, sym, ap, subst, ◌∙◌, arith}
 use Rattle.std.specs.Bool.{MatchBool}
-use lib.Utf8.{encode, encodes}
+use lib.Utf8.{encode, encodes, next}
 use Rattle.std.specs.Str.{chars, IsUtf8, IsCharBoundary}
 use Rattle.std.specs.Char.{len_utf8}
-use Rattle.std.proofs.lemmas.Str.{IsUtf8-take, IsUtf8-drop, IsCharBoundary-from_take, IsCharBoundary-past_char, encodes-chars, drop_past_char, len_utf8_bounds, chars_past_char, encode_ascii, IsCharBoundary-before_ascii, IsCharBoundary-after_ascii}
+use Rattle.std.proofs.lemmas.Str.{IsUtf8-take, IsUtf8-drop, IsCharBoundary-from_take, IsCharBoundary-past_char, encodes-chars, drop_past_char, len_utf8_bounds, chars_past_char, encode_ascii, length-encode, IsCharBoundary-before_ascii, IsCharBoundary-after_ascii}
 use Rattle.uca_weights.specs.declared.Weighting.{Weighting}
 use Rattle.uca_plain.specs.PointCache.{IsTrueEntry}
 use Rattle.uca_plain.specs.declared.plain.KnownPoint.{KnownPoint}
 use Rattle.uca_elements.specs.Collations.{Collation}
 use Rattle.uca_text_comparer.specs.declared.heads.Head.{Head}
-use Rattle.uca_text_comparer.specs.Heads.{primary_of, IsFirstWeight, IsHeaded, IsTrueHead, AreHeadsFrom}
+use Rattle.uca_text_comparer.specs.Heads.{primary_of, IsFirstWeight, IsHeaded, IsTrueHead, AreFrom}
 use Rattle.uca_text_comparer.proofs.LevelOneSteps.{no_element, entry_first, entry_headed}
 use Rattle.uca_text_comparer.specs.inside.LevelOne.{HasNext}
 
--- each head is true of its code point
-head_at : (c : Collation) (weighting : Weighting) (from at : ℕ) (heads : List Head) (d : Head) → AreHeadsFrom c weighting from heads → at < length heads
-    → IsTrueHead c weighting (from + at) (get_or heads at d)
-head_at c weighting from at [] d all within = absurd (omega (arith, within))
-head_at c weighting from zero (head ∷ heads) d all within = subst (λ n. IsTrueHead c weighting n head) (omega arith) all.0
-head_at c weighting from (suc at) (head ∷ heads) d all within =
-    let there : suc from + at ≡ from + suc at = omega arith in
-    subst (λ n. IsTrueHead c weighting n (get_or heads at d)) there (head_at c weighting (suc from) at heads d all.1 (omega (arith, within)))
+-- ---- Heads and their numbers
 
--- and so are they with one more
-pub heads_on : (c : Collation) (weighting : Weighting) (from : ℕ) (heads : List Head) (head : Head) → AreHeadsFrom c weighting from heads
-    → IsTrueHead c weighting (from + length heads) head → AreHeadsFrom c weighting from (heads ++ head ∷ [])
-heads_on c weighting from [] head all next = (subst (λ n. IsTrueHead c weighting n head) (omega arith) next, tt)
-heads_on c weighting from (first ∷ heads) head all next =
-    let there : from + suc (length heads) ≡ suc from + length heads = omega arith in
-    (all.0, heads_on c weighting (suc from) heads head all.1 (subst (λ n. IsTrueHead c weighting n head) there next))
+module _ (P : ℕ → Head → Type 0) where
+  -- it is true of each head
+  from_at : (from at : ℕ) (heads : List Head) (d : Head) → AreFrom P from heads → at < length heads → P (from + at) (get_or heads at d)
+  from_at from at [] d all within = absurd (omega (arith, within))
+  from_at from zero (head ∷ heads) d all within = subst (λ n. P n head) (omega arith) all.0
+  from_at from (suc at) (head ∷ heads) d all within =
+      let there : suc from + at ≡ from + suc at = omega arith in
+      subst (λ n. P n (get_or heads at d)) there (from_at (suc from) at heads d all.1 (omega (arith, within)))
 
--- and so are the first ones
-pub first_heads : (c : Collation) (weighting : Weighting) (from count : ℕ) (heads : List Head) → AreHeadsFrom c weighting from heads
-    → AreHeadsFrom c weighting from (take count heads)
-first_heads c weighting from zero heads all = tt
-first_heads c weighting from (suc count) [] all = tt
-first_heads c weighting from (suc count) (head ∷ heads) all = (all.0, first_heads c weighting (suc from) count heads all.1)
+  -- and with one more
+  pub heads_on : (from : ℕ) (heads : List Head) (head : Head) → AreFrom P from heads → P (from + length heads) head → AreFrom P from (heads ++ head ∷ [])
+  heads_on from [] head all next = (subst (λ n. P n head) (omega arith) next, tt)
+  heads_on from (first ∷ heads) head all next =
+      let there : from + suc (length heads) ≡ suc from + length heads = omega arith in
+      (all.0, heads_on (suc from) heads head all.1 (subst (λ n. P n head) there next))
+
+  -- and of the first ones
+  pub first_heads : (from count : ℕ) (heads : List Head) → AreFrom P from heads → AreFrom P from (take count heads)
+  first_heads from zero heads all = tt
+  first_heads from (suc count) [] all = tt
+  first_heads from (suc count) (head ∷ heads) all = (all.0, first_heads (suc from) count heads all.1)
+
+  -- the head of a number
+  pub head_there : (heads : List Head) (x : ℕ) (head d : Head) → AreFrom P 0 heads → x < length heads → head ≡ get_or heads x d → P x head
+  head_there heads x head d all within is =
+      let there : 0 + x ≡ x = omega arith in
+      subst (P x) (sym is) (subst (λ n. P n (get_or heads x d)) there (from_at 0 x heads d all within))
 
 -- ---- The head of an entry
 
@@ -118,9 +124,56 @@ next_there c weighting xs rest x head split true_head = record {
   goes_on = λ some. (x, split, true_head);
 }
 
--- its head among all heads
-pub head_there : (c : Collation) (weighting : Weighting) (heads : List Head) (x : ℕ) (head d : Head) → AreHeadsFrom c weighting 0 heads
-    → x < length heads → head ≡ get_or heads x d → IsTrueHead c weighting x head
-head_there c weighting heads x head d all within is =
-    let there : 0 + x ≡ x = omega arith in
-    subst (IsTrueHead c weighting x) (sym is) (subst (λ n. IsTrueHead c weighting n (get_or heads x d)) there (head_at c weighting 0 x heads d all within))
+-- ---- Heads of bytes
+
+-- how UTF-8 writes a code point of three bytes or more, of two or more, and any
+abbrev three_bytes : ℕ → Bool → List ℕ
+three_bytes x b = cond b ((224 + x / 4096) ∷ next (x / 64) ∷ next x ∷ []) ((240 + x / 262144) ∷ next (x / 4096) ∷ next (x / 64) ∷ next x ∷ [])
+
+abbrev two_bytes : ℕ → Bool → List ℕ
+two_bytes x b = cond b ((192 + x / 64) ∷ next x ∷ []) (three_bytes x (ltb x 65536))
+
+encoded : (x : ℕ) (P : List ℕ → Type 0) → (x < 128 → P (x ∷ [])) → (128 ≤ x → x < 2048 → P ((192 + x / 64) ∷ next x ∷ []))
+    → ((y : ℕ) (more : List ℕ) → 224 ≤ y → P (y ∷ more)) → P (encode x)
+unfolding encode
+encoded x P one two long = by_one (ltb x 128) refl
+  where
+    by_three : (b : Bool) → P (three_bytes x b)
+    by_three true = long (224 + x / 4096) (next (x / 64) ∷ next x ∷ []) (omega arith)
+    by_three false = long (240 + x / 262144) (next (x / 4096) ∷ next (x / 64) ∷ next x ∷ []) (omega arith)
+
+    by_two : 128 ≤ x → (b : Bool) → ltb x 2048 ≡ b → P (two_bytes x b)
+    by_two some true below = two some (ltb-true x 2048 below)
+    by_two some false above = by_three (ltb x 65536)
+
+    by_one : (b : Bool) → ltb x 128 ≡ b → P (cond b (x ∷ []) (two_bytes x (ltb x 2048)))
+    by_one true below = one (ltb-true x 128 below)
+    by_one false above = by_two (ltb-false x 128 above) (ltb x 2048) refl
+
+-- a text begins with a code point that its first byte begins
+pub begins_with : (text : List ℕ) → IsUtf8 text → 0 < length text → (x : ℕ) × (xs : List ℕ) × (more : List ℕ) × (chars text ≡ x ∷ xs) × (encode x ≡ get_or text 0 0 ∷ more)
+begins_with text utf8 some = at (chars text) refl
+  where
+    first : (x : ℕ) (xs bytes : List ℕ) → encode x ≡ bytes → encodes (x ∷ xs) ≡ text → 0 < length bytes → (more : List ℕ) × (encode x ≡ get_or text 0 0 ∷ more)
+    first x xs [] is all long = absurd (omega (arith, long))
+    first x xs (b ∷ more) is all long = (more, is ∙ ap (λ c. c ∷ more) (sym (ap (λ l. get_or (l ++ encodes xs) 0 0) is) ∙ ap (λ l. get_or l 0 0) all))
+
+    at : (cs : List ℕ) → chars text ≡ cs → (x : ℕ) × (xs : List ℕ) × (more : List ℕ) × (chars text ≡ x ∷ xs) × (encode x ≡ get_or text 0 0 ∷ more)
+    at [] is = absurd (omega (arith, some, ap length (sym (encodes-chars text utf8) ∙ ap encodes is)))
+    at (x ∷ xs) is =
+        let found = first x xs (encode x) refl (sym (ap encodes is) ∙ encodes-chars text utf8) (omega (arith, length-encode x, (len_utf8_bounds x).0)) in
+        (x, xs, found.0, is, found.1)
+
+-- a byte of ASCII is its code point
+pub single_is : (x byte : ℕ) (more : List ℕ) → encode x ≡ byte ∷ more → byte < 128 → x ≡ byte
+single_is x byte more = encoded x (λ bytes. bytes ≡ byte ∷ more → byte < 128 → x ≡ byte)
+    (λ low same few. ap (λ l. get_or l 0 0) same)
+    (λ some below same few. absurd (omega (arith, few, ap (λ l. get_or l 0 0) same)))
+    (λ y rest large same few. absurd (omega (arith, few, large, ap (λ l. get_or l 0 0) same)))
+
+-- a byte of C0 to DF begins 64 of them
+pub pair_is : (x byte : ℕ) (more : List ℕ) → encode x ≡ byte ∷ more → 192 ≤ byte → byte < 224 → ((byte - 192) * 64 ≤ x) × (x < (byte - 192) * 64 + 64)
+pair_is x byte more = encoded x (λ bytes. bytes ≡ byte ∷ more → 192 ≤ byte → byte < 224 → ((byte - 192) * 64 ≤ x) × (x < (byte - 192) * 64 + 64))
+    (λ low same from to. absurd (omega (arith, low, from, ap (λ l. get_or l 0 0) same)))
+    (λ some below same from to. (omega (arith, ap (λ l. get_or l 0 0) same), omega (arith, ap (λ l. get_or l 0 0) same)))
+    (λ y rest large same from to. absurd (omega (arith, to, large, ap (λ l. get_or l 0 0) same)))

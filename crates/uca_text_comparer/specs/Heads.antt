@@ -1,5 +1,6 @@
 -- What a comparison knows of code points. Only contracts of the parts of comparisons cite this file.
-use Rattle.std.specs.Prelude.{◌≡◌, ◌≢◌, ℕ, suc, List, [], ◌∷◌, true, if◌then◌else◌, ⊤}
+use lib.Utf8.{encode}
+use Rattle.std.specs.Prelude.{◌≡◌, ◌≢◌, ◌<◌, ℕ, suc, List, [], ◌∷◌, true, if◌then◌else◌, ⊤}
 use Rattle.std.specs.List.{AllByRecursion}
 use Rattle.uca_weights.specs.declared.Element.{Element}
 use Rattle.uca_weights.specs.declared.Weighting.{Weighting}
@@ -37,13 +38,28 @@ pub record IsTrueHead (c : Collation) (weighting : Weighting) (x : ℕ) (head : 
   pub first : head.weight ≢ 0 → IsPlain c x × IsFirstWeight weighting head.weight (elements_alone c x)
   pub alone : head.alone ≡ true → (head.weight ≢ 0) × IsHeaded weighting head.weight (elements_alone c x)
 
+-- something is true of each head and its number, which are counted from this one on
+abbrev pub AreFrom : (ℕ → Head → Type 0) → ℕ → List Head → Type 0
+AreFrom P x [] = ⊤
+AreFrom P x (head ∷ heads) = P x head × AreFrom P (suc x) heads
+
 -- the heads of the code points from this one on
 abbrev pub AreHeadsFrom : Collation → Weighting → ℕ → List Head → Type 0
-AreHeadsFrom c weighting x [] = ⊤
-AreHeadsFrom c weighting x (head ∷ heads) = IsTrueHead c weighting x head × AreHeadsFrom c weighting (suc x) heads
+AreHeadsFrom c weighting = AreFrom (IsTrueHead c weighting)
 
-abbrev pub AreTrueHeads : Collation → Heads → Type 0
-AreTrueHeads c heads = AreHeadsFrom c heads.weighting 0 heads.items.items
+-- The head is true of each code point whose UTF-8 begins with this byte. Where it has a weight, the byte is one of ASCII.
+pub record IsTrueFirst (c : Collation) (weighting : Weighting) (byte : ℕ) (head : Head) : Type 0 where
+  pub each : (x : ℕ) (more : List ℕ) → encode x ≡ byte ∷ more → IsTrueHead c weighting x head
+  pub single : head.weight ≢ 0 → byte < 128
+
+-- the heads of the bytes from this one on
+abbrev pub AreFirstsFrom : Collation → Weighting → ℕ → List Head → Type 0
+AreFirstsFrom c weighting = AreFrom (IsTrueFirst c weighting)
+
+-- all heads are true
+pub record AreTrueHeads (c : Collation) (heads : Heads) : Type 0 where
+  pub points : AreHeadsFrom c heads.weighting 0 heads.items.items
+  pub firsts : AreFirstsFrom c heads.weighting 0 heads.firsts.items
 
 -- all that a comparison knows is true of this collation
 pub record Knows {A : Type 0} (c : Collation) (comparison : TextComparison A) : Type 0 where

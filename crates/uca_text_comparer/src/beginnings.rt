@@ -12,6 +12,7 @@ ghost use Rattle.uca_text_comparer.specs.Heads.{AreTrueHeads};
 ghost use Rattle.uca_text_comparer.specs.inside.Beginnings.{HaveRests, DifferFirst};
 
 use crate::ascii::order_ascii;
+use crate::firsts::order_first;
 use crate::heads::Heads;
 use crate::next::{begins_plain, next_head};
 use std::alloc::Allocator;
@@ -134,6 +135,46 @@ fn order_all<A: Allocator>(
     }
 }
 
+// What `order_rests` returns under the weighting of the heads, where it is not found out without a loop.
+#[inline(never)]
+fn order_more<A: Allocator>(
+    points: &PointCache<A>,
+    heads: &Heads,
+    left: &str,
+    right: &str,
+    shared: usize,
+) -> Option<Ordering>
+    requires within { shared ≤ length left.now }
+    requires within_too { shared ≤ length right.now }
+    requires same { take shared left.now ≡ take shared right.now }
+    ensures { (c : Collation) → AreTrueEntries c points.now.entries.items → AreTrueHeads c heads.now →
+        IfSome result (DifferFirst c heads.now.weighting (chars left.now) (chars right.now)) }
+{
+    if let Some(found) = order_ascii(heads, left, right, shared) {
+        return found;
+    }
+    order_all(points, heads, left, right, shared)
+}
+
+/// What [`order_first`] returns under this weighting, if that is the one of the heads.
+#[inline(always)]
+pub(crate) fn order_at_once(
+    heads: &Heads,
+    weighting: Weighting,
+    left: &str,
+    right: &str,
+    shared: usize,
+) -> Option<Ordering>
+    requires { take shared left.now ≡ take shared right.now }
+    ensures { (c : Collation) → AreTrueHeads c heads.now →
+        IfSome result (DifferFirst c weighting (chars left.now) (chars right.now)) }
+{
+    if weighting != heads.weighting {
+        return None;
+    }
+    order_first(heads, left, right, shared)
+}
+
 /// The order of two texts that differ at level 1 after the code points with which both begin. Their first bytes are the
 /// same, so many of them. There is no result for others. Each code point up to the one after the difference has to be known
 /// and plain. Those up to the difference need a weight at level 1, and those before it no more than one.
@@ -155,8 +196,8 @@ pub(crate) fn order_rests<A: Allocator>(
     if heads.weighting != weighting {
         return order_cut(points, weighting, left, right, at);
     }
-    if let Some(found) = order_ascii(heads, left, right, at) {
-        return found;
+    match order_first(heads, left, right, at) {
+        Some(order) => Some(order),
+        None => order_more(points, heads, left, right, at),
     }
-    order_all(points, heads, left, right, at)
 }

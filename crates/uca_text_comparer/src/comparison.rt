@@ -15,7 +15,7 @@ ghost use Rattle.uca_text_comparer.specs.Heads.{Knows};
 ghost use Rattle.uca_text_comparer.specs.inside.Beginnings.{AreReadAsText};
 ghost use Rattle.uca_text_comparer.specs.inside.Pairs.{ComparesPair, IsPairStop};
 
-use crate::beginnings::order_rests;
+use crate::beginnings::{order_at_once, order_rests};
 use crate::decided::is_decided;
 use crate::faults::PairFault;
 use crate::heads::Heads;
@@ -184,6 +184,34 @@ impl<A: Allocator> TextComparison<A> {
         )
     }
 
+    /// The order of two texts whose first bytes are the same, so many of them, as
+    /// [`order_after`](TextComparison::order_after) tells it. It looks at the next byte of each text and the byte after that,
+    /// and no more. There is no result with numbers by value, and where the next byte of a text is not of ASCII.
+    #[inline(always)]
+    pub fn order_at_once(
+        &self,
+        settings: Settings,
+        left: &str,
+        right: &str,
+        shared: usize,
+    ) -> Option<Ordering>
+        requires { take shared left.now ≡ take shared right.now }
+        ensures compared { (c : Collation) → Knows c self.now → IfSome result (λ order.
+            let answer = texts_compared c settings (chars left.now) (chars right.now) in
+            (answer.order ≡ order) × (answer.level ≡ 1)) }
+        ensures accepted { (properties : Properties) → IfSome result (λ _.
+            IsAccepted (written_text settings.numbers properties (chars left.now))
+            × IsAccepted (written_text settings.numbers properties (chars right.now))) }
+    {
+        if left.len() > SHORT_TEXT || right.len() > SHORT_TEXT {
+            return None;
+        }
+        if !is_as_text(settings.numbers) {
+            return None;
+        }
+        order_at_once(&self.heads, settings.weighting, left, right, shared)
+    }
+
     // How two texts compare with numbers by value.
     fn compare_by_value<L: Lookup, T: Allocator>(
         &mut self,
@@ -251,6 +279,17 @@ impl<A: Allocator> TextComparison<A> {
             self.left.as_str(),
             self.right.as_str(),
         )
+    }
+}
+
+// Whether texts are read as they are, whatever digits they have.
+#[inline(always)]
+fn is_as_text(numbers: Numbers) -> bool
+    ensures { OnTrue result (numbers ≡ AsText) }
+{
+    match numbers {
+        Numbers::AsText => true,
+        Numbers::ByValue => false,
     }
 }
 

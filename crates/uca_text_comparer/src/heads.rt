@@ -1,11 +1,12 @@
 //! `Heads`: what is known of the first code points at level 1, in one array.
 
-ghost use Rattle.std.specs.Prelude.{◌≡◌, ◌⊎◌, ◌∷◌, ◌<◌, chars, drop, length, IfSome};
+ghost use Rattle.std.specs.Prelude.{◌≡◌, ◌⊎◌, ◌∷◌, ◌+◌, ◌<◌, ◌≤◌, ℕ, chars, drop, length, IfSome};
 ghost use Rattle.std.specs.Bool.{OnTrue};
 ghost use Rattle.std.specs.Str.{IsCharBoundary};
 ghost use Rattle.uca_elements.specs.Collations.{Collation, collation_of};
 ghost use Rattle.uca_plain.specs.PointCache.{IsTrueEntry, AreTrueEntries};
-ghost use Rattle.uca_text_comparer.specs.Heads.{IsTrueHead, AreHeadsFrom, AreTrueHeads};
+ghost use Rattle.uca_plain.specs.Plain.{IsPlain};
+ghost use Rattle.uca_text_comparer.specs.Heads.{IsTrueHead, IsTrueFirst, AreFirstsFrom, AreHeadsFrom, AreTrueHeads};
 ghost use Rattle.uca_text_comparer.specs.inside.LevelOne.{HasNext, Decides};
 ghost use Rattle.uca_text_comparer.specs.inside.Shared.{BeginsPlain};
 
@@ -19,6 +20,9 @@ use uca_weights::Weighting;
 
 /// So many code points have a head: those that UTF-8 writes in one or two bytes.
 const HEADS: usize = 0x800;
+
+/// So many bytes there are.
+pub(crate) const BYTES: usize = 0x100;
 
 /// What is known of a code point at level 1.
 #[derive(Clone, Copy)]
@@ -36,6 +40,13 @@ pub(crate) const END: Head = Head {
     weight: 0,
     plain: false,
     alone: true,
+};
+
+/// What says nothing.
+const UNKNOWN: Head = Head {
+    weight: 0,
+    plain: false,
+    alone: false,
 };
 
 impl Head {
@@ -85,6 +96,9 @@ pub struct Heads {
     pub weighting: Weighting,
     /// The heads of the code points from U+0000 on, of none at first. What they say is true.
     pub items: Vec<Head>,
+    /// The heads of the bytes from 00 on, of none at first. Each says what is true of all code points whose UTF-8 begins with
+    /// this byte.
+    pub firsts: Vec<Head>,
 }
 
 // The code point of a text at this position, and the position after it. There is no result inside a code point.
@@ -124,6 +138,7 @@ impl Heads {
         Heads {
             weighting: Weighting::NonIgnorable,
             items: Vec::new(global),
+            firsts: Vec::new(global),
         }
     }
 
@@ -145,6 +160,7 @@ impl Heads {
     {
         if self.weighting != weighting {
             self.items.clear();
+            self.firsts.clear();
             self.weighting = weighting;
         }
         while self.items.len() < HEADS {
@@ -154,7 +170,69 @@ impl Heads {
             let known = points.get(collator, point)?;
             self.items.push(Head::of(weighting, &known))?;
         }
+        self.fill_firsts()
+    }
+
+    // Finds out about all bytes, by the heads of the code points.
+    fn fill_firsts(&mut self) -> Result<(), AllocError>
+        ensures { (c : Collation) → AreTrueHeads c self.old → AreTrueHeads c self.new }
+    {
+        while self.firsts.len() < BYTES {
+            let head = self.first_of(self.firsts.len());
+            self.firsts.push(head)?;
+        }
         Ok(())
+    }
+
+    // The head of a byte. Two bytes that begin with one of C0 to DF have 64 code points.
+    fn first_of(&self, byte: usize) -> Head
+        ensures { (c : Collation) → AreHeadsFrom c self.now.weighting 0 self.now.items.items → IsTrueFirst c self.now.weighting byte result }
+    {
+        if byte < ASCII {
+            return match self.items.get(byte) {
+                Some(head) => *head,
+                None => UNKNOWN,
+            };
+        }
+        if byte < 0xC0 || byte >= 0xE0 {
+            return UNKNOWN;
+        }
+        Head {
+            weight: 0,
+            plain: self.are_plain((byte - 0xC0) * 64),
+            alone: false,
+        }
+    }
+
+    // Whether the 64 code points from this one on are plain.
+    fn are_plain(&self, from: usize) -> bool
+        requires { from < 2048 }
+        ensures { (c : Collation) → AreHeadsFrom c self.now.weighting 0 self.now.items.items →
+            OnTrue result ((x : ℕ) → from ≤ x → x < from + 64 → IsPlain c x) }
+    {
+        let mut code = from;
+        while code < from + 64 {
+            match self.items.get(code) {
+                Some(head) => {
+                    if !head.plain {
+                        return false;
+                    }
+                }
+                None => return false,
+            }
+            code += 1;
+        }
+        true
+    }
+
+    /// The heads of all bytes, if they are known.
+    #[inline(always)]
+    pub(crate) fn firsts(&self) -> Option<&[Head; BYTES]>
+        ensures { (c : Collation) → AreTrueHeads c self.now →
+            IfSome result (λ firsts. AreFirstsFrom c self.now.weighting 0 firsts.now) }
+    {
+        let (firsts, _) = self.firsts.split_first_chunk::<BYTES>()?;
+        Some(firsts)
     }
 
     /// The heads of ASCII, if they are known.

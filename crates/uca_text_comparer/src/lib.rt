@@ -24,6 +24,9 @@
 //! `order_after`. Whoever compares many texts calls `learn_heads` before: one array then has the weights at level 1 of the
 //! code points up to U+07FF (`heads`). Those of ASCII are looked at first (`ascii`). All but these 2,048 are looked up
 //! where those of all texts so far are kept (`next`).
+//!
+//! Most pairs are told by the first bytes that differ, and an array with a head for each byte (`firsts`). Whoever asks for that
+//! alone asks `order_at_once`, which calls no other function.
 #![tactic(auto)]
 
 mod ascii;
@@ -31,6 +34,7 @@ mod beginnings;
 mod comparison;
 mod decided;
 mod faults;
+mod firsts;
 mod heads;
 mod itself;
 mod next;

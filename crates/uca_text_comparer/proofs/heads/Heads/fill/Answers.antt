@@ -16,9 +16,12 @@ loop-weighting-preserved g c =
     let head = c.of.result in
     record {
       entries = c.in_ok-known.ensures.entries;
-      heads = subst (AreHeadsFrom collation weighting 0) (sym c.in_ok-push.ensures.items)
-          (heads_on collation weighting 0 items head c.loop-weighting.invariant.heads
-          (subst (λ w. IsTrueHead collation w (0 + length items) head) (sym c.loop-weighting.invariant.under)
-          (subst (λ n. IsTrueHead collation c.args.weighting n head) (point ∙ sym here) (c.of.ensures collation c.in_ok-known.ensures.known.1))));
+      heads = record {
+        points = subst (AreHeadsFrom collation weighting 0) (sym c.in_ok-push.ensures.items)
+            (heads_on (IsTrueHead collation weighting) 0 items head c.loop-weighting.invariant.heads.points
+            (subst (λ w. IsTrueHead collation w (0 + length items) head) (sym c.loop-weighting.invariant.under)
+            (subst (λ n. IsTrueHead collation c.args.weighting n head) (point ∙ sym here) (c.of.ensures collation c.in_ok-known.ensures.known.1))));
+        firsts = c.loop-weighting.invariant.heads.firsts;
+      };
       under = c.loop-weighting.invariant.under;
     }

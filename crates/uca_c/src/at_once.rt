@@ -1,0 +1,55 @@
+//! The order of two short texts by an open collator, where their first bytes that differ tell it.
+
+ghost use Rattle.std.specs.Prelude.{◌≡◌, true, IfSome};
+ghost use Rattle.uca_order.specs.Keyings.{bytes_compared};
+ghost use Rattle.uca_owned.specs.Causes.{IsAcceptedBy};
+ghost use Rattle.uca_c.specs.OpenCollators.{keying_at};
+
+use crate::slot::{Slot, put, take};
+use crate::work;
+use std::alloc::Global;
+use std::cmp::Ordering;
+
+/// The order of two texts of at most fifteen bytes. There is no result for others, and where it is not told at once.
+#[inline(always)]
+pub(crate) fn order_short(
+    alloc: Global,
+    collator: &mut Slot,
+    left: &[u8],
+    right: &[u8],
+) -> Option<Ordering>
+    requires { collator.old.full ≡ true }
+    ensures compared { IfSome result (λ order.
+        let answer = bytes_compared (keying_at collator.old.handle.kept) left.now right.now in (order ≡ answer.order) × (1 ≡ answer.level)) }
+    ensures accepted { let k = keying_at collator.old.handle.kept in
+        IfSome result (λ _. IsAcceptedBy k left.now × IsAcceptedBy k right.now) }
+    ensures open { collator.new.full ≡ true }
+    ensures same { collator.new.handle.kept ≡ collator.old.handle.kept }
+{
+    let opened = take(alloc, collator);
+    let found = work::order_short(&opened, left, right);
+    put(collator, opened);
+    found
+}
+
+/// The order of two texts of at most 32 bytes. There is no result for others, and where it is not told at once.
+#[inline(always)]
+pub(crate) fn order_longer(
+    alloc: Global,
+    collator: &mut Slot,
+    left: &[u8],
+    right: &[u8],
+) -> Option<Ordering>
+    requires { collator.old.full ≡ true }
+    ensures compared { IfSome result (λ order.
+        let answer = bytes_compared (keying_at collator.old.handle.kept) left.now right.now in (order ≡ answer.order) × (1 ≡ answer.level)) }
+    ensures accepted { let k = keying_at collator.old.handle.kept in
+        IfSome result (λ _. IsAcceptedBy k left.now × IsAcceptedBy k right.now) }
+    ensures open { collator.new.full ≡ true }
+    ensures same { collator.new.handle.kept ≡ collator.old.handle.kept }
+{
+    let opened = take(alloc, collator);
+    let found = work::order_longer(&opened, left, right);
+    put(collator, opened);
+    found
+}
