@@ -162,6 +162,15 @@ static const pair PAIRS[] = {
     PAIR("a\x01", "a", 0, 0), PAIR("a\001b", "aa", 1, 1), PAIR("a9", "a10", 1, 1), PAIR("aaaaaaaaaaaaaaa", "aaaaaaaaaaaaaaa", 0, 0),
     PAIR("aaaaaaaaaaaaaab", "aaaaaaaaaaaaaaa", 1, 1), PAIR("aaaaaaaaaaaaaaaa", "aaaaaaaaaaaaaaab", -1, 1), PAIR("\xC3\xB8", "b", 1, 1),
     PAIR("a\xC3\xB8", "ab", 1, 1), PAIR("\xC3\xB8", "\xC3\xB8", 0, 0),
+    PAIR("aaaaaaaaaaaaaaaab", "aaaaaaaaaaaaaaaaa", 1, 1), PAIR("aaaaaaaaaaaaaaaaab", "aaaaaaaaaaaaaaaaaa", 1, 1),
+    PAIR("aaaaaaaaaaaaaaaaaaaaaaaaaaaaaaab", "aaaaaaaaaaaaaaaaaaaaaaaaaaaaaaaa", 1, 1),
+    PAIR("aaaaaaaaaaaaaaaaaaaaaaaaaaaaaaaa", "aaaaaaaaaaaaaaaaaaaaaaaaaaaaaaaaa", -1, 1),
+    PAIR("b", "aaaaaaaaaaaaaaaaaaaaaaaaaaaaaaaa", 1, 1), PAIR("b", "aaaaaaaaaaaaaaaaaaaaaaaaaaaaaaaaa", 1, 1),
+    PAIR("aaaaaaaaaaaaaaaaaaaaaaaaaaaaaaa", "aaaaaaaaaaaaaaaaaaaaaaaaaaaaaaa", 0, 0),
+    PAIR("aaaaaaaaaaaaaaaaaaaaaaaaaaaaaaaa", "aaaaaaaaaaaaaaaaaaaaaaaaaaaaaaaa", 0, 0),
+    PAIR("aaaaaaaaaaaaaaaaaaaaaaaaaaaaaaaaa", "aaaaaaaaaaaaaaaaaaaaaaaaaaaaaaaaa", 0, 0),
+    PAIR("aaaaaaaaaaaaaaaa\0", "aaaaaaaaaaaaaaaab", 1, 1), PAIR("aaaaaaaaaaaaaaa\xC3\xB8", "aaaaaaaaaaaaaaab", 1, 1),
+    PAIR("\xE6\x97\xA5\xE6\x9C\xAC", "\xE6\x97\xA5\xE6\x9C\xAC", 0, 0), PAIR("\xE6\x97\xA5", "a", 1, 1),
 };
 
 /* under shifted, with an identical level */

@@ -110,10 +110,10 @@ const HEADS: [(&str, &str, Option<Ordering>, Option<Ordering>); 27] = [
 ];
 
 /// Two texts, how many bytes they have in common, and their order by the next bytes, first where variable elements are
-/// non-ignorable, and then where they are shifted. The next bytes have to be letters of ASCII with other weights at level 1.
-/// What comes after them has to be plain. All code points are that begin with D4, as U+0500 does. Not all are that begin with
-/// CC, as U+0301 does, or with CE, as U+03B1 does: U+0390 has more than three elements here. Of bytes that begin longer code
-/// points nothing is known.
+/// non-ignorable, and then where they are shifted. The next bytes have to be code points of ASCII with other weights at level
+/// 1. What comes after them has to be plain. All code points that begin with D4 are, such as U+0500. Not all that begin with CC
+/// are, such as U+0301, nor all that begin with CE, as U+03B1 does: U+0390 has more than three elements here. Nothing is known
+/// of bytes that begin longer code points.
 const AT_ONCE: [(&str, &str, usize, Option<Ordering>, Option<Ordering>); 22] = [
     ("a", "b", 0, Some(Less), Some(Less)),
     ("b", "a", 0, Some(Greater), Some(Greater)),

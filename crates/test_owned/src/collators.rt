@@ -1,5 +1,6 @@
 //! Keys of texts of many lengths and of many code points, and collators that share a table. A body that says that memory
-//! ran out, where none did, meets its contract. So lengths around powers of two and of ten are here, and random ones.
+//! ran out, where none did, meets its contract. So lengths around powers of two and of ten are here, and random ones. Orders that
+//! are told at once are here too: no clause says when there is one.
 
 use std::alloc::Global;
 use std::cmp::Ordering;
@@ -30,8 +31,7 @@ const RANDOM_LENGTHS: usize = 300;
 const PAGES: [u32; 7] = [1, 2, 255, 256, 257, 400, 504];
 
 /// Two byte strings, and the order that the first bytes tell that differ: first of at most fifteen bytes, then of at most 32.
-/// Of longer ones the first seventeen are looked at. Nothing is told of texts that are the same there, and of bytes that are
-/// not UTF-8.
+/// At most sixteen of the bytes before them may be the same. Nothing is told of other texts, and of bytes that are not UTF-8.
 const AT_ONCE: [(&[u8], &[u8], Option<Ordering>, Option<Ordering>); 14] = [
     (b"a", b"b", Some(Less), Some(Less)),
     (b"ba", b"ab", Some(Greater), Some(Greater)),

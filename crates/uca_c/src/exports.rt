@@ -21,7 +21,7 @@ use crate::{at_once, opening, work};
 use std::alloc::Global;
 use uca_lanes::{are_same_narrow, are_same_short};
 
-// Two texts of so many bytes are judged together.
+// Two texts of at most so many bytes are judged together.
 const SHORT: usize = 15;
 
 /// The number of this interface.
@@ -146,7 +146,7 @@ pub extern "C" fn uca_key(
     status
 }
 
-// Compares any two texts by an open collator, without keys. A short text is equal to itself, with no collator taken out.
+// Compares any two texts by an open collator, without keys. A short text is equal to itself by any collator.
 #[inline(never)]
 fn compare_any(
     alloc: Global,
@@ -174,7 +174,8 @@ fn compare_any(
     status
 }
 
-// What `compare_any` does. Where the first bytes that differ tell the order of two texts of at most 32 bytes, it takes less time.
+// What `compare_any` does. It asks first whether both are the same text, and then for the order by the first bytes that differ,
+// of two texts of at most 32 bytes.
 #[inline(never)]
 fn compare_longer(
     alloc: Global,
@@ -205,8 +206,8 @@ fn compare_longer(
     }
 }
 
-// What `compare_any` does. Where the first bytes that differ tell the order of two texts of at most fifteen bytes, it takes less
-// time. After that it calls nothing, so it saves few registers. `uca_compare` saves fewer, where both texts are the same narrow one.
+// What `compare_any` does. It asks first for the order by the first bytes that differ, of two texts of at most fifteen bytes. All
+// else is in a function that it calls last, so no register is saved across a call.
 #[inline(never)]
 fn compare_open(
     alloc: Global,
@@ -266,7 +267,7 @@ pub extern "C" fn uca_compare(
     compare_open(alloc, collator, left, right, comparison)
 }
 
-// Orders any two byte strings by an open collator. A short text is equal to itself, with no collator taken out.
+// Orders any two byte strings by an open collator. A short text is equal to itself by any collator.
 #[inline(never)]
 fn order_any(alloc: Global, collator: &mut Slot, left: &[u8], right: &[u8], order: &mut i32) -> u32
     requires { collator.old.full ≡ true }

@@ -47,7 +47,7 @@ pub struct Comparison {
 }
 
 impl Comparison {
-    /// What tells the order of two texts that differ at level 1.
+    /// The comparison of two texts that have this order and differ at level 1.
     #[inline(always)]
     pub(crate) fn of_letters(order: Ordering) -> Comparison
         ensures { (result.order ≡ order_number order) × (result.level ≡ 1) }

@@ -1,8 +1,8 @@
 //! Bytes, eight or sixteen at a time: whether they are UTF-8, how many of them two texts have in common, and how many
 //! pairs in a row spell one number.
 //!
-//! A loop over single bytes would end elsewhere for each text, and no processor foretells that. So two short texts are
-//! looked at together. `shared_len` takes single bytes only where one of its two texts has fewer than eight.
+//! A loop over single bytes would end elsewhere for each text, and no processor foretells that. So two texts of at most
+//! fifteen bytes are judged together, and the first sixteen bytes of longer ones are compared at once. `shared_len` takes single bytes only where one of its two texts has fewer than eight.
 #![tactic(auto)]
 
 ghost use Rattle.std.specs.Prelude.{◌≡◌, ◌≢◌, ℕ, ◌+◌, ◌<◌, ◌≤◌, length, get_or, take};

@@ -61,7 +61,7 @@ fn front_of(bytes: &[u8]) -> u8x16
     }
 }
 
-// Whether a text of at most 32 bytes that begins so is UTF-8.
+// Whether a text of at most 32 bytes is UTF-8, of which this is the front.
 #[inline(always)]
 fn is_utf8_after(front: u8x16, bytes: &[u8]) -> bool
     requires few { length bytes.now ≤ 32 }
@@ -81,8 +81,9 @@ fn is_utf8_after(front: u8x16, bytes: &[u8]) -> bool
 
 /// How many of the first sixteen bytes two texts of at most 32 bytes have in common at their beginning. For example,
 /// `Sonnenaufgang` and `Sonnenblumenfeld` have six. There is no result if a text has more bytes or is not UTF-8 (the Unicode
-/// Standard, section 3.9, table 3-7). Each text is judged alone, so [`shared_of_short`] takes fewer instructions where it can
-/// tell.
+/// Standard, section 3.9, table 3-7).
+///
+/// Each text is judged alone. So [`shared_of_short`] takes fewer instructions for texts of at most fifteen bytes.
 #[inline(always)]
 pub fn shared_of_longer(left: &[u8], right: &[u8]) -> Option<usize>
     ensures { MatchOption result

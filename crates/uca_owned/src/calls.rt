@@ -172,9 +172,9 @@ impl OwnedCollator {
     }
 
     /// The order of two texts of at most fifteen bytes by the first bytes that differ, such as `r` and `s` of `cart` and
-    /// `cast`. There is a result only for texts that are accepted, where these bytes are code points of ASCII that differ at
-    /// level 1. What it needs has to be known from an earlier comparison. No clause says when there is a result. It changes
-    /// nothing, and takes less time than [`compare`](OwnedCollator::compare), which compares any texts.
+    /// `cast`. There is no result where these bytes are not code points of ASCII that differ at level 1, and with numbers by
+    /// value. Nor is there one before [`compare`](OwnedCollator::compare) compared two short texts by their weights. No clause
+    /// says when there is a result. It changes nothing. Where there is a result, it takes less time than `compare`.
     #[inline(always)]
     pub fn order_short(&self, left: &[u8], right: &[u8]) -> Option<Ordering>
         ensures compared { IfSome result (λ order. let answer = bytes_compared (keying_in self.now) left.now right.now in
@@ -184,8 +184,9 @@ impl OwnedCollator {
         first_of_short(&self.comparison, self.settings, left, right)
     }
 
-    /// What [`order_short`](OwnedCollator::order_short) tells of two texts of at most 32 bytes. Shorter texts take more time
-    /// here.
+    /// What [`order_short`](OwnedCollator::order_short) tells, of two texts of at most 32 bytes. Only the first sixteen are
+    /// counted that both have in common, so there is no result if the texts differ later. Texts of at most fifteen bytes take
+    /// more time here.
     #[inline(always)]
     pub fn order_longer(&self, left: &[u8], right: &[u8]) -> Option<Ordering>
         ensures compared { IfSome result (λ order. let answer = bytes_compared (keying_in self.now) left.now right.now in

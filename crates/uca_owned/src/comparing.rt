@@ -24,7 +24,7 @@ use uca_weights::Settings;
 /// A text of so many bytes is accepted: what is read of it has at most 64 code points in Normalization Form D.
 const SHORT_TEXT: usize = 32;
 
-/// Two texts of so many bytes are judged together.
+/// Two texts of at most so many bytes are judged together.
 const SHORTER: usize = 15;
 
 // How a short text compares with itself. It is accepted, so none of its code points is looked up. There is no result
@@ -91,7 +91,8 @@ pub(crate) fn first_of_short(
     Some(order)
 }
 
-/// The order of two texts of at most 32 bytes by the first bytes that differ, where these tell it.
+/// The order of two texts of at most 32 bytes by the first bytes that differ, where these tell it and no more than sixteen are
+/// the same before them.
 #[inline(always)]
 pub(crate) fn first_of_longer(
     comparison: &TextComparison,

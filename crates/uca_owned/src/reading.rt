@@ -57,7 +57,7 @@ pub(crate) fn read_short<'l, 'r>(
     Some((left, right, shared))
 }
 
-/// Two texts of at most 32 bytes, if both are UTF-8, and so many bytes that are the same at their beginning.
+/// Two texts of at most 32 bytes, if both are UTF-8, and a number of first bytes that are the same in both.
 #[inline(always)]
 pub(crate) fn read_longer<'l, 'r>(
     left: &'l [u8],

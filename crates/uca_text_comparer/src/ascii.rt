@@ -1,6 +1,7 @@
-//! The order of two texts by code points of ASCII, such as `r` and `s` of `cart` and `cast`. Each has one byte, so one position
-//! is enough for both texts. The 128 heads are an array, so no bound is tested. Only the code points after two that differ may
-//! be others, such as `é` of `réel` beside `sol`. Where one text ends, they may not.
+//! The order of two texts by code points of ASCII, such as `l` and `r` of `All` and `are`: `A` and `a` have the same weight at
+//! level 1. Each has one byte, so one position is enough for both texts. The 128 heads are an array, so no bound is tested.
+//! Only the code points after two that differ may be others, such as `é` of `Aléa` beside `are`. Where one text ends, they may
+//! not.
 
 ghost use Rattle.std.specs.Prelude.{◌≡◌, ◌+◌, ◌<◌, ◌≤◌, chars, drop, length, take, IfSome};
 ghost use Rattle.std.specs.Bool.{OnTrue};

@@ -135,7 +135,7 @@ fn order_all<A: Allocator>(
     }
 }
 
-// What `order_rests` returns under the weighting of the heads, where it is not found out without a loop.
+// What `order_rests` returns under the weighting of the heads, where `order_first` has no result.
 #[inline(never)]
 fn order_more<A: Allocator>(
     points: &PointCache<A>,

@@ -117,7 +117,8 @@ impl<A: Allocator> TextComparison<A> {
 
     /// Finds out about the 2,048 code points that UTF-8 writes in one or two bytes. So
     /// [`order_beginnings`](TextComparison::order_beginnings) takes less time after it, under this weighting. That is worth
-    /// its time where many texts are compared. What it found out under another weighting is forgotten.
+    /// its time where many texts are compared. Without it [`order_at_once`](TextComparison::order_at_once) has no result. What
+    /// it found out under another weighting is forgotten.
     ///
     /// # Errors
     ///
@@ -186,7 +187,9 @@ impl<A: Allocator> TextComparison<A> {
 
     /// The order of two texts whose first bytes are the same, so many of them, as
     /// [`order_after`](TextComparison::order_after) tells it. It looks at the next byte of each text and the byte after that,
-    /// and no more. There is no result with numbers by value, and where the next byte of a text is not of ASCII.
+    /// and no more. So there is no result where the next bytes are not two code points of ASCII that differ at level 1. Nor is
+    /// there one where a code point of three bytes or more comes after them, with numbers by value, and before
+    /// [`learn_heads`](TextComparison::learn_heads) was called under this weighting. No clause says when there is one.
     #[inline(always)]
     pub fn order_at_once(
         &self,

@@ -1,7 +1,7 @@
 //! The order of two texts by the first bytes that differ, such as `r` and `s` of `cart` and `cast`.
 //!
-//! It has no loop and needs few registers. An array has a head for each byte. So no code point is read, and it is not asked
-//! how many bytes it has.
+//! It has no loop and needs few registers. An array has a head for each byte. So no code point is read, and how many bytes a
+//! code point has is not asked.
 
 ghost use Rattle.std.specs.Prelude.{◌≡◌, ◌≢◌, ◌+◌, ◌<◌, chars, drop, length, take, IfSome};
 ghost use Rattle.std.specs.Bool.{OnTrue};
@@ -28,7 +28,8 @@ fn first_at(firsts: &[Head; BYTES], text: &str, at: usize) -> Head
     firsts[usize::from(text.as_bytes()[at])]
 }
 
-// Whether a text ends at this position or before it, or has a plain code point there, if one begins there.
+// If it returns `true`, and no code point goes on at this position, the text ends there or before it, or has a plain code point
+// there.
 #[inline(always)]
 fn goes_on_plain(firsts: &[Head; BYTES], text: &str, at: usize) -> bool
     ensures { (c : Collation) (weighting : Weighting) → AreFirstsFrom c weighting 0 firsts.now → IsCharBoundary text.now at →

@@ -1,4 +1,4 @@
-//! `Heads`: what is known of the first code points at level 1, in one array.
+//! `Heads`: what is known at level 1 of the first code points, in one array, and of the bytes of UTF-8, in another.
 
 ghost use Rattle.std.specs.Prelude.{◌≡◌, ◌⊎◌, ◌∷◌, ◌+◌, ◌<◌, ◌≤◌, ℕ, chars, drop, length, IfSome};
 ghost use Rattle.std.specs.Bool.{OnTrue};
@@ -184,7 +184,7 @@ impl Heads {
         Ok(())
     }
 
-    // The head of a byte. Two bytes that begin with one of C0 to DF have 64 code points.
+    // The head of a byte. 64 code points begin with each byte from C2 to DF, and none with C0 or C1.
     fn first_of(&self, byte: usize) -> Head
         ensures { (c : Collation) → AreHeadsFrom c self.now.weighting 0 self.now.items.items → IsTrueFirst c self.now.weighting byte result }
     {

@@ -22,11 +22,9 @@
 //! Whoever needs no numbers of elements asks `order_beginnings` first. It looks up only the code points that come after
 //! what two short texts have in common (`beginnings`). Whoever knows how many bytes they share asks
 //! `order_after`. Whoever compares many texts calls `learn_heads` before: one array then has the weights at level 1 of the
-//! code points up to U+07FF (`heads`). Those of ASCII are looked at first (`ascii`). All but these 2,048 are looked up
-//! where those of all texts so far are kept (`next`).
-//!
-//! Most pairs are told by the first bytes that differ, and an array with a head for each byte (`firsts`). Whoever asks for that
-//! alone asks `order_at_once`, which calls no other function.
+//! code points up to U+07FF (`heads`). Another one has a head for each byte. By that the first bytes that differ are looked
+//! at first (`firsts`), then code points of ASCII (`ascii`), and then the others. All but these 2,048 are looked up where
+//! those of all texts so far are kept (`next`). Whoever asks for the first bytes alone asks `order_at_once`.
 #![tactic(auto)]
 
 mod ascii;
