@@ -1,6 +1,6 @@
 //! Keys of texts of many lengths and of many code points, and collators that share a table. A body that says that memory
-//! ran out, where none did, meets its contract. So lengths around powers of two and of ten are here, and random ones. Orders that
-//! are told at once are here too: no clause says when there is one.
+//! ran out, where none did, meets its contract. So lengths around powers of two and of ten are here, and random ones.
+//! Orders that are told at once are here too: no clause says when there is one.
 
 use std::alloc::Global;
 use std::cmp::Ordering;

@@ -174,8 +174,8 @@ fn compare_any(
     status
 }
 
-// What `compare_any` does. It asks first whether both are the same text, and then for the order by the first bytes that differ,
-// of two texts of at most 32 bytes.
+// What `compare_any` does. It asks first whether both are the same text, and then for the order by the first bytes that
+// differ, of two texts of at most 32 bytes.
 #[inline(never)]
 fn compare_longer(
     alloc: Global,
@@ -206,8 +206,8 @@ fn compare_longer(
     }
 }
 
-// What `compare_any` does. It asks first for the order by the first bytes that differ, of two texts of at most fifteen bytes. All
-// else is in a function that it calls last, so no register is saved across a call.
+// What `compare_any` does. It asks first for the order by the first bytes that differ, of two texts of at most fifteen
+// bytes. All else is in a function that it calls last, so no value is kept across a call.
 #[inline(never)]
 fn compare_open(
     alloc: Global,

@@ -2,7 +2,8 @@
 //! pairs in a row spell one number.
 //!
 //! A loop over single bytes would end elsewhere for each text, and no processor foretells that. So two texts of at most
-//! fifteen bytes are judged together, and the first sixteen bytes of longer ones are compared at once. `shared_len` takes single bytes only where one of its two texts has fewer than eight.
+//! fifteen bytes are judged together, and the first sixteen bytes of longer ones are compared at once. `shared_len` takes
+//! single bytes only where one of its two texts has fewer than eight.
 #![tactic(auto)]
 
 ghost use Rattle.std.specs.Prelude.{◌≡◌, ◌≢◌, ℕ, ◌+◌, ◌<◌, ◌≤◌, length, get_or, take};

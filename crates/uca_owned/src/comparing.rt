@@ -109,7 +109,7 @@ pub(crate) fn first_of_longer(
     Some(order)
 }
 
-// The order of two texts of at most 32 bytes, as `compare_short` tells it of shorter ones.
+// The order of two texts of at most 32 bytes, where `compare_short` asks for it: one of them has more than fifteen.
 #[inline(never)]
 fn order_longer(
     comparison: &TextComparison,
