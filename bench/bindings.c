@@ -3,7 +3,8 @@
      bindings TABLE DATA BOOK LINES
 
    The lines are sorted. Each round goes over all lines, or over pairs of them: neighbours, or lines that are far from each
-   other. It prints a line for each kind: its name, and the nanoseconds of a call of uca and of ICU, each in its fastest
+   other. The latter are the first and the second half of the sorted lines, so one pair begins mostly as the pair before it.
+   Or pairs with other first letters come in any order, as in a search or a sort. It prints a line for each kind: its name, and the nanoseconds of a call of uca and of ICU, each in its fastest
    round of five. Compact keys stand beside ICU's sort keys. The times are of the processor. With threads they are of the
    clock: each thread makes the keys of all lines. Collators of uca share their table, and ICU's is one. Variable elements
    are non-ignorable, and there are three levels. */
@@ -167,6 +168,47 @@ static void report(bench *it, const char *name, call uca, call icu, const text *
     printf("%s %.1f %.1f\n", name, time_of(it, uca, rights, pairs), time_of(it, icu, rights, pairs));
 }
 
+/* The first code point of a line. */
+static text first_letter(const text *line)
+{
+    size_t length = line->length > 0;
+    while (length < line->length && (line->bytes[length] & 0xC0) == 0x80) {
+        length++;
+    }
+    return (text){line->bytes, length};
+}
+
+static int differ_at_first(bench *it, const text *left, const text *right)
+{
+    text one = first_letter(left), other = first_letter(right);
+    uca_comparison found;
+    return uca_compare(&it->uca, (const uint8_t *)one.bytes, one.length, (const uint8_t *)other.bytes, other.length, &found) == UCA_OK
+        && found.level == 1;
+}
+
+/* Puts the lines into any order, always the same one. Then it keeps pairs whose first letters differ, and says how many. The
+   right texts are in the second half of the memory. */
+static size_t mix(bench *it)
+{
+    uint64_t random = 1;
+    for (size_t i = it->count; i > 1; i--) {
+        random = random * 6364136223846793005u + 1442695040888963407u;
+        size_t other = (size_t)(random >> 33) % i;
+        text kept = it->lines[i - 1];
+        it->lines[i - 1] = it->lines[other];
+        it->lines[other] = kept;
+    }
+    size_t pairs = 0, half = it->count / 2;
+    for (size_t i = 0; i < half; i++) {
+        if (differ_at_first(it, &it->lines[i], &it->lines[i + half])) {
+            it->lines[pairs] = it->lines[i];
+            it->lines[pairs + half] = it->lines[i + half];
+            pairs++;
+        }
+    }
+    return pairs;
+}
+
 enum { MOST_THREADS = 64, APART = 128 };
 
 /* A thread, with a collator and memory of its own over the same lines. A call writes its collator. So no two workers have a
@@ -238,6 +280,10 @@ int main(int count, char **arguments)
     report(&it, "compact keys", uca_compact_keys, icu_keys, it.lines, it.count);
     report(&it, "neighbours", uca_comparison_of, icu_comparison_of, it.lines + 1, it.count - 1);
     report(&it, "far from each other", uca_comparison_of, icu_comparison_of, it.lines + it.count / 2, it.count / 2);
+    bench mixed = it;
+    mixed.lines = lines_of(arguments[4], &mixed.count);
+    size_t pairs = mix(&mixed);
+    report(&mixed, "other first letters, in any order", uca_comparison_of, icu_comparison_of, mixed.lines + mixed.count / 2, pairs);
     report(&it, "a line and itself", uca_comparison_of, icu_comparison_of, it.lines, it.count);
     report(&it, "a line and a copy", uca_comparison_of, icu_comparison_of, it.copies, it.count);
     report_threads(&it);

@@ -10,7 +10,7 @@ use std::test::Fail;
 use test_kit::{DATA, NUMBER_TABLE, data_of, holds, repeated, table_of};
 use uca_lanes::{
     are_same_narrow, are_same_short, is_utf8, marks_of_pairs, same_pairs, shared_len,
-    shared_of_longer, shared_of_short,
+    shared_of_longer, shared_of_narrow, shared_of_short,
 };
 use uca_match::{Collator, Lookup, Trie};
 use uca_text_comparer::TextComparison;
@@ -236,37 +236,50 @@ const RUNS: [(usize, usize, usize, usize, usize); 16] = [
     (40, 31, 31, 1, 0),
 ];
 
-/// Two texts, and how many bytes they have in common, if each has at most fifteen and is UTF-8. A text that ends within a
-/// code point is not UTF-8, also where the other one begins with the bytes that are missing.
-const SHORT: [(&[u8], &[u8], Option<usize>); 28] = [
-    (b"", b"", Some(0)),
-    (b"", b"a", Some(0)),
-    (b"cart", b"cast", Some(2)),
-    (b"a", b"ab", Some(1)),
-    (b"ab", b"a", Some(1)),
-    (b"\0", b"", Some(0)),
-    (b"a\0", b"a", Some(1)),
-    (b"\0\0", b"\0", Some(1)),
-    (b"\xC3\xA9", b"\xC3\xA8", Some(1)),
-    (b"abcdefgh", b"abcdefgh", Some(8)),
-    (b"abcdefgh", b"abcdefghi", Some(8)),
-    (b"abcdefghijklmno", b"abcdefghijklmno", Some(15)),
-    (b"abcdefghijklmno", b"abcdefghijklmnp", Some(14)),
-    (b"abcdefghijklmno", b"b", Some(0)),
-    (b"abcdefghijklmnop", b"", None),
-    (b"", b"abcdefghijklmnop", None),
-    (b"abcdefghijklmnop", b"abcdefghijklmnop", None),
-    (b"\xC3", b"\xA9", None),
-    (b"abcdefghijklmn\xC3", b"\xA9", None),
-    (b"a", b"a\x80", None),
-    (b"a\xFF", b"a", None),
-    (b"\xED\xA0\x80", b"\xED\xA0\x80", None),
-    (b"a", b"\xE0\x80\x80", None),
-    (b"a", b"\xA9", None),
-    (b"", b"abcdefghijklmn\xC3", None),
-    (b"", b"abcdefghijkl\xE1\x80\x80", Some(0)),
-    (b"\xF0\x9F\x98\x80", b"\xF0\x9F\x98\x81", Some(3)),
-    (b"\xF0\x9F\x98\x80", b"\xF4\x90\x80\x80", None),
+/// Two texts, and how many bytes they have in common, if each has at most fifteen and is UTF-8. Then how many of the first eight,
+/// if no code point has three bytes or more. A text that ends within a code point is not UTF-8, also where
+/// the other one begins with the bytes that are missing. The last eight bytes may begin within a code point.
+const SHORT: [(&[u8], &[u8], Option<usize>, Option<usize>); 35] = [
+    (b"", b"", Some(0), Some(0)),
+    (b"", b"a", Some(0), Some(0)),
+    (b"cart", b"cast", Some(2), Some(2)),
+    (b"a", b"ab", Some(1), Some(1)),
+    (b"ab", b"a", Some(1), Some(1)),
+    (b"\0", b"", Some(0), Some(0)),
+    (b"a\0", b"a", Some(1), Some(1)),
+    (b"\0\0", b"\0", Some(1), Some(1)),
+    (b"\xC3\xA9", b"\xC3\xA8", Some(1), Some(1)),
+    (b"abcdefgh", b"abcdefgh", Some(8), Some(8)),
+    (b"abcdefgh", b"abcdefghi", Some(8), Some(8)),
+    (b"abcdefghijklmno", b"abcdefghijklmno", Some(15), Some(8)),
+    (b"abcdefghijklmno", b"abcdefghijklmnp", Some(14), Some(8)),
+    (b"abcdefghijklmno", b"b", Some(0), Some(0)),
+    (b"abcdefghijklmnop", b"", None, None),
+    (b"", b"abcdefghijklmnop", None, None),
+    (b"abcdefghijklmnop", b"abcdefghijklmnop", None, None),
+    (b"\xC3", b"\xA9", None, None),
+    (b"abcdefghijklmn\xC3", b"\xA9", None, None),
+    (b"a", b"a\x80", None, None),
+    (b"a\xFF", b"a", None, None),
+    (b"\xED\xA0\x80", b"\xED\xA0\x80", None, None),
+    (b"a", b"\xE0\x80\x80", None, None),
+    (b"a", b"\xA9", None, None),
+    (b"b", b"abcdefghijklmn\xC3", None, None),
+    (b"b", b"abcdefghijkl\xE1\x80\x80", Some(0), None),
+    (b"\xF0\x9F\x98\x80", b"\xF0\x9F\x98\x81", Some(3), None),
+    (b"\xF0\x9F\x98\x80", b"\xF4\x90\x80\x80", None, None),
+    (b"abcdefg\xC3\xA9", b"abcdefg\xC3\xA8", Some(8), Some(8)),
+    (
+        b"abc\xC3\xA9fghijkl",
+        b"abc\xC3\xA8fghijkl",
+        Some(4),
+        Some(4),
+    ),
+    (b"abcdefg\xC3", b"b", None, None),
+    (b"\xA9bcdefgh", b"b", None, None),
+    (b"b", b"abcdefg\xC3ijkl", None, None),
+    (b"b", b"abcd\xA9fghijkl", None, None),
+    (b"b", b"abcdefg\xC1\x80", None, None),
 ];
 
 /// Two texts, and how many of their first sixteen bytes are the same, if each has at most 32 and is UTF-8. The last bytes are
@@ -300,7 +313,7 @@ const LONGER: [(&[u8], &[u8], Option<usize>); 18] = [
     (b"a", b"a\xFF", None),
 ];
 
-/// Two byte strings, whether both are one text of at most 32 bytes, and whether it has at most sixteen and no code point of
+/// Two byte strings, whether both are one text of at most 32 bytes, and whether it has at most fifteen and no code point of
 /// three bytes or more. Fewer than eight bytes are compared as one number. Up to sixteen are compared as two, and more as their
 /// first sixteen and their last sixteen.
 const SAME: [(&[u8], &[u8], bool, bool); 30] = [
@@ -327,7 +340,7 @@ const SAME: [(&[u8], &[u8], bool, bool); 30] = [
     (b"abcdefghi", b"abcdefghi", true, true),
     (b"abcdefghi", b"bbcdefghi", false, false),
     (b"abcdefghijklmno", b"abcdefghijklmno", true, true),
-    (b"abcdefghijklmnop", b"abcdefghijklmnop", true, true),
+    (b"abcdefghijklmnop", b"abcdefghijklmnop", true, false),
     (b"abcdefghijklmnop", b"abcdefghijklmnoq", false, false),
     (b"abcdefghijklmno\xC3", b"abcdefghijklmno\xC3", false, false),
     (b"abcdefghijklmnopq", b"abcdefghijklmnopq", true, false),
@@ -440,10 +453,14 @@ fn check_later(comparison: &TextComparison, is_known: bool) -> Result<(), Fail> 
 }
 
 fn check_short() -> Result<(), Fail> {
-    for (left, right, wanted) in SHORT {
+    for (left, right, wanted, of_narrow) in SHORT {
         holds(
             shared_of_short(left, right) == wanted,
             "what short texts share",
+        )?;
+        holds(
+            shared_of_narrow(left, right) == of_narrow,
+            "what short texts share of code points of one byte or two",
         )?;
     }
     Ok(())

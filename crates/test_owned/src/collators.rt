@@ -4,7 +4,6 @@
 
 use std::alloc::Global;
 use std::cmp::Ordering;
-use std::cmp::Ordering::{Greater, Less};
 use std::test::Fail;
 use test_kit::{holds, repeated, same_bytes};
 use uca_owned::{KeyFault, OwnedCollator};
@@ -30,30 +29,6 @@ const RANDOM_LENGTHS: usize = 300;
 /// How many pages of 256 code points a text has. A collator keeps something of each.
 const PAGES: [u32; 7] = [1, 2, 255, 256, 257, 400, 504];
 
-/// Two byte strings, and the order that the first bytes tell that differ: first of at most fifteen bytes, then of at most 32.
-/// At most sixteen of the bytes before them may be the same. Nothing is told of other texts, and of bytes that are not UTF-8.
-const AT_ONCE: [(&[u8], &[u8], Option<Ordering>, Option<Ordering>); 14] = [
-    (b"a", b"b", Some(Less), Some(Less)),
-    (b"ba", b"ab", Some(Greater), Some(Greater)),
-    (b"ab", b"aa", Some(Greater), Some(Greater)),
-    (b"a", b"a", None, None),
-    (b"a", b"ab", None, None),
-    (b"", b"a", None, None),
-    (b"a\xFF", b"b", None, None),
-    (b"a", b"b\xFF", None, None),
-    (b"aaaaaaaaaaaaaaaa", b"b", None, Some(Less)),
-    (b"b", b"aaaaaaaaaaaaaaaa", None, Some(Greater)),
-    (b"aaaaaaaaaaaaaaaaaaaaaaaaaaaaaaaa", b"b", None, Some(Less)),
-    (b"aaaaaaaaaaaaaaaaaaaaaaaaaaaaaaaaa", b"b", None, None),
-    (
-        b"aaaaaaaaaaaaaaaab",
-        b"aaaaaaaaaaaaaaaaa",
-        None,
-        Some(Greater),
-    ),
-    (b"aaaaaaaaaaaaaaaaab", b"aaaaaaaaaaaaaaaaaa", None, None),
-];
-
 fn opened(alloc: Global) -> Result<OwnedCollator, Fail> {
     let asked = Asked::as_text(Some(Weighting::NonIgnorable), Depth::Weights);
     Ok(OwnedCollator::open(alloc, TABLE.as_bytes(), DATA.as_bytes(), asked)?)
@@ -71,10 +46,14 @@ fn check_length(
     holds(collator.key().len() == wanted, "the length of a key")
 }
 
+/// So many letters.
+fn letters_of(letters: &str, count: usize) -> Result<&[u8], Fail> {
+    Ok(letters.as_bytes().get(..count).ok_or("too few letters")?)
+}
+
 /// A letter has two bytes at each of three levels.
 fn check_letters(collator: &mut OwnedCollator, letters: &str, count: usize) -> Result<(), Fail> {
-    let text = letters.as_bytes().get(..count).ok_or("too few letters")?;
-    check_length(collator, text, count, 6)
+    check_length(collator, letters_of(letters, count)?, count, 6)
 }
 
 fn check_around(collator: &mut OwnedCollator, letters: &str) -> Result<(), Fail> {
@@ -158,29 +137,48 @@ fn collators_that_share_a_table(rt: HostRuntime) -> Result<(), Fail> {
     check_other(&mut opened(rt.alloc())?, rt.alloc())
 }
 
-fn check_at_once(collator: &OwnedCollator, is_known: bool) -> Result<(), Fail> {
-    for (left, right, of_short, of_longer) in AT_ONCE {
-        let of_short = if is_known { of_short } else { None };
-        let of_longer = if is_known { of_longer } else { None };
-        holds(collator.order_short(left, right) == of_short, "short texts")?;
-        holds(
-            collator.order_longer(left, right) == of_longer,
-            "longer texts",
-        )?;
-    }
-    Ok(())
+/// Texts of few bytes. Nothing is told of a text and itself or its beginning, and of bytes that are not UTF-8.
+fn check_few(collator: &OwnedCollator, less: Option<Ordering>) -> Result<(), Fail> {
+    let greater = less.map(Ordering::reverse);
+    let order = |left: &[u8], right: &[u8]| collator.order_at_once(left, right);
+    holds(order(b"a", b"b") == less, "two letters")?;
+    holds(order(b"ba", b"ab") == greater, "the first letters")?;
+    holds(order(b"ab", b"aa") == greater, "the second letters")?;
+    holds(order(b"a", b"a").is_none(), "a text and itself")?;
+    holds(order(b"a", b"ab").is_none(), "a beginning")?;
+    holds(order(b"a\xFF", b"b").is_none(), "no UTF-8 at the left")?;
+    holds(order(b"a", b"b\xFF").is_none(), "no UTF-8 at the right")
 }
 
-fn check_before_and_after(collator: &mut OwnedCollator) -> Result<(), Fail> {
-    check_at_once(collator, false)?;
+/// Texts of up to 32 bytes, and one of 33: of this one nothing is told.
+fn check_more(collator: &OwnedCollator, letters: &str, less: Option<Ordering>) -> Result<(), Fail> {
+    for count in [15, 16, 32] {
+        let text = letters_of(letters, count)?;
+        holds(collator.order_at_once(text, b"b") == less, "the left text")?;
+        let greater = less.map(Ordering::reverse);
+        holds(
+            collator.order_at_once(b"b", text) == greater,
+            "the right text",
+        )?;
+    }
+    let text = letters_of(letters, 33)?;
+    holds(collator.order_at_once(text, b"b").is_none(), "33 bytes")
+}
+
+/// Before two texts were compared by their weights, nothing is told.
+fn check_before_and_after(collator: &mut OwnedCollator, letters: &str) -> Result<(), Fail> {
+    check_few(collator, None)?;
+    check_more(collator, letters, None)?;
     let found = collator.compare(b"a", b"b")?;
-    holds(found == (Less, 1), "a comparison")?;
-    check_at_once(collator, true)
+    holds(found == (Ordering::Less, 1), "a comparison")?;
+    check_few(collator, Some(Ordering::Less))?;
+    check_more(collator, letters, Some(Ordering::Less))
 }
 
 #[test]
 fn orders_that_are_told_at_once(rt: HostRuntime) -> Result<(), Fail> {
-    check_before_and_after(&mut opened(rt.alloc())?)
+    let letters = repeated(rt.alloc(), "a", 33)?;
+    check_before_and_after(&mut opened(rt.alloc())?, &letters)
 }
 
 /// The levels of the key of `ba`, one letter after the other.

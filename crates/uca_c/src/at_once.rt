@@ -10,31 +10,9 @@ use crate::work;
 use std::alloc::Global;
 use std::cmp::Ordering;
 
-/// The order of two texts of at most fifteen bytes. There is no result for others, and where it is not told at once.
-#[inline(always)]
-pub(crate) fn order_short(
-    alloc: Global,
-    collator: &mut Slot,
-    left: &[u8],
-    right: &[u8],
-) -> Option<Ordering>
-    requires { collator.old.full ≡ true }
-    ensures compared { IfSome result (λ order.
-        let answer = bytes_compared (keying_at collator.old.handle.kept) left.now right.now in (order ≡ answer.order) × (1 ≡ answer.level)) }
-    ensures accepted { let k = keying_at collator.old.handle.kept in
-        IfSome result (λ _. IsAcceptedBy k left.now × IsAcceptedBy k right.now) }
-    ensures open { collator.new.full ≡ true }
-    ensures same { collator.new.handle.kept ≡ collator.old.handle.kept }
-{
-    let opened = take(alloc, collator);
-    let found = work::order_short(&opened, left, right);
-    put(collator, opened);
-    found
-}
-
 /// The order of two texts of at most 32 bytes. There is no result for others, and where it is not told at once.
 #[inline(always)]
-pub(crate) fn order_longer(
+pub(crate) fn order_at_once(
     alloc: Global,
     collator: &mut Slot,
     left: &[u8],
@@ -49,7 +27,7 @@ pub(crate) fn order_longer(
     ensures same { collator.new.handle.kept ≡ collator.old.handle.kept }
 {
     let opened = take(alloc, collator);
-    let found = work::order_longer(&opened, left, right);
+    let found = work::order_at_once(&opened, left, right);
     put(collator, opened);
     found
 }

@@ -13,11 +13,12 @@ ghost use Rattle.uca_c.specs.Opened.{Asks, FingerprintsBy, OpensBy, IsNoFileErro
 ghost use Rattle.uca_c.specs.Results.{WritesKey, IsTooSmall, IsComparison, IsOrderNumber};
 ghost use Rattle.uca_c.specs.Statuses.{IsKeyStatus, IsCompareStatus};
 
+use crate::at_once::order_at_once;
 use crate::numbers::number_of_order;
 use crate::slot::{Slot, put, take};
 use crate::statuses::{ALREADY_OPEN, CLOSED, MEMORY, OK, SMALL};
 use crate::structs::{Comparison, FileError};
-use crate::{at_once, opening, work};
+use crate::{opening, work};
 use std::alloc::Global;
 use uca_lanes::{are_same_narrow, are_same_short};
 
@@ -197,7 +198,7 @@ fn compare_longer(
         *comparison = Comparison { order: 0, level: 0 };
         return OK;
     }
-    match at_once::order_longer(alloc, collator, left, right) {
+    match order_at_once(alloc, collator, left, right) {
         Some(order) => {
             *comparison = Comparison::of_letters(order);
             OK
@@ -228,7 +229,7 @@ fn compare_open(
     if left.len() > SHORT || right.len() > SHORT {
         return compare_longer(alloc, collator, left, right, comparison);
     }
-    match at_once::order_short(alloc, collator, left, right) {
+    match order_at_once(alloc, collator, left, right) {
         Some(order) => {
             *comparison = Comparison::of_letters(order);
             OK
@@ -309,7 +310,7 @@ fn order_longer(
         *order = 0;
         return OK;
     }
-    match at_once::order_longer(alloc, collator, left, right) {
+    match order_at_once(alloc, collator, left, right) {
         Some(found) => {
             *order = number_of_order(found);
             OK
@@ -332,7 +333,7 @@ fn order_open(alloc: Global, collator: &mut Slot, left: &[u8], right: &[u8], ord
     if left.len() > SHORT || right.len() > SHORT {
         return order_longer(alloc, collator, left, right, order);
     }
-    match at_once::order_short(alloc, collator, left, right) {
+    match order_at_once(alloc, collator, left, right) {
         Some(found) => {
             *order = number_of_order(found);
             OK

@@ -231,24 +231,14 @@ pub fn compare(
     compare_texts(&mut collator.collator, left, right, comparison)
 }
 
-// The order of two texts of at most fifteen bytes, where their first bytes that differ tell it.
-#[inline(always)]
-pub fn order_short(collator: &OpenCollator, left: &[u8], right: &[u8]) -> Option<Ordering>
-    ensures compared { IfSome result (λ order. let answer = bytes_compared (keying_at collator.now) left.now right.now in
-        (order ≡ answer.order) × (1 ≡ answer.level)) }
-    ensures accepted { let k = keying_at collator.now in IfSome result (λ _. IsAcceptedBy k left.now × IsAcceptedBy k right.now) }
-{
-    collator.collator.order_short(left, right)
-}
-
 // The order of two texts of at most 32 bytes, where their first bytes that differ tell it.
 #[inline(always)]
-pub fn order_longer(collator: &OpenCollator, left: &[u8], right: &[u8]) -> Option<Ordering>
+pub fn order_at_once(collator: &OpenCollator, left: &[u8], right: &[u8]) -> Option<Ordering>
     ensures compared { IfSome result (λ order. let answer = bytes_compared (keying_at collator.now) left.now right.now in
         (order ≡ answer.order) × (1 ≡ answer.level)) }
     ensures accepted { let k = keying_at collator.now in IfSome result (λ _. IsAcceptedBy k left.now × IsAcceptedBy k right.now) }
 {
-    collator.collator.order_longer(left, right)
+    collator.collator.order_at_once(left, right)
 }
 
 // Orders two byte strings.

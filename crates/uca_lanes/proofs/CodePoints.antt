@@ -459,7 +459,7 @@ agree-IsUtf8 bs = (λ h. (StepsThen-IsUtf8 bs).0 (there h.0 h.1), λ u. back (to
 
 -- ---- code points of two bytes at most
 
-falls_all : (least more : ℕ) (bs : List ℕ) → least ≤ more → marks_from more bs ≤ marks_from least bs
+pub falls_all : (least more : ℕ) (bs : List ℕ) → least ≤ more → marks_from more bs ≤ marks_from least bs
 falls_all least more [] h = omega arith
 falls_all least more (b ∷ bs) h = omega (arith, falls least more b h, falls_all least more bs h)
 

@@ -1,5 +1,6 @@
 mod LaneSteps
 mod CodePoints
+mod Ends
 mod MaskSteps
 mod Narrow
 mod Whole

@@ -1,5 +1,5 @@
 -- From vectors, masks and numbers to the bytes that they are made of.
-use Rattle.std.proofs.Common.{◌≡◌, ℕ, zero, suc, ◌+◌, ◌-◌, ◌*◌, ◌/◌, ◌%◌, ◌^◌, ◌<◌, ◌≤◌, Bool, true, false, cond, List, [], ◌∷◌, ◌++◌, map, length, take, drop, get_or, replicate, leb, ltb, eqb, w8, Fits, refl, sym, ap, ◌∙◌, arith, take_all, take-append-drop, subst, ap₂, ltb-true, ltb-false, leb-false}
+use Rattle.std.proofs.Common.{◌≡◌, ℕ, zero, suc, ◌+◌, ◌-◌, ◌*◌, ◌/◌, ◌%◌, ◌^◌, ◌<◌, ◌≤◌, Bool, true, false, cond, List, [], ◌∷◌, ◌++◌, map, length, take, drop, get_or, replicate, leb, ltb, eqb, w8, Fits, refl, sym, ap, ◌∙◌, arith, append-nil, length-append, take_all, take-append-drop, subst, ap₂, ltb-true, ltb-false, leb-false}
 use Rattle.std.specs.Simd.Lanes.{mask_l, number_l, digits_l, chunk}
 use Rattle.std.proofs.lemmas.Bool.{lt-leb}
 use Rattle.std.proofs.lemmas.List.{map-append, drop-map, drop-drop, get_or-drop, length-map, length-drop}
@@ -20,7 +20,7 @@ pub compared_to : (byte : ℕ) (bytes : List ℕ) → length bytes ≡ 16 → ma
 compared_to byte bytes long = bitmask_splat w8 eqb bytes 16 byte long (omega arith)
 
 -- of at most k lanes
-mask_bound : (k : ℕ) (ms : List Bool) → length ms ≡ k → mask_l ms < 2 ^ k
+pub mask_bound : (k : ℕ) (ms : List Bool) → length ms ≡ k → mask_l ms < 2 ^ k
 mask_bound k ms long = subst (λ n. mask_l ms < 2 ^ n) long (mask_l-lt ms)
 
 pub from_bound : (least : ℕ) (bytes : List ℕ) → length bytes ≡ 16 → marks_from least bytes < 2 ^ 16
@@ -191,3 +191,29 @@ spelled (suc k) (x ∷ xs) are room =
     let rest : (x + 256 * n) / 256 ≡ n = omega (arith, (are 0).fits) in
     let left : k - length xs ≡ suc k - suc (length xs) = omega arith in
     ap₂ (λ b l. b ∷ l) low (ap (digits_l 256 k) rest ∙ spelled k xs (tail_are x xs are) (omega (arith, room)) ∙ ap (λ m. xs ++ replicate m 0) left)
+
+-- the first eight bytes and the last eight, as two numbers have them
+pub two_eights : (bytes : List ℕ) (front back : ℕ) → AreBytes bytes → 8 ≤ length bytes
+    → front ≡ number_l 256 (chunk 0 8 bytes) → back ≡ number_l 256 (chunk (length bytes - 8) 8 bytes)
+    → digits_l 256 16 (front + 18446744073709551616 * (back + 0)) ≡ take 8 bytes ++ drop (length bytes - 8) bytes
+two_eights bytes front back are many is is_too =
+    let j = length bytes - 8 in
+    let first = take 8 bytes in
+    let last = drop j bytes in
+    let long : length first ≡ 8 = length-chunk 0 8 bytes (omega (arith, many)) in
+    let rest : length last ≡ 8 = length-drop j bytes ∙ omega (arith, many) in
+    let all : chunk j 8 bytes ≡ last = take_all 8 last (omega (arith, rest)) in
+    let whole : front + 18446744073709551616 * (back + 0) ≡ number_l 256 first + number_l 256 last * 256 ^ 8 = omega (arith, is, is_too, ap (number_l 256) all) in
+    let joined : number_l 256 first + number_l 256 last * 256 ^ 8 ≡ number_l 256 (first ++ last) =
+    ap (λ n. number_l 256 first + number_l 256 last * 256 ^ n) (sym long) ∙ sym (number-append first last) in
+    let sixteen : length (first ++ last) ≡ 16 = length-append first last ∙ omega (arith, long, rest) in
+    let none : 16 - length (first ++ last) ≡ 0 = omega (arith, sixteen) in
+    ap (digits_l 256 16) (whole ∙ joined)
+    ∙ spelled 16 (first ++ last) (both_are first last (take_are 8 bytes are) (drop_are j bytes are)) (omega (arith, sixteen))
+    ∙ ap (λ n. (first ++ last) ++ replicate n 0) none
+    ∙ append-nil (first ++ last)
+  where
+    both_are : (xs ys : List ℕ) → AreBytes xs → AreBytes ys → AreBytes (xs ++ ys)
+    both_are [] ys are are_too k = are_too k
+    both_are (x ∷ xs) ys are are_too zero = are 0
+    both_are (x ∷ xs) ys are are_too (suc k) = both_are xs ys (tail_are x xs are) are_too k

@@ -10,12 +10,14 @@ ghost use Rattle.std.specs.Prelude.{◌≡◌, ◌≢◌, ℕ, ◌+◌, ◌<◌,
 ghost use Rattle.uca_lanes.specs.inside.Lanes.{IsSameRun};
 ghost use Rattle.uca_lanes.specs.inside.Marks.{first_set};
 
+mod narrow_texts;
 mod pairs;
 mod short;
 mod utf8;
 
+pub use narrow_texts::{are_same_narrow, shared_of_narrow};
 pub use pairs::{marks_of_pairs, same_pairs};
-pub use short::{are_same_narrow, are_same_short, shared_of_longer, shared_of_short};
+pub use short::{are_same_short, shared_of_longer, shared_of_short};
 use std::simd::prelude::*;
 pub use utf8::is_utf8;
 

@@ -3,12 +3,11 @@
 ghost use Rattle.std.specs.Prelude.{◌≡◌, ◌↔◌, ◌-◌, ◌≤◌, ◌++◌, length, replicate, take, IsTrue, MatchOption};
 ghost use Rattle.std.specs.Bool.{MatchBool};
 ghost use Rattle.std.specs.Str.{IsUtf8};
-ghost use Rattle.uca_lanes.specs.Narrow.{AreNarrow};
 ghost use Rattle.uca_lanes.specs.Shared.{IsSharedLen};
 ghost use Rattle.uca_lanes.specs.inside.Lanes.{IsSameRun};
 
 use crate::first_set;
-use crate::utf8::{are_utf8, is_narrow_utf8, number_of_eight, number_of_few, with_zeros};
+use crate::utf8::{are_utf8, number_of_eight, number_of_few, with_zeros};
 use std::simd::prelude::*;
 
 // After so many bytes there is a zero among sixteen.
@@ -17,9 +16,9 @@ const SHORT: usize = 15;
 // So many bytes are two times sixteen, of which some may be in both.
 const AT_ONCE: usize = 32;
 
-// How many of sixteen bytes are the same in both, before the first that is not.
+/// How many of sixteen bytes are the same in both, before the first that is not.
 #[inline(always)]
-fn same_of_sixteen(left: u8x16, right: u8x16) -> usize
+pub(crate) fn same_of_sixteen(left: u8x16, right: u8x16) -> usize
     ensures { IsSameRun left right 0 0 16 result }
 {
     first_set(left.simd_ne(right).to_bitmask(), 16)
@@ -104,9 +103,9 @@ pub fn shared_of_longer(left: &[u8], right: &[u8]) -> Option<usize>
     Some(same.min(shorter))
 }
 
-// Whether two strings of at most sixteen bytes, and of one length, are the same.
+/// Whether two strings of at most sixteen bytes, and of one length, are the same.
 #[inline(always)]
-fn are_same_few(left: &[u8], right: &[u8]) -> bool
+pub(crate) fn are_same_few(left: &[u8], right: &[u8]) -> bool
     requires long { length left.now ≡ length right.now }
     requires few { length left.now ≤ 16 }
     ensures { MatchBool result (left.now ≡ right.now) (¬ (left.now ≡ right.now)) }
@@ -117,22 +116,6 @@ fn are_same_few(left: &[u8], right: &[u8]) -> bool
     }
     number_of_eight(left, 0) == number_of_eight(right, 0)
         && number_of_eight(left, len - 8) == number_of_eight(right, len - 8)
-}
-
-/// Whether two texts of at most sixteen bytes are the same, and UTF-8 (the Unicode Standard, section 3.9, table 3-7) of code
-/// points of one or two bytes. For example, `cart` and `cart` are. Of texts of more bytes, or with a code point of three or
-/// four, it returns `false`, whatever they are. It judges no such code point, so it takes fewer instructions than
-/// [`are_same_short`].
-#[inline(always)]
-pub fn are_same_narrow(left: &[u8], right: &[u8]) -> bool
-    ensures { MatchBool result
-        ((length left.now ≤ 16) × (left.now ≡ right.now) × IsUtf8 left.now × AreNarrow left.now)
-        (¬ ((length left.now ≤ 16) × (left.now ≡ right.now) × IsUtf8 left.now × AreNarrow left.now)) }
-{
-    if left.len() != right.len() || left.len() > 16 {
-        return false;
-    }
-    are_same_few(left, right) && is_narrow_utf8(with_zeros(left))
 }
 
 /// Whether two texts of at most 32 bytes are the same, and UTF-8 (the Unicode Standard, section 3.9, table 3-7). For

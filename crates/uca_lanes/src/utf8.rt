@@ -4,7 +4,6 @@ ghost use Rattle.std.specs.Prelude.{false, ◌≡◌, ◌↔◌, ◌+◌, ◌-�
 ghost use Rattle.std.specs.Bool.{MatchBool};
 ghost use Rattle.std.specs.Str.{IsUtf8};
 ghost use Rattle.std.specs.Simd.Lanes.{chunk, number_l};
-ghost use Rattle.uca_lanes.specs.Narrow.{AreNarrow};
 ghost use Rattle.uca_lanes.specs.inside.Marks.{joined, marks_from, marks_of, CountsAgree, SecondsAgree};
 
 use std::simd::prelude::*;
@@ -74,9 +73,9 @@ pub(crate) fn with_zeros(bytes: &[u8]) -> u8x16
     u64x2::from_array([number_of_eight(bytes, 0), after]).to_le_bytes()
 }
 
-// A bit for each byte that is at least this one, the lowest for the first byte.
+/// A bit for each byte that is at least this one, the lowest for the first byte.
 #[inline(always)]
-fn mask_from(bytes: u8x16, least: u8) -> u64
+pub(crate) fn mask_from(bytes: u8x16, least: u8) -> u64
     ensures mask { result ≡ marks_from least bytes }
     ensures bound { result < 2 ^ 16 }
 {
@@ -168,14 +167,6 @@ fn are_utf8_if_narrow(front: u8x16, back: u8x16, both: u64) -> bool
     let starts = marks_from(front, back, both, 0xC0);
     let leads = marks_from(front, back, both, 0xC2);
     (starts == leads) & (2 * leads + starts == high)
-}
-
-/// Whether sixteen bytes are UTF-8, and none is E0 or more: no code point has three bytes or more.
-#[inline(always)]
-pub(crate) fn is_narrow_utf8(bytes: u8x16) -> bool
-    ensures { IsTrue result ↔ (IsUtf8 bytes × AreNarrow bytes) }
-{
-    mask_from(bytes, 0xE0) == 0 && are_utf8_if_narrow(bytes, u8x16::splat(0), 16)
 }
 
 /// Whether these bytes are UTF-8. Most have no code point of more than two bytes.

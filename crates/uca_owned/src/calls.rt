@@ -16,7 +16,7 @@ ghost use Rattle.uca_owned.specs.Owned.{keying_in, key_in};
 ghost use Rattle.uca_owned.specs.Causes.{IsAcceptedBy, IsAcceptedText, IsKeyCause, IsCompareCause};
 
 use crate::OwnedCollator;
-use crate::comparing::{compare_bytes, first_of_longer, first_of_short};
+use crate::comparing::{compare_bytes, order_at_once};
 use crate::faults::{CompareFault, KeyFault};
 use crate::reading::read_text;
 use std::alloc::AllocError;
@@ -171,28 +171,18 @@ impl OwnedCollator {
         )
     }
 
-    /// The order of two texts of at most fifteen bytes by the first bytes that differ, such as `r` and `s` of `cart` and
-    /// `cast`. There is no result where these bytes are not code points of ASCII that differ at level 1, and with numbers by
-    /// value. Nor is there one before [`compare`](OwnedCollator::compare) compared two short texts by their weights. No clause
-    /// says when there is a result. It changes nothing. Where there is a result, it takes less time than `compare`.
+    /// The order of two texts of at most 32 bytes by the first bytes that differ, such as `r` and `s` of `cart` and `cast`. It
+    /// changes nothing. Where there is a result, it takes less time than [`compare`](OwnedCollator::compare).
+    ///
+    /// There is no result where these bytes are not code points of ASCII that differ at level 1, and with numbers by value. Nor
+    /// is there one where they come after more than eight bytes, or sixteen if a text has more than fifteen. Before `compare`
+    /// compared two short texts by their weights, there is none. No clause says when there is a result.
     #[inline(always)]
-    pub fn order_short(&self, left: &[u8], right: &[u8]) -> Option<Ordering>
+    pub fn order_at_once(&self, left: &[u8], right: &[u8]) -> Option<Ordering>
         ensures compared { IfSome result (λ order. let answer = bytes_compared (keying_in self.now) left.now right.now in
             (order ≡ answer.order) × (1 ≡ answer.level)) }
         ensures accepted { let k = keying_in self.now in IfSome result (λ _. IsAcceptedBy k left.now × IsAcceptedBy k right.now) }
     {
-        first_of_short(&self.comparison, self.settings, left, right)
-    }
-
-    /// What [`order_short`](OwnedCollator::order_short) tells, of two texts of at most 32 bytes. Only the first sixteen are
-    /// counted that both have in common, so there is no result if the texts differ later. Texts of at most fifteen bytes take
-    /// more time here.
-    #[inline(always)]
-    pub fn order_longer(&self, left: &[u8], right: &[u8]) -> Option<Ordering>
-        ensures compared { IfSome result (λ order. let answer = bytes_compared (keying_in self.now) left.now right.now in
-            (order ≡ answer.order) × (1 ≡ answer.level)) }
-        ensures accepted { let k = keying_in self.now in IfSome result (λ _. IsAcceptedBy k left.now × IsAcceptedBy k right.now) }
-    {
-        first_of_longer(&self.comparison, self.settings, left, right)
+        order_at_once(&self.comparison, self.settings, left, right)
     }
 }

@@ -51,7 +51,7 @@ pub(crate) fn order_first(heads: &Heads, left: &str, right: &str, shared: usize)
         IfSome result (DifferFirst c heads.now.weighting (chars left.now) (chars right.now)) }
 {
     let firsts = heads.firsts()?;
-    if shared >= left.len() || shared >= right.len() {
+    if shared >= left.len().min(right.len()) {
         return None;
     }
     let first = first_at(firsts, left, shared);

@@ -5,15 +5,15 @@ use Rattle.std.specs.Arc.{arc_value}
 use Rattle.uca_order.specs.Keyings.{bytes_compared}
 use Rattle.uca_match.specs.OwnedCollations.{owned_collation}
 use Rattle.uca_owned.specs.Owned.{OwnedState, keying_in}
-use Rattle.uca_owned.proofs.owned.OwnedCollator.order_short.Goals as goal
+use Rattle.uca_owned.proofs.owned.OwnedCollator.order_at_once.Goals as goal
 
 pub returns-clause-compared : goal.returns-clause-compared
 returns-clause-compared c =
     let left = c.args.left.now in
     let right = c.args.right.now in
-    subst (λ (s : OwnedState). IfSome c.first_of_short.result (λ order.
+    subst (λ (s : OwnedState). IfSome c.order_at_once.result (λ order.
     (order ≡ (bytes_compared (keying_in s) left right).order) × (1 ≡ (bytes_compared (keying_in s) left right).level)))
-    c.self.view_is (c.first_of_short.ensures.compared (owned_collation (arc_value c.self.inside.collation)) c.self.invariant.of_texts)
+    c.self.view_is (c.order_at_once.ensures.compared (owned_collation (arc_value c.self.inside.collation)) c.self.invariant.of_texts)
 
 pub returns-clause-accepted : goal.returns-clause-accepted
-returns-clause-accepted c = c.first_of_short.ensures.accepted (keying_in c.args.self.now)
+returns-clause-accepted c = c.order_at_once.ensures.accepted (keying_in c.args.self.now)

@@ -1,6 +1,6 @@
 -- Short texts are accepted.
 use Rattle.uca_owned.proofs.OrderLemmas.{shorts_accepted}
-use Rattle.uca_owned.proofs.comparing.first_of_longer.Goals as goal
+use Rattle.uca_owned.proofs.comparing.order_at_once.Goals as goal
 
 pub returns-clause-accepted : goal.returns-clause-accepted
 returns-clause-accepted c = λ k.
