@@ -4,10 +4,10 @@
 
    The lines are sorted. Each round goes over all lines, or over pairs of them: neighbours, or lines that are far from each
    other. The latter are the first and the second half of the sorted lines, so one pair begins mostly as the pair before it.
-   Or pairs with other first letters come in any order, as in a search or a sort. It prints a line for each kind: its name, and the nanoseconds of a call of uca and of ICU, each in its fastest
-   round of five. Compact keys stand beside ICU's sort keys. The times are of the processor. With threads they are of the
-   clock: each thread makes the keys of all lines. Collators of uca share their table, and ICU's is one. Variable elements
-   are non-ignorable, and there are three levels. */
+   Or pairs with other first letters come in any order, as in a search or a sort. It prints a line for each kind: its name,
+   and the nanoseconds of a call of uca and of ICU, each in its fastest round of five. Compact keys stand beside ICU's sort
+   keys. The times are of the processor. With threads they are of the clock: each thread makes the keys of all lines.
+   Collators of uca share their table, and ICU's is one. Variable elements are non-ignorable, and there are three levels. */
 #include "uca.h"
 
 #include <pthread.h>
@@ -186,8 +186,8 @@ static int differ_at_first(bench *it, const text *left, const text *right)
         && found.level == 1;
 }
 
-/* Puts the lines into any order, always the same one. Then it keeps pairs whose first letters differ, and says how many. The
-   right texts are in the second half of the memory. */
+/* Puts the lines into a mixed order, always the same one. Then it keeps pairs whose first letters differ at level 1, and
+   says how many. The right texts begin in the middle. */
 static size_t mix(bench *it)
 {
     uint64_t random = 1;
@@ -207,6 +207,15 @@ static size_t mix(bench *it)
         }
     }
     return pairs;
+}
+
+static void report_mixed(bench *it, const char *path)
+{
+    text *sorted = it->lines;
+    it->lines = lines_of(path, &it->count);
+    size_t pairs = mix(it);
+    report(it, "other first letters, in any order", uca_comparison_of, icu_comparison_of, it->lines + it->count / 2, pairs);
+    it->lines = sorted;
 }
 
 enum { MOST_THREADS = 64, APART = 128 };
@@ -280,10 +289,7 @@ int main(int count, char **arguments)
     report(&it, "compact keys", uca_compact_keys, icu_keys, it.lines, it.count);
     report(&it, "neighbours", uca_comparison_of, icu_comparison_of, it.lines + 1, it.count - 1);
     report(&it, "far from each other", uca_comparison_of, icu_comparison_of, it.lines + it.count / 2, it.count / 2);
-    bench mixed = it;
-    mixed.lines = lines_of(arguments[4], &mixed.count);
-    size_t pairs = mix(&mixed);
-    report(&mixed, "other first letters, in any order", uca_comparison_of, icu_comparison_of, mixed.lines + mixed.count / 2, pairs);
+    report_mixed(&it, arguments[4]);
     report(&it, "a line and itself", uca_comparison_of, icu_comparison_of, it.lines, it.count);
     report(&it, "a line and a copy", uca_comparison_of, icu_comparison_of, it.copies, it.count);
     report_threads(&it);

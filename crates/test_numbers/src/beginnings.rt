@@ -236,10 +236,11 @@ const RUNS: [(usize, usize, usize, usize, usize); 16] = [
     (40, 31, 31, 1, 0),
 ];
 
-/// Two texts, and how many bytes they have in common, if each has at most fifteen and is UTF-8. Then how many of the first eight,
-/// if no code point has three bytes or more. A text that ends within a code point is not UTF-8, also where
-/// the other one begins with the bytes that are missing. The last eight bytes may begin within a code point.
-const SHORT: [(&[u8], &[u8], Option<usize>, Option<usize>); 35] = [
+/// Two texts, and how many bytes they have in common, if each has at most fifteen and is UTF-8. Then how many of the first
+/// eight, if each has at most 32 and no code point of three bytes or more. A text that ends within a code point is not UTF-8,
+/// also where the other one begins with the bytes that are missing. Of a text of at most fifteen bytes the last eight may begin
+/// within a code point.
+const SHORT: [(&[u8], &[u8], Option<usize>, Option<usize>); 46] = [
     (b"", b"", Some(0), Some(0)),
     (b"", b"a", Some(0), Some(0)),
     (b"cart", b"cast", Some(2), Some(2)),
@@ -254,9 +255,9 @@ const SHORT: [(&[u8], &[u8], Option<usize>, Option<usize>); 35] = [
     (b"abcdefghijklmno", b"abcdefghijklmno", Some(15), Some(8)),
     (b"abcdefghijklmno", b"abcdefghijklmnp", Some(14), Some(8)),
     (b"abcdefghijklmno", b"b", Some(0), Some(0)),
-    (b"abcdefghijklmnop", b"", None, None),
-    (b"", b"abcdefghijklmnop", None, None),
-    (b"abcdefghijklmnop", b"abcdefghijklmnop", None, None),
+    (b"abcdefghijklmnop", b"", None, Some(0)),
+    (b"", b"abcdefghijklmnop", None, Some(0)),
+    (b"abcdefghijklmnop", b"abcdefghijklmnop", None, Some(8)),
     (b"\xC3", b"\xA9", None, None),
     (b"abcdefghijklmn\xC3", b"\xA9", None, None),
     (b"a", b"a\x80", None, None),
@@ -280,6 +281,22 @@ const SHORT: [(&[u8], &[u8], Option<usize>, Option<usize>); 35] = [
     (b"b", b"abcdefg\xC3ijkl", None, None),
     (b"b", b"abcd\xA9fghijkl", None, None),
     (b"b", b"abcdefg\xC1\x80", None, None),
+    (b"\xE1\x80", b"b", None, None),
+    (b"abcdefg\xC3\xA9jklmno", b"b", Some(0), Some(0)),
+    (b"abcdefg\xC3ijklmno", b"b", None, None),
+    (b"b", b"abcdefg\xC3ijklmno", None, None),
+    (b"abcdefg\xC3ijklmnop", b"b", None, None),
+    (b"abcdefghijklmno\xC3\xA9", b"abcd", None, Some(4)),
+    (b"b", b"abcdefghijklmno\xC3q", None, None),
+    (
+        b"abcdefghijklmnopqrstuvwxyzabcd\xC3\xA9",
+        b"a\xC3\xA9",
+        None,
+        Some(1),
+    ),
+    (b"abcdefghijklmnopqrstuvwxyzabcde\xC3", b"b", None, None),
+    (b"abcdefghijklmnopqrstuvwxyzabcdefg", b"b", None, None),
+    (b"b", b"abcdefghijklm\xE0\xA0\x80q", None, None),
 ];
 
 /// Two texts, and how many of their first sixteen bytes are the same, if each has at most 32 and is UTF-8. The last bytes are

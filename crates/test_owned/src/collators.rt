@@ -139,40 +139,58 @@ fn collators_that_share_a_table(rt: HostRuntime) -> Result<(), Fail> {
 
 /// Texts of few bytes. Nothing is told of a text and itself or its beginning, and of bytes that are not UTF-8.
 fn check_few(collator: &OwnedCollator, less: Option<Ordering>) -> Result<(), Fail> {
-    let greater = less.map(Ordering::reverse);
+    let greater = less.map(|order| order.reverse());
     let order = |left: &[u8], right: &[u8]| collator.order_at_once(left, right);
     holds(order(b"a", b"b") == less, "two letters")?;
     holds(order(b"ba", b"ab") == greater, "the first letters")?;
     holds(order(b"ab", b"aa") == greater, "the second letters")?;
     holds(order(b"a", b"a").is_none(), "a text and itself")?;
     holds(order(b"a", b"ab").is_none(), "a beginning")?;
+    holds(order(b"", b"a").is_none(), "an empty text")?;
     holds(order(b"a\xFF", b"b").is_none(), "no UTF-8 at the left")?;
-    holds(order(b"a", b"b\xFF").is_none(), "no UTF-8 at the right")
+    holds(order(b"a", b"b\xFF").is_none(), "no UTF-8 at the right")?;
+    holds(order(b"ab\xE6\x97\xA5", b"b").is_none(), "three bytes")
+}
+
+/// At most eight bytes may come before those that differ.
+fn check_later(collator: &OwnedCollator, less: Option<Ordering>) -> Result<(), Fail> {
+    let found = collator.order_at_once(b"aaaaaaaaa", b"aaaaaaaab");
+    holds(found == less, "after eight bytes")?;
+    let found = collator.order_at_once(b"aaaaaaaaaa", b"aaaaaaaaab");
+    holds(found.is_none(), "after nine bytes")
 }
 
 /// Texts of up to 32 bytes, and one of 33: of this one nothing is told.
 fn check_more(collator: &OwnedCollator, letters: &str, less: Option<Ordering>) -> Result<(), Fail> {
+    let greater = less.map(|order| order.reverse());
     for count in [15, 16, 32] {
         let text = letters_of(letters, count)?;
-        holds(collator.order_at_once(text, b"b") == less, "the left text")?;
-        let greater = less.map(Ordering::reverse);
-        holds(
-            collator.order_at_once(b"b", text) == greater,
-            "the right text",
-        )?;
+        let found = collator.order_at_once(text, b"b");
+        holds(found == less, "the left text")?;
+        let found = collator.order_at_once(b"b", text);
+        holds(found == greater, "the right text")?;
     }
     let text = letters_of(letters, 33)?;
-    holds(collator.order_at_once(text, b"b").is_none(), "33 bytes")
+    holds(collator.order_at_once(text, b"b").is_none(), "33 bytes")?;
+    holds(collator.order_at_once(b"b", text).is_none(), "33 bytes")
+}
+
+fn check_at_once(
+    collator: &OwnedCollator,
+    letters: &str,
+    less: Option<Ordering>,
+) -> Result<(), Fail> {
+    check_few(collator, less)?;
+    check_later(collator, less)?;
+    check_more(collator, letters, less)
 }
 
 /// Before two texts were compared by their weights, nothing is told.
 fn check_before_and_after(collator: &mut OwnedCollator, letters: &str) -> Result<(), Fail> {
-    check_few(collator, None)?;
-    check_more(collator, letters, None)?;
+    check_at_once(collator, letters, None)?;
     let found = collator.compare(b"a", b"b")?;
     holds(found == (Ordering::Less, 1), "a comparison")?;
-    check_few(collator, Some(Ordering::Less))?;
-    check_more(collator, letters, Some(Ordering::Less))
+    check_at_once(collator, letters, Some(Ordering::Less))
 }
 
 #[test]

@@ -54,7 +54,7 @@ same_but_one x v =
       λ h. (low ∙ same_bits (x % 2 ^ 8) (v % 2 ^ 8) h.0, high ∙ same_bits (x / 2 ^ 9) (v / 2 ^ 9) h.1),
     )
 
--- so are two such halves where no other bit is in one of two numbers alone
+-- two pairs of numbers, each as one number: by all bits but the ninth of each
 same_known : (x y v w : ℕ) → x < 2 ^ 32 → y < 2 ^ 32 → v < 2 ^ 32 → w < 2 ^ 32
     → (bit_and (bit_xor (x + y * 2 ^ 32) (v + w * 2 ^ 32)) 18446742974197923583 ≡ 0) ↔ (Same x v × Same y w)
 same_known x y v w hx hy hv hw = (

@@ -70,6 +70,31 @@ pub none_in_both : (least mask : ℕ) (xs ys : List ℕ) → length xs ≡ 16 �
 none_in_both least mask xs ys long long_too is none =
     none_greater least xs ys (omega (arith, long, long_too)) (ap (λ ms. marks_from least (sel_l ms ys xs)) (sym (tops_compared w8 ltb xs ys)) ∙ sym is ∙ none)
 
+-- where both are less than this one, the greater one is
+both_below : (least x y : ℕ) → leb least x ≡ false → leb least y ≡ false → leb least (cond (ltb x y) y x) ≡ false
+both_below least x y less less_too = by_order (ltb x y)
+  where
+    by_order : (b : Bool) → leb least (cond b y x) ≡ false
+    by_order true = less_too
+    by_order false = less
+
+none_lesser : (least : ℕ) (xs ys : List ℕ) → length xs ≡ length ys → marks_from least xs ≡ 0 → marks_from least ys ≡ 0
+    → marks_from least (greater xs ys) ≡ 0
+none_lesser least [] [] long none none_too = refl
+none_lesser least [] (y ∷ ys) long none none_too = absurd (omega (arith, long))
+none_lesser least (x ∷ xs) [] long none none_too = absurd (omega (arith, long))
+none_lesser least (x ∷ xs) (y ∷ ys) long none none_too =
+    let bits = no_bit (leb least x) (marks_from least xs) none in
+    let bits_too = no_bit (leb least y) (marks_from least ys) none_too in
+    ap₂ (λ (b : Bool) (n : ℕ). cond b 1 0 + 2 * n) (both_below least x y bits.0 bits_too.0)
+    (none_lesser least xs ys (omega (arith, long)) bits.1 bits_too.1)
+
+pub none_of_both : (least : ℕ) (xs ys : List ℕ) → length xs ≡ 16 → length ys ≡ 16 → marks_from least xs ≡ 0 → marks_from least ys ≡ 0
+    → marks_from least (sel_l (map (top 7) (zip2 (λ a b. cond (ltb a b) 255 0) xs ys)) ys xs) ≡ 0
+none_of_both least xs ys long long_too none none_too =
+    ap (λ ms. marks_from least (sel_l ms ys xs)) (tops_compared w8 ltb xs ys)
+    ∙ none_lesser least xs ys (omega (arith, long, long_too)) none none_too
+
 -- ---- masks of a front and a back
 
 half : (m : Bool) (n : ℕ) → (cond m 1 0 + 2 * n) / 2 ^ 1 ≡ n

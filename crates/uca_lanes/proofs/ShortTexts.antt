@@ -3,12 +3,12 @@ use Rattle.std.proofs.Common.{inl, inr, ◌≡◌, ℕ, suc, ◌+◌, ◌-◌, �
 use Rattle.std.specs.Str.{IsUtf8}
 use Rattle.std.specs.Simd.Lanes.{chunk, digits_l, number_l}
 use Rattle.std.proofs.lemmas.Bool.{cases_lt}
-use Rattle.std.proofs.lemmas.List.{get_or_append_left, get_or_at, take_at, drop_at, length-take}
+use Rattle.std.proofs.lemmas.List.{get_or-take, get_or_append_left, get_or_at, take_at, drop_at, length-take}
 use Rattle.std.proofs.lemmas.Simd.{length-chunk}
 use Rattle.std.proofs.lemmas.Str.{IsUtf8-append, IsUtf8-take, IsUtf8-drop, IsCharBoundary-before_ascii}
 use Rattle.simdutf8.proofs.StepsLemmas.{IsUtf8-append_ascii, IsUtf8-after_ascii, IsAscii-replicate}
 use Rattle.uca_lanes.specs.Shared.{IsSharedLen}
-use Rattle.uca_lanes.specs.inside.Ends.{AreEnds}
+use Rattle.uca_lanes.specs.inside.Ends.{AreEnds, IsFront}
 use Rattle.uca_lanes.specs.inside.Lanes.{IsSameRun}
 use Rattle.uca_lanes.specs.inside.Marks.{joined}
 use Rattle.uca_lanes.proofs.LaneSteps.{same_front}
@@ -149,18 +149,26 @@ in_ends bytes ends i are within = elim (cases_lt (length bytes) 8) [
   | inr more ↦ ap (λ l. get_or l i 0) (are.many more) ∙ get_or_append_left (take 8 bytes) (drop (length bytes - 8) bytes) 0 i within
 ]
 
-pub shared_of_ends : (left right one other : List ℕ) (same shared : ℕ) → AreEnds left one → AreEnds right other → IsSameRun one other 0 0 16 same
+-- so they are in what is loaded of a text
+in_front : (bytes front : List ℕ) (i : ℕ) → IsFront bytes front → i < length (take 8 bytes) → get_or front i 0 ≡ get_or (take 8 bytes) i 0
+in_front bytes front i is within = elim (cases_lt 15 (length bytes)) [
+  | inl many ↦ ap (λ l. get_or l i 0) (is.many many) ∙ get_or-take 16 bytes i 0 (omega (arith, within, length-take 8 bytes))
+      ∙ sym (get_or-take 8 bytes i 0 (omega (arith, within, length-take 8 bytes)))
+  | inr few ↦ in_ends bytes front i (is.few few) within
+]
+
+pub shared_of_narrow_fronts : (left right one other : List ℕ) (same shared : ℕ) → IsFront left one → IsFront right other → IsSameRun one other 0 0 16 same
     → shared ≡ min (min same 8) (min (length left) (length right)) → IsSharedLen (take 8 left) (take 8 right) shared
-shared_of_ends left right one other same shared are are_too run least = record {
+shared_of_narrow_fronts left right one other same shared is is_too run least = record {
   in_left = omega (arith, least, length-take 8 left);
   in_right = omega (arith, least, length-take 8 right);
   same = same_front shared (take 8 left) (take 8 right) (omega (arith, least, length-take 8 left)) (omega (arith, least, length-take 8 right))
-      (λ i below. sym (in_ends left one i are (omega (arith, least, below, length-take 8 left)))
+      (λ i below. sym (in_front left one i is (omega (arith, least, below, length-take 8 left)))
       ∙ subst (λ n. get_or one n 0 ≡ get_or other n 0) (zeroth i) (run.are i (omega (arith, least, below)))
-      ∙ in_ends right other i are_too (omega (arith, least, below, length-take 8 right)));
+      ∙ in_front right other i is_too (omega (arith, least, below, length-take 8 right)));
   apart = λ more more_too.
       let all : shared ≡ same = omega (arith, least, more, more_too, length-take 8 left, length-take 8 right) in
       λ equal. run.apart (omega (arith, all, more, length-take 8 left))
       (subst (λ n. get_or one n 0 ≡ get_or other n 0) (all ∙ sym (zeroth same))
-      (in_ends left one shared are more ∙ equal ∙ sym (in_ends right other shared are_too more_too)));
+      (in_front left one shared is more ∙ equal ∙ sym (in_front right other shared is_too more_too)));
 }

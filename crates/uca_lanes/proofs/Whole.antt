@@ -12,7 +12,7 @@ zero_is_ascii : 0 < 128
 zero_is_ascii = omega arith
 
 -- few bytes are judged with zeros after them
-pub padded_judged : (bytes lanes : List ℕ) → lanes ≡ bytes ++ replicate (16 - length bytes) 0 → IsUtf8 lanes ↔ IsUtf8 bytes
+padded_judged : (bytes lanes : List ℕ) → lanes ≡ bytes ++ replicate (16 - length bytes) 0 → IsUtf8 lanes ↔ IsUtf8 bytes
 padded_judged bytes lanes spelled =
     let pad : List ℕ = replicate (16 - length bytes) 0 in
     let plain = IsUtf8-append_ascii bytes pad (IsAscii-replicate (16 - length bytes) 0 zero_is_ascii) in

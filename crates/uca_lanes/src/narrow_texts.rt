@@ -1,33 +1,35 @@
 //! Two short texts of code points of one byte or two, such as `cart` and `père`.
 //!
-//! The first eight bytes of each and its last eight are judged at once. Some bytes may be in both. So no byte is shifted to its
-//! place.
+//! Of a text of at most fifteen bytes the first eight and the last eight are judged at once. Some bytes may be in both. So of
+//! eight bytes or more none is shifted to its place.
 
 ghost use Rattle.std.specs.Prelude.{◌≡◌, ◌↔◌, ◌+◌, ◌*◌, ◌<◌, ◌≤◌, ◌^◌, length, take, IsTrue, MatchOption};
 ghost use Rattle.std.specs.Bool.{MatchBool};
 ghost use Rattle.std.specs.Str.{IsUtf8};
 ghost use Rattle.uca_lanes.specs.Narrow.{AreNarrow};
 ghost use Rattle.uca_lanes.specs.Shared.{IsSharedLen};
-ghost use Rattle.uca_lanes.specs.inside.Ends.{AreEnds, EndsAgree, marks_of_leads};
+ghost use Rattle.uca_lanes.specs.inside.Ends.{AreEnds, EndsAgree, IsFront, marks_of_leads};
 ghost use Rattle.uca_lanes.specs.inside.Marks.{marks_from};
 
 use crate::short::{are_same_few, same_of_sixteen};
-use crate::utf8::{mask_from, number_of_eight, with_zeros};
+use crate::utf8::{are_utf8_if_narrow, has_from, mask_from, number_of_eight, with_zeros};
 use std::simd::prelude::*;
 
 // Texts of at most so many bytes are judged together.
 const SHORT: usize = 15;
 
-// So many bytes are counted that both have in common.
+// So many bytes are two times sixteen. Some may be in both.
+const AT_ONCE: usize = 32;
+
+// At most so many bytes are counted that both have in common.
 const COUNTED: usize = 8;
 
-// All bits but those of the ninth byte of each text.
-const KNOWN: u64 = 0xFFFF_FEFF_FFFF_FEFF;
+// All bits but that of the ninth byte of each vector: in the text, the byte before it is not the eighth.
+const ALL_BUT_NINTH: u64 = 0xFFFF_FEFF_FFFF_FEFF;
 
 // The first eight bytes of a text and then its last eight. Of fewer than eight, all, and then zeros.
 #[inline(always)]
 fn ends_of(bytes: &[u8]) -> u8x16
-    requires { length bytes.now ≤ 15 }
     ensures { AreEnds bytes.now result }
 {
     let len = bytes.len();
@@ -58,7 +60,7 @@ fn mask_of_leads(bytes: u8x16) -> u64
         .to_bitmask()
 }
 
-// Whether two texts are UTF-8 of code points of one byte or two, by their first and last bytes.
+// Whether two texts of at most fifteen bytes are UTF-8 of code points of one byte or two. These are their ends.
 #[inline(always)]
 fn are_narrow(one: u8x16, other: u8x16) -> bool
     ensures { IsTrue result ↔ (EndsAgree one × EndsAgree other) }
@@ -66,27 +68,81 @@ fn are_narrow(one: u8x16, other: u8x16) -> bool
     let starts = marks_of_two(one, other, 0xC0);
     let leads = mask_of_leads(one) + mask_of_leads(other) * 0x1_0000_0000;
     let others = marks_of_two(one, other, 0x80) - starts;
-    (starts == leads) & ((2 * leads ^ others) & KNOWN == 0)
+    (starts == leads) & ((2 * leads ^ others) & ALL_BUT_NINTH == 0)
 }
 
-/// How many of the first eight bytes two texts have in common at their beginning, if both have at most fifteen bytes. For
+// Whether a text of at most fifteen bytes is UTF-8 of code points of one byte or two. Sixteen zeros stand for another text.
+#[inline(always)]
+fn is_narrow(ends: u8x16) -> bool
+    ensures { IsTrue result ↔ EndsAgree ends }
+{
+    are_narrow(ends, u8x16::splat(0))
+}
+
+// The first sixteen bytes of a text, or the ends of one of at most fifteen.
+#[inline(always)]
+fn front_of_narrow(bytes: &[u8]) -> u8x16
+    ensures { IsFront bytes.now result }
+{
+    if bytes.len() <= SHORT {
+        return ends_of(bytes);
+    }
+    u8x16::from_slice(bytes)
+}
+
+// Whether a text of at most 32 bytes is UTF-8 of code points of one byte or two. This is its front.
+#[inline(always)]
+fn is_narrow_after(front: u8x16, bytes: &[u8]) -> bool
+    requires few { length bytes.now ≤ 32 }
+    requires front { IsFront bytes.now front }
+    ensures { IsTrue result ↔ (IsUtf8 bytes.now × AreNarrow bytes.now) }
+{
+    let len = bytes.len();
+    if len <= SHORT {
+        return is_narrow(front);
+    }
+    let back = u8x16::from_slice(&bytes[len - 16..]);
+    if has_from(front, back, 0xE0) {
+        return false;
+    }
+    are_utf8_if_narrow(front, back, 32 - len as u64)
+}
+
+// Whether two texts of at most 32 bytes are UTF-8 of code points of one byte or two. These are their fronts.
+#[inline(always)]
+fn are_narrow_after(one: u8x16, left: &[u8], other: u8x16, right: &[u8]) -> bool
+    requires few { length left.now ≤ 32 }
+    requires few_too { length right.now ≤ 32 }
+    requires front { IsFront left.now one }
+    requires front_too { IsFront right.now other }
+    ensures { IsTrue result ↔ ((IsUtf8 left.now × AreNarrow left.now) × (IsUtf8 right.now × AreNarrow right.now)) }
+{
+    if left.len() <= SHORT && right.len() <= SHORT {
+        return are_narrow(one, other);
+    }
+    is_narrow_after(one, left) && is_narrow_after(other, right)
+}
+
+/// How many of the first eight bytes two texts have in common at their beginning, if both have at most 32 bytes. For
 /// example, `cart` and `cast` have two. There is no result if a text has more bytes, is not UTF-8 (the Unicode Standard,
 /// section 3.9, table 3-7), or has a code point of three bytes or more.
 ///
-/// It judges no longer code point, so it takes fewer instructions than [`shared_of_short`](crate::shared_of_short).
+/// It rejects code points of three bytes or more, and asks nothing about them before. So it takes fewer instructions than
+/// [`shared_of_short`](crate::shared_of_short) and [`shared_of_longer`](crate::shared_of_longer). Two texts of at most fifteen
+/// bytes are judged together.
 #[inline(always)]
 pub fn shared_of_narrow(left: &[u8], right: &[u8]) -> Option<usize>
     ensures { MatchOption result
-        (length left.now ≤ 15 → length right.now ≤ 15 → ¬ ((IsUtf8 left.now × AreNarrow left.now) × (IsUtf8 right.now × AreNarrow right.now)))
-        (λ shared. (length left.now ≤ 15) × (length right.now ≤ 15) × (IsUtf8 left.now × AreNarrow left.now) × (IsUtf8 right.now × AreNarrow right.now)
+        (length left.now ≤ 32 → length right.now ≤ 32 → ¬ ((IsUtf8 left.now × AreNarrow left.now) × (IsUtf8 right.now × AreNarrow right.now)))
+        (λ shared. (length left.now ≤ 32) × (length right.now ≤ 32) × (IsUtf8 left.now × AreNarrow left.now) × (IsUtf8 right.now × AreNarrow right.now)
         × IsSharedLen (take 8 left.now) (take 8 right.now) shared) }
 {
-    if left.len() > SHORT || right.len() > SHORT {
+    if left.len() > AT_ONCE || right.len() > AT_ONCE {
         return None;
     }
-    let one = ends_of(left);
-    let other = ends_of(right);
-    if !are_narrow(one, other) {
+    let one = front_of_narrow(left);
+    let other = front_of_narrow(right);
+    if !are_narrow_after(one, left, other, right) {
         return None;
     }
     let same = same_of_sixteen(one, other).min(COUNTED);
@@ -107,5 +163,5 @@ pub fn are_same_narrow(left: &[u8], right: &[u8]) -> bool
     if left.len() != right.len() || left.len() > SHORT {
         return false;
     }
-    are_same_few(left, right) && are_narrow(ends_of(left), u8x16::splat(0))
+    are_same_few(left, right) && is_narrow(ends_of(left))
 }

@@ -1,6 +1,6 @@
 //! Whether bytes are UTF-8. Up to 32 of them are judged with no loop, by masks with one bit for each byte.
 
-ghost use Rattle.std.specs.Prelude.{false, ◌≡◌, ◌↔◌, ◌+◌, ◌-◌, ◌<◌, ◌≤◌, ◌^◌, ◌++◌, length, replicate, IsTrue};
+ghost use Rattle.std.specs.Prelude.{false, true, ◌≡◌, ◌↔◌, ◌+◌, ◌-◌, ◌<◌, ◌≤◌, ◌^◌, ◌++◌, length, replicate, IsTrue};
 ghost use Rattle.std.specs.Bool.{MatchBool};
 ghost use Rattle.std.specs.Str.{IsUtf8};
 ghost use Rattle.std.specs.Simd.Lanes.{chunk, number_l};
@@ -113,11 +113,12 @@ fn marks_of(front: u8x16, back: u8x16, both: u64, byte: u8) -> u64
     mask_of(front, byte) + after * 0x1_0000
 }
 
-// Whether some byte is at least this one, in the front or in the whole back.
+/// Whether some byte is at least this one, in the front or in the whole back.
 #[inline(always)]
-fn has_from(front: u8x16, back: u8x16, least: u8) -> bool
+pub(crate) fn has_from(front: u8x16, back: u8x16, least: u8) -> bool
     ensures front { result ≡ false → marks_from least front ≡ 0 }
     ensures back { result ≡ false → marks_from least back ≡ 0 }
+    ensures some { result ≡ true → ¬ ((marks_from least front ≡ 0) × (marks_from least back ≡ 0)) }
 {
     mask_from(front.simd_max(back), least) != 0
 }
@@ -155,10 +156,10 @@ fn seconds_agree(front: u8x16, back: u8x16, both: u64) -> bool
         & (after_f4 & from_90 == 0)
 }
 
-// Whether bytes are UTF-8, where none is E0 or more. It is not asked whether all are ASCII: where only some texts are, that takes
-// more time than it saves.
+/// Whether bytes are UTF-8, where none is E0 or more. It is not asked whether all are ASCII: where only some texts are, that
+/// takes more time than it saves.
 #[inline(always)]
-fn are_utf8_if_narrow(front: u8x16, back: u8x16, both: u64) -> bool
+pub(crate) fn are_utf8_if_narrow(front: u8x16, back: u8x16, both: u64) -> bool
     requires both { both ≤ 16 }
     requires narrow { marks_from 0xE0 (joined front back both) ≡ 0 }
     ensures { IsTrue result ↔ IsUtf8 (joined front back both) }

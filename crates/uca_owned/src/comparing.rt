@@ -13,7 +13,7 @@ ghost use Rattle.uca_text_comparer.specs.Heads.{Knows};
 ghost use Rattle.uca_owned.specs.Causes.{IsAcceptedText, IsAcceptedBy, IsKeyCause, IsCompareCause};
 
 use crate::faults::{CompareFault, KeyFault};
-use crate::reading::{SHORTER, read_after, read_at_once, read_longer, read_short, read_text};
+use crate::reading::{read_after, read_longer, read_narrow, read_short, read_text};
 use std::cmp::Ordering;
 use uca_lanes::shared_len;
 use uca_match::OwnedCollation;
@@ -23,6 +23,9 @@ use uca_weights::Settings;
 
 /// A text of so many bytes is accepted: what is read of it has at most 64 code points in Normalization Form D.
 const SHORT_TEXT: usize = 32;
+
+/// Two texts of at most so many bytes are judged together.
+const SHORTER: usize = 15;
 
 // How a short text compares with itself. It is accepted, so none of its code points is looked up. There is no result
 // for two other texts, for a long one, and for bytes that are no UTF-8.
@@ -71,7 +74,8 @@ pub(crate) fn compare_bytes(
     Ok(pair)
 }
 
-/// The order of two texts of at most 32 bytes by the first bytes that differ, where these tell it.
+/// The order of two texts of at most 32 bytes by the first bytes that differ, where these tell it. At most eight bytes may come
+/// before them, and no code point may have three.
 #[inline(always)]
 pub(crate) fn order_at_once(
     comparison: &TextComparison,
@@ -83,7 +87,7 @@ pub(crate) fn order_at_once(
         let answer = bytes_compared (keying_by c settings) left.now right.now in (order ≡ answer.order) × (1 ≡ answer.level)) }
     ensures accepted { (k : Keying) → IfSome result (λ _. IsAcceptedBy k left.now × IsAcceptedBy k right.now) }
 {
-    let (left_text, right_text, shared) = read_at_once(left, right)?;
+    let (left_text, right_text, shared) = read_narrow(left, right)?;
     let order = comparison.order_at_once(settings, left_text, right_text, shared)?;
     Some(order)
 }

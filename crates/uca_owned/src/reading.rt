@@ -9,9 +9,6 @@ use uca_lanes::{is_utf8, shared_of_longer, shared_of_narrow, shared_of_short};
 // So many bytes are judged as fast as any part of them.
 const AT_ONCE: usize = 32;
 
-/// Two texts of at most so many bytes are judged together.
-pub(crate) const SHORTER: usize = 15;
-
 /// The text of these bytes, if they are UTF-8.
 #[inline(always)]
 pub(crate) fn read_text(bytes: &[u8]) -> Option<&str>
@@ -77,9 +74,9 @@ pub(crate) fn read_longer<'l, 'r>(
     Some((left, right, shared))
 }
 
-/// What [`read_longer`] returns. But of two texts of at most fifteen bytes both are of code points of one byte or two.
+/// What [`read_longer`] returns, if each code point has one byte or two.
 #[inline(always)]
-pub(crate) fn read_at_once<'l, 'r>(
+pub(crate) fn read_narrow<'l, 'r>(
     left: &'l [u8],
     right: &'r [u8],
 ) -> Option<(&'l str, &'r str, usize)>
@@ -88,9 +85,6 @@ pub(crate) fn read_at_once<'l, 'r>(
     ensures utf8 { IfSome result (λ _. IsUtf8 left.now × IsUtf8 right.now) }
     ensures shared { IfSome result (λ read. take read.2 left.now ≡ take read.2 right.now) }
 {
-    if left.len() > SHORTER || right.len() > SHORTER {
-        return read_longer(left, right);
-    }
     let shared = shared_of_narrow(left, right)?;
     let left = unsafe { str::from_utf8_unchecked(left) };
     let right = unsafe { str::from_utf8_unchecked(right) };

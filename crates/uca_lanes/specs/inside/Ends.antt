@@ -8,6 +8,11 @@ pub record AreEnds (bytes ends : List ℕ) : Type 0 where
   pub few : length bytes < 8 → ends ≡ bytes ++ replicate (16 - length bytes) 0
   pub many : 8 ≤ length bytes → ends ≡ take 8 bytes ++ drop (length bytes - 8) bytes
 
+-- the first sixteen bytes, or the ends of at most fifteen
+pub record IsFront (bytes front : List ℕ) : Type 0 where
+  pub few : length bytes ≤ 15 → AreEnds bytes front
+  pub many : 15 < length bytes → front ≡ take 16 bytes
+
 -- a bit for each byte from C2 to DF
 abbrev pub marks_of_leads : List ℕ → ℕ
 marks_of_leads bytes = mask_l (map (λ b. nat_le 0xc2 b && nat_lt b 0xe0) bytes)
@@ -16,8 +21,8 @@ marks_of_leads bytes = mask_l (map (λ b. nat_le 0xc2 b && nat_lt b 0xe0) bytes)
 abbrev pub marks_of_others : List ℕ → ℕ
 marks_of_others bytes = marks_from 0x80 bytes - marks_from 0xc0 bytes
 
--- No byte is C0, C1 or E0 or more. After each other byte from C2 on comes one of 80 to BF, and no such byte comes after others.
--- The byte before the ninth is not the eighth, so these two are not asked about each other.
+-- No byte is C0, C1, or E0 or more. After each byte from C2 to DF comes one of 80 to BF, and that stands nowhere else. In the
+-- text the eighth of these bytes does not come right before the ninth, so nothing is said of these two.
 pub record EndsAgree (ends : List ℕ) : Type 0 where
   pub narrow : marks_from 0xe0 ends ≡ 0
   pub none : marks_from 0xc0 ends ≡ marks_from 0xc2 ends

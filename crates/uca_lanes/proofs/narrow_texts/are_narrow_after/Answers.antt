@@ -1,0 +1,12 @@
+use Rattle.uca_lanes.proofs.Ends.{ends_judged}
+use Rattle.uca_lanes.proofs.narrow_texts.are_narrow_after.Goals as goal
+
+pub returns-then-right-le-SHORT : goal.returns-then-right-le-SHORT
+returns-then-right-le-SHORT c =
+    let few = c.if-left-le-SHORT.true in
+    let few_too = c.if-right-le-SHORT.true in
+    let left = ends_judged c.args.left.now c.args.one few (c.requires.front.few few) in
+    let right = ends_judged c.args.right.now c.args.other few_too (c.requires.front_too.few few_too) in (
+      λ yes. (let h = c.are_narrow.ensures.0 yes in (left.0 h.0, right.0 h.1)),
+      λ both. c.are_narrow.ensures.1 (left.1 both.0, right.1 both.1),
+    )
