@@ -36,10 +36,10 @@ known_two x y small small_too =
     ∙ omega (arith, known_one x small, known_one y small_too)
 
 -- numbers that differ in no bit are the same
-no_bits : (a b : ℕ) → bit_xor a b ≡ 0 → a ≡ b
+pub no_bits : (a b : ℕ) → bit_xor a b ≡ 0 → a ≡ b
 no_bits a b none = omega (arith, xor_add_and a b, and_le_l a b, and_le_r a b, none)
 
-same_bits : (a b : ℕ) → a ≡ b → bit_xor a b ≡ 0
+pub same_bits : (a b : ℕ) → a ≡ b → bit_xor a b ≡ 0
 same_bits a b same = ap (bit_xor a) (sym same) ∙ xor_self a
 
 -- two numbers are the same before the ninth bit and after it

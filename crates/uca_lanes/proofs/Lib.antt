@@ -5,4 +5,5 @@ mod MaskSteps
 mod Narrow
 mod Whole
 mod PairSteps
+mod SameBytes
 mod ShortTexts

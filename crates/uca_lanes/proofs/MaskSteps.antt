@@ -137,7 +137,7 @@ none_joined least front back both long none none_too =
 abbrev pub AreBytes : List ℕ → Type 0
 AreBytes xs = (k : ℕ) → Fits w8 (get_or xs k 0)
 
-tail_are : (x : ℕ) (xs : List ℕ) → AreBytes (x ∷ xs) → AreBytes xs
+pub tail_are : (x : ℕ) (xs : List ℕ) → AreBytes (x ∷ xs) → AreBytes xs
 tail_are x xs are k = are (suc k)
 
 -- the rest of a number's bytes
@@ -160,6 +160,15 @@ number-append (x ∷ xs) ys =
     let more : n * 256 ^ suc k ≡ n * 256 ^ k * 256 = ap (λ m. n * m) (pow-suc 256 k) ∙ sym (mul_assoc n (256 ^ k) 256) in
     omega (arith, more, number-append xs ys)
 
+number_of_zeros : (n : ℕ) → number_l 256 (replicate n 0) ≡ 0
+number_of_zeros zero = refl
+number_of_zeros (suc n) = omega (arith, number_of_zeros n)
+
+-- zeros after bytes change nothing
+pub number_with_zeros : (xs : List ℕ) (n : ℕ) → number_l 256 (xs ++ replicate n 0) ≡ number_l 256 xs
+number_with_zeros xs n =
+    number-append xs (replicate n 0) ∙ ap (λ m. number_l 256 xs + m * 256 ^ length xs) (number_of_zeros n) ∙ omega arith
+
 number-lt : (xs : List ℕ) → AreBytes xs → number_l 256 xs < 256 ^ length xs
 number-lt [] are = omega arith
 number-lt (x ∷ xs) are = omega (arith, pow-suc 256 (length xs), (are 0).fits, number-lt xs (tail_are x xs are))
@@ -167,7 +176,7 @@ number-lt (x ∷ xs) are = omega (arith, pow-suc 256 (length xs), (are 0).fits, 
 drop_are : (k : ℕ) (xs : List ℕ) → AreBytes xs → AreBytes (drop k xs)
 drop_are k xs are i = subst (Fits w8) (sym (get_or-drop k xs i 0)) (are (k + i))
 
-take_are : (n : ℕ) (xs : List ℕ) → AreBytes xs → AreBytes (take n xs)
+pub take_are : (n : ℕ) (xs : List ℕ) → AreBytes xs → AreBytes (take n xs)
 take_are zero xs are k = record { fits = omega arith }
 take_are (suc n) [] are k = record { fits = omega arith }
 take_are (suc n) (x ∷ xs) are zero = are 0

@@ -7,8 +7,8 @@ use Rattle.std.proofs.lemmas.List.{get_or-take, get_or_append_left, get_or_at, t
 use Rattle.std.proofs.lemmas.Simd.{length-chunk}
 use Rattle.std.proofs.lemmas.Str.{IsUtf8-append, IsUtf8-take, IsUtf8-drop, IsCharBoundary-before_ascii}
 use Rattle.simdutf8.proofs.StepsLemmas.{IsUtf8-append_ascii, IsUtf8-after_ascii, IsAscii-replicate}
-use Rattle.uca_lanes.specs.Shared.{IsSharedLen}
-use Rattle.uca_lanes.specs.inside.Ends.{AreEnds, IsFront}
+use Rattle.uca_lanes.specs.Shared.{IsEarly, IsSharedLen}
+use Rattle.uca_lanes.specs.inside.Ends.{first_eight}
 use Rattle.uca_lanes.specs.inside.Lanes.{IsSameRun}
 use Rattle.uca_lanes.specs.inside.Marks.{joined}
 use Rattle.uca_lanes.proofs.LaneSteps.{same_front}
@@ -139,36 +139,37 @@ shared_of_fronts left right one other same shared is is_too run least =
     pad : (bytes : List ℕ) → take 16 bytes ++ zeros (16 - length bytes) ≡ padded (take 16 bytes)
     pad bytes = ap (λ n. take 16 bytes ++ zeros n) (omega (arith, length-take 16 bytes))
 
--- and of the first eight, by the ends of both
-in_ends : (bytes ends : List ℕ) (i : ℕ) → AreEnds bytes ends → i < length (take 8 bytes) → get_or ends i 0 ≡ get_or (take 8 bytes) i 0
-in_ends bytes ends i are within = elim (cases_lt (length bytes) 8) [
-  | inl less ↦ (let all = take_all 8 bytes (omega (arith, less)) in
-      ap (λ l. get_or l i 0) (are.few less)
-      ∙ get_or_append_left bytes (zeros (16 - length bytes)) 0 i (omega (arith, within, length-take 8 bytes))
-      ∙ ap (λ l. get_or l i 0) (sym all))
-  | inr more ↦ ap (λ l. get_or l i 0) (are.many more) ∙ get_or_append_left (take 8 bytes) (drop (length bytes - 8) bytes) 0 i within
-]
+-- and of the first eight
+in_first : (bytes : List ℕ) (i : ℕ) → i < length (take 8 bytes) → get_or (first_eight bytes) i 0 ≡ get_or (take 8 bytes) i 0
+in_first bytes i within = get_or_append_left (take 8 bytes) (zeros (8 - length bytes)) 0 i within
 
--- so they are in what is loaded of a text
-in_front : (bytes front : List ℕ) (i : ℕ) → IsFront bytes front → i < length (take 8 bytes) → get_or front i 0 ≡ get_or (take 8 bytes) i 0
-in_front bytes front i is within = elim (cases_lt 15 (length bytes)) [
-  | inl many ↦ ap (λ l. get_or l i 0) (is.many many) ∙ get_or-take 16 bytes i 0 (omega (arith, within, length-take 8 bytes))
-      ∙ sym (get_or-take 8 bytes i 0 (omega (arith, within, length-take 8 bytes)))
-  | inr few ↦ in_ends bytes front i (is.few few) within
-]
-
-pub shared_of_narrow_fronts : (left right one other : List ℕ) (same shared : ℕ) → IsFront left one → IsFront right other → IsSameRun one other 0 0 16 same
-    → shared ≡ min (min same 8) (min (length left) (length right)) → IsSharedLen (take 8 left) (take 8 right) shared
-shared_of_narrow_fronts left right one other same shared is is_too run least = record {
-  in_left = omega (arith, least, length-take 8 left);
-  in_right = omega (arith, least, length-take 8 right);
-  same = same_front shared (take 8 left) (take 8 right) (omega (arith, least, length-take 8 left)) (omega (arith, least, length-take 8 right))
-      (λ i below. sym (in_front left one i is (omega (arith, least, below, length-take 8 left)))
-      ∙ subst (λ n. get_or one n 0 ≡ get_or other n 0) (zeroth i) (run.are i (omega (arith, least, below)))
-      ∙ in_front right other i is_too (omega (arith, least, below, length-take 8 right)));
+pub shared_of_first : (left right : List ℕ) (same shared : ℕ) → IsSameRun (first_eight left) (first_eight right) 0 0 8 same
+    → shared ≡ min same (min (length left) (length right)) → IsSharedLen (take 8 left) (take 8 right) shared
+shared_of_first left right same shared run least = record {
+  in_left = omega (arith, least, run.within, length-take 8 left);
+  in_right = omega (arith, least, run.within, length-take 8 right);
+  same = same_front shared (take 8 left) (take 8 right) (omega (arith, least, run.within, length-take 8 left)) (omega (arith, least, run.within, length-take 8 right))
+      (λ i below. sym (in_first left i (omega (arith, least, run.within, below, length-take 8 left)))
+      ∙ subst (λ n. get_or (first_eight left) n 0 ≡ get_or (first_eight right) n 0) (zeroth i) (run.are i (omega (arith, least, below)))
+      ∙ in_first right i (omega (arith, least, run.within, below, length-take 8 right)));
   apart = λ more more_too.
       let all : shared ≡ same = omega (arith, least, more, more_too, length-take 8 left, length-take 8 right) in
       λ equal. run.apart (omega (arith, all, more, length-take 8 left))
-      (subst (λ n. get_or one n 0 ≡ get_or other n 0) (all ∙ sym (zeroth same))
-      (in_front left one shared is more ∙ equal ∙ sym (in_front right other shared is_too more_too)));
+      (subst (λ n. get_or (first_eight left) n 0 ≡ get_or (first_eight right) n 0) (all ∙ sym (zeroth same))
+      (in_first left shared more ∙ equal ∙ sym (in_first right shared more_too)));
 }
+
+-- where one of them has no more bytes, no number is as `IsEarly` says
+pub none_early : (left right : List ℕ) (same : ℕ) → IsSameRun (first_eight left) (first_eight right) 0 0 8 same
+    → min (length left) (length right) ≤ same → (k : ℕ) → IsEarly left right k → ⊥
+none_early left right same run ended k early = elim (cases_lt k shared) [
+  | inl less ↦ early.shared.apart (omega (arith, less, known.in_left)) (omega (arith, less, known.in_right))
+      (sym (get_or-take shared (take 8 left) k 0 less) ∙ ap (λ l. get_or l k 0) known.same ∙ get_or-take shared (take 8 right) k 0 less)
+  | inr more ↦ omega (arith, ended, more, early.more.0, early.more.1)
+]
+  where
+    shared : ℕ
+    shared = min same (min (length left) (length right))
+
+    known : IsSharedLen (take 8 left) (take 8 right) shared
+    known = shared_of_first left right same shared run refl

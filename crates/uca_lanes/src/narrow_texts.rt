@@ -3,16 +3,20 @@
 //! Of a text of at most fifteen bytes the first eight and the last eight are judged at once. Some bytes may be in both. So of
 //! eight bytes or more none is shifted to its place.
 
-ghost use Rattle.std.specs.Prelude.{◌≡◌, ◌↔◌, ◌+◌, ◌*◌, ◌<◌, ◌≤◌, ◌^◌, length, take, IsTrue, MatchOption};
+ghost use Rattle.std.specs.Prelude.{◌≡◌, ◌↔◌, ◌+◌, ◌*◌, ◌<◌, ◌≤◌, ◌^◌, ℕ, length, IsTrue, MatchOption};
 ghost use Rattle.std.specs.Bool.{MatchBool};
 ghost use Rattle.std.specs.Str.{IsUtf8};
 ghost use Rattle.uca_lanes.specs.Narrow.{AreNarrow};
-ghost use Rattle.uca_lanes.specs.Shared.{IsSharedLen};
-ghost use Rattle.uca_lanes.specs.inside.Ends.{AreEnds, EndsAgree, IsFront, marks_of_leads};
+ghost use Rattle.std.specs.Simd.Lanes.{number_l};
+ghost use Rattle.uca_lanes.specs.Shared.{IsEarly};
+ghost use Rattle.uca_lanes.specs.inside.Lanes.{IsSameRun};
+ghost use Rattle.uca_lanes.specs.inside.Ends.{AreEnds, EndsAgree, first_eight, marks_of_leads};
 ghost use Rattle.uca_lanes.specs.inside.Marks.{marks_from};
 
-use crate::short::{are_same_few, same_of_sixteen};
-use crate::utf8::{are_utf8_if_narrow, has_from, mask_from, number_of_eight, with_zeros};
+use crate::short::are_same_few;
+use crate::utf8::{
+    are_utf8_if_narrow, has_from, mask_from, number_of_eight, number_of_few, with_zeros,
+};
 use std::simd::prelude::*;
 
 // Texts of at most so many bytes are judged together.
@@ -20,9 +24,6 @@ const SHORT: usize = 15;
 
 // So many bytes are two times sixteen. Some may be in both.
 const AT_ONCE: usize = 32;
-
-// At most so many bytes are counted that both have in common.
-const COUNTED: usize = 8;
 
 // All bits but that of the ninth byte of each vector: in the text, the byte before it is not the eighth.
 const ALL_BUT_NINTH: u64 = 0xFFFF_FEFF_FFFF_FEFF;
@@ -79,28 +80,17 @@ fn is_narrow(ends: u8x16) -> bool
     are_narrow(ends, u8x16::splat(0))
 }
 
-// The first sixteen bytes of a text, or the ends of one of at most fifteen.
+// Whether a text of at most 32 bytes is UTF-8 of code points of one byte or two.
 #[inline(always)]
-fn front_of_narrow(bytes: &[u8]) -> u8x16
-    ensures { IsFront bytes.now result }
-{
-    if bytes.len() <= SHORT {
-        return ends_of(bytes);
-    }
-    u8x16::from_slice(bytes)
-}
-
-// Whether a text of at most 32 bytes is UTF-8 of code points of one byte or two. This is its front.
-#[inline(always)]
-fn is_narrow_after(front: u8x16, bytes: &[u8]) -> bool
-    requires few { length bytes.now ≤ 32 }
-    requires front { IsFront bytes.now front }
+fn is_narrow_text(bytes: &[u8]) -> bool
+    requires { length bytes.now ≤ 32 }
     ensures { IsTrue result ↔ (IsUtf8 bytes.now × AreNarrow bytes.now) }
 {
     let len = bytes.len();
     if len <= SHORT {
-        return is_narrow(front);
+        return is_narrow(ends_of(bytes));
     }
+    let front = u8x16::from_slice(bytes);
     let back = u8x16::from_slice(&bytes[len - 16..]);
     if has_from(front, back, 0xE0) {
         return false;
@@ -108,46 +98,61 @@ fn is_narrow_after(front: u8x16, bytes: &[u8]) -> bool
     are_utf8_if_narrow(front, back, 32 - len as u64)
 }
 
-// Whether two texts of at most 32 bytes are UTF-8 of code points of one byte or two. These are their fronts.
+// Whether two texts of at most 32 bytes are UTF-8 of code points of one byte or two.
 #[inline(always)]
-fn are_narrow_after(one: u8x16, left: &[u8], other: u8x16, right: &[u8]) -> bool
+fn are_narrow_texts(left: &[u8], right: &[u8]) -> bool
     requires few { length left.now ≤ 32 }
     requires few_too { length right.now ≤ 32 }
-    requires front { IsFront left.now one }
-    requires front_too { IsFront right.now other }
     ensures { IsTrue result ↔ ((IsUtf8 left.now × AreNarrow left.now) × (IsUtf8 right.now × AreNarrow right.now)) }
 {
     if left.len() <= SHORT && right.len() <= SHORT {
-        return are_narrow(one, other);
+        return are_narrow(ends_of(left), ends_of(right));
     }
-    is_narrow_after(one, left) && is_narrow_after(other, right)
+    is_narrow_text(left) && is_narrow_text(right)
 }
 
-/// How many of the first eight bytes two texts have in common at their beginning, if both have at most 32 bytes. For
-/// example, `cart` and `cast` have two. There is no result if a text has more bytes, is not UTF-8 (the Unicode Standard,
-/// section 3.9, table 3-7), or has a code point of three bytes or more.
+// The number that the first eight bytes spell, or all of fewer.
+#[inline(always)]
+fn number_of_first(bytes: &[u8]) -> u64
+    ensures { result ≡ number_l 256 (first_eight bytes.now) }
+{
+    if bytes.len() < 8 {
+        return number_of_few(bytes);
+    }
+    number_of_eight(bytes, 0)
+}
+
+// How many of the first eight bytes are the same in both, before the first that is not. Zeros stand after fewer bytes.
+#[inline(always)]
+fn same_of_first(left: &[u8], right: &[u8]) -> usize
+    ensures { IsSameRun (first_eight left.now) (first_eight right.now) 0 0 8 result }
+{
+    let others = number_of_first(left) ^ number_of_first(right);
+    others.trailing_zeros() as usize / 8
+}
+
+/// How many of the first eight bytes two texts have in common at their beginning, if both have more bytes than these and at most
+/// 32. For example, `cart` and `cast` have two. There is no result if a text is not UTF-8 (the Unicode Standard, section 3.9,
+/// table 3-7) or has a code point of three bytes or more.
 ///
 /// It rejects code points of three bytes or more, and asks nothing about them before. So it takes fewer instructions than
 /// [`shared_of_short`](crate::shared_of_short) and [`shared_of_longer`](crate::shared_of_longer). Two texts of at most fifteen
 /// bytes are judged together.
 #[inline(always)]
 pub fn shared_of_narrow(left: &[u8], right: &[u8]) -> Option<usize>
-    ensures { MatchOption result
-        (length left.now ≤ 32 → length right.now ≤ 32 → ¬ ((IsUtf8 left.now × AreNarrow left.now) × (IsUtf8 right.now × AreNarrow right.now)))
-        (λ shared. (length left.now ≤ 32) × (length right.now ≤ 32) × (IsUtf8 left.now × AreNarrow left.now) × (IsUtf8 right.now × AreNarrow right.now)
-        × IsSharedLen (take 8 left.now) (take 8 right.now) shared) }
+    ensures { MatchOption result ((at : ℕ) → ¬ (IsEarly left.now right.now at)) (λ at. IsEarly left.now right.now at) }
 {
     if left.len() > AT_ONCE || right.len() > AT_ONCE {
         return None;
     }
-    let one = front_of_narrow(left);
-    let other = front_of_narrow(right);
-    if !are_narrow_after(one, left, other, right) {
+    if !are_narrow_texts(left, right) {
         return None;
     }
-    let same = same_of_sixteen(one, other).min(COUNTED);
-    let shorter = left.len().min(right.len());
-    Some(same.min(shorter))
+    let at = same_of_first(left, right);
+    if at >= left.len().min(right.len()) {
+        return None;
+    }
+    Some(at)
 }
 
 /// Whether two texts of at most fifteen bytes are the same, and UTF-8 (the Unicode Standard, section 3.9, table 3-7) of code

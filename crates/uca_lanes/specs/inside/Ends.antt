@@ -8,10 +8,9 @@ pub record AreEnds (bytes ends : List ℕ) : Type 0 where
   pub few : length bytes < 8 → ends ≡ bytes ++ replicate (16 - length bytes) 0
   pub many : 8 ≤ length bytes → ends ≡ take 8 bytes ++ drop (length bytes - 8) bytes
 
--- the first sixteen bytes, or the ends of at most fifteen
-pub record IsFront (bytes front : List ℕ) : Type 0 where
-  pub few : length bytes ≤ 15 → AreEnds bytes front
-  pub many : 15 < length bytes → front ≡ take 16 bytes
+-- the first eight bytes, and zeros after fewer
+abbrev pub first_eight : List ℕ → List ℕ
+first_eight bytes = take 8 bytes ++ replicate (8 - length bytes) 0
 
 -- a bit for each byte from C2 to DF
 abbrev pub marks_of_leads : List ℕ → ℕ
