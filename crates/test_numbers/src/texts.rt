@@ -20,8 +20,8 @@ use uca_weights::{Depth, Numbers, Settings, Source, Weighting};
 /// A text, the weights of its key, and its code points in Normalization Form D.
 type Case = (&'static str, &'static [u16], &'static str);
 
-/// `a7` is written `a17`, and so is `a007`; `a10` is written `a210`. An accent comes after the letter or the number that it
-/// follows.
+/// `a7` is written `a17`, and so is `a007`; `a10` is written `a210`. An accent comes after the letter or the number
+/// that it follows.
 const KEYS: [Case; 7] = [
     ("ab", &[0x1C47, 0x1C60, 0, 0x20, 0x20, 0, 2, 2], "ab"),
     (
@@ -146,12 +146,23 @@ fn check_key<L: Lookup>(
 }
 
 /// The keys of all cases, each over the one before.
-fn check_keys<L: Lookup>(alloc: Global, collator: &Collator<L>, depth: Depth) -> Result<(), Fail> {
-    let mut keys = KeyMemory::new(alloc, alloc, settings_at(depth));
+fn check_each_key<L: Lookup>(
+    alloc: Global,
+    keys: &mut KeyMemory,
+    collator: &Collator<L>,
+    depth: Depth,
+) -> Result<(), Fail>
+    requires { AreTrueEntries (collation_of L.content collator.now) keys.old.points.entries.items }
+{
     for case in KEYS {
-        check_key(alloc, &mut keys, collator, depth, case)?;
+        check_key(alloc, keys, collator, depth, case)?;
     }
     Ok(())
+}
+
+fn check_keys<L: Lookup>(alloc: Global, collator: &Collator<L>, depth: Depth) -> Result<(), Fail> {
+    let mut keys = KeyMemory::new(alloc, alloc, settings_at(depth));
+    check_each_key(alloc, &mut keys, collator, depth)
 }
 
 fn check_pair<L: Lookup>(
@@ -169,26 +180,34 @@ fn check_pair<L: Lookup>(
     holds((found.order, found.level) == identical, left)
 }
 
-fn check_pairs<L: Lookup>(alloc: Global, collator: &Collator<L>) -> Result<(), Fail> {
-    let mut comparison = TextComparison::new(alloc, alloc);
+fn check_pairs<L: Lookup>(
+    comparison: &mut TextComparison,
+    collator: &Collator<L>,
+) -> Result<(), Fail>
+    requires { AreTrueEntries (collation_of L.content collator.now) comparison.old.plain.points.entries.items }
+{
     for pair in PAIRS {
-        check_pair(&mut comparison, collator, pair)?;
+        check_pair(comparison, collator, pair)?;
     }
     Ok(())
 }
 
 /// In `1` and 65 accents a run is too long. By value the text begins with `11`, so the run begins at 2.
+fn check_run<L: Lookup>(keys: &mut KeyMemory, collator: &Collator<L>, run: &str) -> Result<(), Fail>
+    requires { AreTrueEntries (collation_of L.content collator.now) keys.old.points.entries.items }
+{
+    let found = keys.write(collator, run);
+    holds(found == Err(TextFault::LongRun(2)), "a run of 65 accents")?;
+    let found = keys.write_beginning(collator, run);
+    let wanted = Err(TextFault::LongRun(2));
+    holds(found == wanted, "a run of 65 accents, judged")
+}
+
 fn check_long_run<L: Lookup>(alloc: Global, collator: &Collator<L>) -> Result<(), Fail> {
     let marks = repeated(alloc, "\u{301}", 65)?;
     let run = format!(in alloc; "1{marks}")?;
     let mut keys = KeyMemory::new(alloc, alloc, settings_at(Weights));
-    let found = keys.write(collator, &run);
-    holds(found == Err(TextFault::LongRun(2)), "a run of 65 accents")?;
-    let found = keys.write_beginning(collator, &run);
-    holds(
-        found == Err(TextFault::LongRun(2)),
-        "a run of 65 accents, judged",
-    )
+    check_run(&mut keys, collator, &run)
 }
 
 fn check_right_text<L: Lookup>(alloc: Global, collator: &Collator<L>) -> Result<(), Fail> {
@@ -209,7 +228,7 @@ fn check_zeros<L: Lookup>(alloc: Global, collator: &Collator<L>) -> Result<(), F
 fn check_all<L: Lookup>(alloc: Global, collator: &Collator<L>) -> Result<(), Fail> {
     check_keys(alloc, collator, Weights)?;
     check_keys(alloc, collator, Identical)?;
-    check_pairs(alloc, collator)?;
+    check_pairs(&mut TextComparison::new(alloc, alloc), collator)?;
     check_long_run(alloc, collator)?;
     check_right_text(alloc, collator)?;
     check_zeros(alloc, collator)

@@ -1,11 +1,11 @@
-//! Keys of texts of many lengths and of many code points, and collators that share a table. A body that says that memory
-//! ran out, where none did, meets its contract. So lengths around powers of two and of ten are here, and random ones.
-//! Orders that are told at once are here too: no clause says when there is one.
+//! Keys of texts of many lengths and of many code points, and collators that share a table. A body that says that
+//! memory ran out, where none did, meets its contract. So lengths around powers of two and of ten are here, and
+//! random ones. Orders that are told at once are here too: no clause says when there is one.
 
 use std::alloc::Global;
 use std::cmp::Ordering;
 use std::test::Fail;
-use test_kit::{holds, repeated, same_bytes};
+use test_kit::{bytes_of, holds, repeated, same_bytes, thirds};
 use uca_owned::{KeyFault, OwnedCollator};
 use uca_weights::{Asked, Depth, Weighting};
 
@@ -137,66 +137,58 @@ fn collators_that_share_a_table(rt: HostRuntime) -> Result<(), Fail> {
     check_other(&mut opened(rt.alloc())?, rt.alloc())
 }
 
-/// Texts of few bytes. Nothing is told of a text and itself or its beginning, and of bytes that are not UTF-8.
-fn check_few(collator: &OwnedCollator, less: Option<Ordering>) -> Result<(), Fail> {
-    let greater = less.map(|order| order.reverse());
-    let order = |left: &[u8], right: &[u8]| collator.order_at_once(left, right);
-    holds(order(b"a", b"b") == less, "two letters")?;
-    holds(order(b"ba", b"ab") == greater, "the first letters")?;
-    holds(order(b"ab", b"aa") == greater, "the second letters")?;
-    holds(order(b"a", b"a").is_none(), "a text and itself")?;
-    holds(order(b"a", b"ab").is_none(), "a beginning")?;
-    holds(order(b"", b"a").is_none(), "an empty text")?;
-    holds(order(b"a\xFF", b"b").is_none(), "no UTF-8 at the left")?;
-    holds(order(b"a", b"b\xFF").is_none(), "no UTF-8 at the right")?;
-    holds(order(b"ab\xE6\x97\xA5", b"b").is_none(), "three bytes")
-}
+/// Two texts, and the order that the first bytes that differ tell. They tell nothing (`-`) where a text is not UTF-8,
+/// begins with the other, has more than 32 bytes or a code point of three. At most eight bytes may come before them.
+const AT_ONCE: &str = r"a | b | <
+ba | ab | >
+ab | aa | >
+a | a | -
+a | ab | -
+ | a | -
+a\xFF | b | -
+a | b\xFF | -
+ab\xE6\x97\xA5 | b | -
+aaaaaaaaa | aaaaaaaab | <
+aaaaaaaaaa | aaaaaaaaab | -
+aaaaaaaaaaaaaaa | b | <
+b | aaaaaaaaaaaaaaa | >
+aaaaaaaaaaaaaaaa | b | <
+b | aaaaaaaaaaaaaaaa | >
+aaaaaaaaaaaaaaaaaaaaaaaaaaaaaaaa | b | <
+b | aaaaaaaaaaaaaaaaaaaaaaaaaaaaaaaa | >
+aaaaaaaaaaaaaaaaaaaaaaaaaaaaaaaaa | b | -
+b | aaaaaaaaaaaaaaaaaaaaaaaaaaaaaaaaa | -";
 
-/// At most eight bytes may come before those that differ.
-fn check_later(collator: &OwnedCollator, less: Option<Ordering>) -> Result<(), Fail> {
-    let found = collator.order_at_once(b"aaaaaaaaa", b"aaaaaaaab");
-    holds(found == less, "after eight bytes")?;
-    let found = collator.order_at_once(b"aaaaaaaaaa", b"aaaaaaaaab");
-    holds(found.is_none(), "after nine bytes")
-}
-
-/// Texts of up to 32 bytes, and one of 33: of this one nothing is told.
-fn check_more(collator: &OwnedCollator, letters: &str, less: Option<Ordering>) -> Result<(), Fail> {
-    let greater = less.map(|order| order.reverse());
-    for count in [15, 16, 32] {
-        let text = letters_of(letters, count)?;
-        let found = collator.order_at_once(text, b"b");
-        holds(found == less, "the left text")?;
-        let found = collator.order_at_once(b"b", text);
-        holds(found == greater, "the right text")?;
+/// The order that a sign stands for. Before a collator knows the weights there is none.
+fn order_of(sign: &str, is_known: bool) -> Option<Ordering> {
+    match sign {
+        "<" if is_known => Some(Ordering::Less),
+        ">" if is_known => Some(Ordering::Greater),
+        _ => None,
     }
-    let text = letters_of(letters, 33)?;
-    holds(collator.order_at_once(text, b"b").is_none(), "33 bytes")?;
-    holds(collator.order_at_once(b"b", text).is_none(), "33 bytes")
 }
 
-fn check_at_once(
-    collator: &OwnedCollator,
-    letters: &str,
-    less: Option<Ordering>,
-) -> Result<(), Fail> {
-    check_few(collator, less)?;
-    check_later(collator, less)?;
-    check_more(collator, letters, less)
+fn check_at_once(alloc: Global, collator: &OwnedCollator, is_known: bool) -> Result<(), Fail> {
+    for case in AT_ONCE.lines() {
+        let (left, right, sign) = thirds(case)?;
+        let (left, right) = (bytes_of(alloc, left)?, bytes_of(alloc, right)?);
+        let found = collator.order_at_once(&left, &right);
+        holds(found == order_of(sign, is_known), case)?;
+    }
+    Ok(())
 }
 
 /// Before two texts were compared by their weights, nothing is told.
-fn check_before_and_after(collator: &mut OwnedCollator, letters: &str) -> Result<(), Fail> {
-    check_at_once(collator, letters, None)?;
+fn check_before_and_after(alloc: Global, collator: &mut OwnedCollator) -> Result<(), Fail> {
+    check_at_once(alloc, collator, false)?;
     let found = collator.compare(b"a", b"b")?;
     holds(found == (Ordering::Less, 1), "a comparison")?;
-    check_at_once(collator, letters, Some(Ordering::Less))
+    check_at_once(alloc, collator, true)
 }
 
 #[test]
 fn orders_that_are_told_at_once(rt: HostRuntime) -> Result<(), Fail> {
-    let letters = repeated(rt.alloc(), "a", 33)?;
-    check_before_and_after(&mut opened(rt.alloc())?, &letters)
+    check_before_and_after(rt.alloc(), &mut opened(rt.alloc())?)
 }
 
 /// The levels of the key of `ba`, one letter after the other.

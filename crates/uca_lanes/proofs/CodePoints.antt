@@ -12,13 +12,13 @@ use Rattle.uca_lanes.specs.inside.Marks.{marks_from, marks_of, CountsAgree, Seco
 -- ---- one byte
 
 -- 1 for true
-abbrev bit : Bool → ℕ
+abbrev pub bit : Bool → ℕ
 bit t = cond t 1 0
 
 abbrev pub from : ℕ → ℕ → ℕ
 from least b = bit (leb least b)
 
-bit_most : (t : Bool) → bit t ≤ 1
+pub bit_most : (t : Bool) → bit t ≤ 1
 bit_most true = omega arith
 bit_most false = omega arith
 

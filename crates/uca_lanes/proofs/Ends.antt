@@ -12,7 +12,7 @@ use lib.Lanes.{sel_l, zip2, top}
 use Rattle.uca_lanes.specs.Narrow.{AreNarrow}
 use Rattle.uca_lanes.specs.inside.Ends.{AreEnds, EndsAgree, marks_of_leads, marks_of_others}
 use Rattle.uca_lanes.specs.inside.Marks.{marks_from}
-use Rattle.uca_lanes.proofs.CodePoints.{falls_all, few-IsUtf8, from}
+use Rattle.uca_lanes.proofs.CodePoints.{bit, bit_most, falls_all, few-IsUtf8, from}
 use Rattle.uca_lanes.proofs.MaskSteps.{from_bound, mask-append, mask-drop, mask_bound}
 use Rattle.uca_lanes.proofs.Narrow.{narrow_marks}
 
@@ -73,10 +73,6 @@ same_known x y v w hx hy hv hw = (
 
 -- ---- the bytes from C2 to DF
 
--- 1 for true
-abbrev bit : Bool → ℕ
-bit t = cond t 1 0
-
 abbrev is_lead : ℕ → Bool
 is_lead b = leb 0xc2 b && ltb b 0xe0
 
@@ -103,10 +99,6 @@ lead_or_not b = elim (cases_lt b 0xe0) [ inl below ↦ there below | inr above �
         let long : from 0xe0 b ≡ bit true = ap bit (le-leb 0xe0 b above) in
         let none : bit (is_lead b) ≡ bit false = ap (λ (t : Bool). bit (leb 0xc2 b && t)) (le-ltb b 0xe0 above) ∙ ap bit (and-false (leb 0xc2 b)) in
         (λ e. absurd (omega (arith, e, one, none)), λ h. absurd (omega (arith, h.0, long)))
-
-bit_most : (t : Bool) → bit t ≤ 1
-bit_most true = omega arith
-bit_most false = omega arith
 
 leads_are : (bytes : List ℕ) → (marks_from 0xc0 bytes ≡ marks_of_leads bytes) ↔ ((marks_from 0xe0 bytes ≡ 0) × (marks_from 0xc0 bytes ≡ marks_from 0xc2 bytes))
 leads_are [] = (λ _. (refl, refl), λ _. refl)

@@ -182,6 +182,11 @@ take_are (suc n) [] are k = record { fits = omega arith }
 take_are (suc n) (x ∷ xs) are zero = are 0
 take_are (suc n) (x ∷ xs) are (suc k) = take_are n xs (tail_are x xs are) k
 
+pub append_are : (xs ys : List ℕ) → AreBytes xs → AreBytes ys → AreBytes (xs ++ ys)
+append_are [] ys are are_too k = are_too k
+append_are (x ∷ xs) ys are are_too zero = are 0
+append_are (x ∷ xs) ys are are_too (suc k) = append_are xs ys (tail_are x xs are) are_too k
+
 pub chunk_are : (at n : ℕ) (xs : List ℕ) → AreBytes xs → AreBytes (chunk at n xs)
 chunk_are at n xs are = take_are n (drop at xs) (drop_are at xs are)
 
@@ -243,11 +248,6 @@ two_eights bytes front back are many is is_too =
     let sixteen : length (first ++ last) ≡ 16 = length-append first last ∙ omega (arith, long, rest) in
     let none : 16 - length (first ++ last) ≡ 0 = omega (arith, sixteen) in
     ap (digits_l 256 16) (whole ∙ joined)
-    ∙ spelled 16 (first ++ last) (both_are first last (take_are 8 bytes are) (drop_are j bytes are)) (omega (arith, sixteen))
+    ∙ spelled 16 (first ++ last) (append_are first last (take_are 8 bytes are) (drop_are j bytes are)) (omega (arith, sixteen))
     ∙ ap (λ n. (first ++ last) ++ replicate n 0) none
     ∙ append-nil (first ++ last)
-  where
-    both_are : (xs ys : List ℕ) → AreBytes xs → AreBytes ys → AreBytes (xs ++ ys)
-    both_are [] ys are are_too k = are_too k
-    both_are (x ∷ xs) ys are are_too zero = are 0
-    both_are (x ∷ xs) ys are are_too (suc k) = both_are xs ys (tail_are x xs are) are_too k

@@ -1,5 +1,5 @@
 -- The first byte that differs, by the lowest bit that is set in one of two numbers alone.
-use Rattle.std.proofs.Common.{◌≡◌, ◌≢◌, ℕ, zero, suc, ◌+◌, ◌-◌, ◌*◌, ◌/◌, ◌%◌, ◌^◌, ◌<◌, ◌≤◌, List, [], ◌∷◌, ◌++◌, length, get_or, take, replicate, bit_xor, refl, sym, ap, ap₂, ◌∙◌, subst, inl, inr, arith, length-append}
+use Rattle.std.proofs.Common.{◌≡◌, ◌≢◌, ℕ, zero, suc, ◌+◌, ◌-◌, ◌*◌, ◌/◌, ◌%◌, ◌^◌, ◌<◌, ◌≤◌, List, [], ◌∷◌, length, get_or, take, replicate, bit_xor, refl, sym, ap, ap₂, ◌∙◌, subst, inl, inr, arith, length-append}
 use Rattle.std.specs.Simd.Lanes.{number_l}
 use Rattle.std.proofs.lemmas.Bool.{cases_eq, cases_lt}
 use Rattle.std.proofs.lemmas.Nat.{xor_block, xor_lt}
@@ -8,7 +8,7 @@ use lib.Count.{count_trailing_zeros, under}
 use Rattle.uca_lanes.specs.inside.Ends.{first_eight}
 use Rattle.uca_lanes.specs.inside.Lanes.{IsSameRun}
 use Rattle.uca_lanes.proofs.Ends.{no_bits, same_bits}
-use Rattle.uca_lanes.proofs.MaskSteps.{AreBytes, tail_are, take_are}
+use Rattle.uca_lanes.proofs.MaskSteps.{AreBytes, append_are, tail_are, take_are}
 
 -- one bit that is 0
 twice : (k m : ℕ) → count_trailing_zeros (suc k) (2 * m) ≡ suc (count_trailing_zeros k m)
@@ -127,15 +127,13 @@ same_by_bits (suc j) (x ∷ xs) (y ∷ ys) are are_too long long_too = elim (cas
 
 -- ---- the first eight bytes of a text
 
-with_zeros_are : (xs : List ℕ) (n : ℕ) → AreBytes xs → AreBytes (xs ++ replicate n 0)
-with_zeros_are [] zero are k = record { fits = omega arith }
-with_zeros_are [] (suc n) are zero = record { fits = omega arith }
-with_zeros_are [] (suc n) are (suc k) = with_zeros_are [] n are k
-with_zeros_are (x ∷ xs) n are zero = are 0
-with_zeros_are (x ∷ xs) n are (suc k) = with_zeros_are xs n (tail_are x xs are) k
+zeros_are : (n : ℕ) → AreBytes (replicate n 0)
+zeros_are zero k = record { fits = omega arith }
+zeros_are (suc n) zero = record { fits = omega arith }
+zeros_are (suc n) (suc k) = zeros_are n k
 
 pub first_are : (bytes : List ℕ) → AreBytes bytes → AreBytes (first_eight bytes)
-first_are bytes are = with_zeros_are (take 8 bytes) (8 - length bytes) (take_are 8 bytes are)
+first_are bytes are = append_are (take 8 bytes) (replicate (8 - length bytes) 0) (take_are 8 bytes are) (zeros_are (8 - length bytes))
 
 pub first_long : (bytes : List ℕ) → length (first_eight bytes) ≡ 8
 first_long bytes =

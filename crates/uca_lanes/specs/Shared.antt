@@ -10,8 +10,8 @@ pub record IsSharedLen (left right : List ℕ) (shared : ℕ) : Type 0 where
   pub same : take shared left ≡ take shared right
   pub apart : shared < length left → shared < length right → get_or left shared 0 ≢ get_or right shared 0
 
--- Two texts of at most 32 bytes, UTF-8 of code points of one byte or two. They have so many of their first eight bytes in common, and
--- both have more bytes.
+-- Two texts of at most 32 bytes, UTF-8 of code points of one byte or two. They have so many of their first eight bytes
+-- in common, and both have more bytes.
 pub record IsEarly (left right : List ℕ) (at : ℕ) : Type 0 where
   pub few : (length left ≤ 32) × (length right ≤ 32)
   pub utf8 : IsUtf8 left × IsUtf8 right

@@ -1,7 +1,7 @@
 //! Two short texts of code points of one byte or two, such as `cart` and `père`.
 //!
-//! Of a text of at most fifteen bytes the first eight and the last eight are judged at once. Some bytes may be in both. So of
-//! eight bytes or more none is shifted to its place.
+//! Of a text of at most fifteen bytes the first eight and the last eight are judged at once. Some bytes may be in both.
+//! So of eight bytes or more none is shifted to its place.
 
 ghost use Rattle.std.specs.Prelude.{◌≡◌, ◌↔◌, ◌+◌, ◌*◌, ◌<◌, ◌≤◌, ◌^◌, ℕ, length, IsTrue, MatchOption};
 ghost use Rattle.std.specs.Bool.{MatchBool};
@@ -72,7 +72,8 @@ fn are_narrow(one: u8x16, other: u8x16) -> bool
     (starts == leads) & ((2 * leads ^ others) & ALL_BUT_NINTH == 0)
 }
 
-// Whether a text of at most fifteen bytes is UTF-8 of code points of one byte or two. Sixteen zeros stand for another text.
+// Whether a text of at most fifteen bytes is UTF-8 of code points of one byte or two. Sixteen zeros stand for another
+// text.
 #[inline(always)]
 fn is_narrow(ends: u8x16) -> bool
     ensures { IsTrue result ↔ EndsAgree ends }
@@ -131,13 +132,13 @@ fn same_of_first(left: &[u8], right: &[u8]) -> usize
     others.trailing_zeros() as usize / 8
 }
 
-/// How many of the first eight bytes two texts have in common at their beginning, if both have more bytes than these and at most
-/// 32. For example, `cart` and `cast` have two. There is no result if a text is not UTF-8 (the Unicode Standard, section 3.9,
-/// table 3-7) or has a code point of three bytes or more.
+/// How many of the first eight bytes two texts have in common at their beginning, if both have more bytes than these and
+/// at most 32. For example, `cart` and `cast` have two. There is no result if a text is not UTF-8 (the Unicode Standard,
+/// section 3.9, table 3-7) or has a code point of three bytes or more.
 ///
-/// It rejects code points of three bytes or more, and asks nothing about them before. So it takes fewer instructions than
-/// [`shared_of_short`](crate::shared_of_short) and [`shared_of_longer`](crate::shared_of_longer). Two texts of at most fifteen
-/// bytes are judged together.
+/// It judges no code point of three bytes or more, so it takes fewer instructions than
+/// [`shared_of_short`](crate::shared_of_short) and [`shared_of_longer`](crate::shared_of_longer). Two texts of at most
+/// fifteen bytes are judged together.
 #[inline(always)]
 pub fn shared_of_narrow(left: &[u8], right: &[u8]) -> Option<usize>
     ensures { MatchOption result ((at : ℕ) → ¬ (IsEarly left.now right.now at)) (λ at. IsEarly left.now right.now at) }
@@ -155,10 +156,10 @@ pub fn shared_of_narrow(left: &[u8], right: &[u8]) -> Option<usize>
     Some(at)
 }
 
-/// Whether two texts of at most fifteen bytes are the same, and UTF-8 (the Unicode Standard, section 3.9, table 3-7) of code
-/// points of one or two bytes. For example, `cart` and `cart` are. Of texts of more bytes, or with a code point of three or
-/// four, it returns `false`, whatever they are. It judges no such code point, so it takes fewer instructions than
-/// [`are_same_short`](crate::are_same_short).
+/// Whether two texts of at most fifteen bytes are the same, and UTF-8 (the Unicode Standard, section 3.9, table 3-7) of
+/// code points of one or two bytes. For example, `cart` and `cart` are. Of texts of more bytes, or with a code point of
+/// three or four, it returns `false`, whatever they are. It judges no such code point, so it takes fewer instructions
+/// than [`are_same_short`](crate::are_same_short).
 #[inline(always)]
 pub fn are_same_narrow(left: &[u8], right: &[u8]) -> bool
     ensures { MatchBool result

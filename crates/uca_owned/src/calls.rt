@@ -171,13 +171,15 @@ impl OwnedCollator {
         )
     }
 
-    /// The order of two texts of at most 32 bytes by the first bytes that differ, such as `r` and `s` of `cart` and `cast`. It
-    /// changes nothing. Where there is a result, it takes less time than [`compare`](OwnedCollator::compare).
+    /// The order of two texts of at most 32 bytes by the first bytes that differ, such as `r` and `s` of `cart` and
+    /// `cast`. It changes nothing. Where there is a result, it takes less time than
+    /// [`compare`](OwnedCollator::compare).
     ///
-    /// There is no result where a text has more bytes, is not UTF-8 or has a code point of three bytes or more. Nor is there one
-    /// where a text begins with the other. The first bytes that differ have to be code points of ASCII that differ at level 1,
-    /// with at most eight bytes before them. What comes after them may not change their weights, as an accent may. With numbers by
-    /// value there is no result, and none before `compare` compared two short texts by their weights. No clause says when there is one.
+    /// There is no result where a text has more bytes, is not UTF-8 or has a code point of three bytes or more. Nor is
+    /// there one where a text begins with the other. The first bytes that differ have to be code points of ASCII that
+    /// differ at level 1, with at most eight bytes before them. What comes after them may not change their weights, as
+    /// an accent may. With numbers by value there is no result, and none before `compare` compared two short texts by
+    /// their weights. No clause says when there is one.
     #[inline(always)]
     pub fn order_at_once(&self, left: &[u8], right: &[u8]) -> Option<Ordering>
         ensures compared { IfSome result (λ order. let answer = bytes_compared (keying_in self.now) left.now right.now in

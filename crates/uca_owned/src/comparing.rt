@@ -74,8 +74,8 @@ pub(crate) fn compare_bytes(
     Ok(pair)
 }
 
-/// The order of two texts of at most 32 bytes by the first bytes that differ, where these tell it. At most eight bytes may come
-/// before them, and no code point may have three.
+/// The order of two texts of at most 32 bytes by the first bytes that differ, where these tell it. At most eight bytes
+/// may come before them, and no code point may have three.
 #[inline(always)]
 pub(crate) fn order_at_once(
     comparison: &TextComparison,

@@ -40,6 +40,17 @@ pub(crate) fn read_after<'t>(text: &str, shared: usize, bytes: &'t [u8]) -> Opti
     }
 }
 
+// Two texts that are known to be UTF-8.
+#[inline(always)]
+fn texts_of<'l, 'r>(left: &'l [u8], right: &'r [u8]) -> (&'l str, &'r str)
+    requires { IsUtf8 left.now × IsUtf8 right.now }
+    ensures { (result.0.now ≡ left.now) × (result.1.now ≡ right.now) }
+{
+    let left = unsafe { str::from_utf8_unchecked(left) };
+    let right = unsafe { str::from_utf8_unchecked(right) };
+    (left, right)
+}
+
 /// Two texts of at most fifteen bytes, if both are UTF-8, and how many bytes they have in common at their beginning.
 #[inline(always)]
 pub(crate) fn read_short<'l, 'r>(
@@ -52,8 +63,7 @@ pub(crate) fn read_short<'l, 'r>(
     ensures shared { IfSome result (λ read. IsSharedLen left.now right.now read.2) }
 {
     let shared = shared_of_short(left, right)?;
-    let left = unsafe { str::from_utf8_unchecked(left) };
-    let right = unsafe { str::from_utf8_unchecked(right) };
+    let (left, right) = texts_of(left, right);
     Some((left, right, shared))
 }
 
@@ -69,8 +79,7 @@ pub(crate) fn read_longer<'l, 'r>(
     ensures shared { IfSome result (λ read. take read.2 left.now ≡ take read.2 right.now) }
 {
     let shared = shared_of_longer(left, right)?;
-    let left = unsafe { str::from_utf8_unchecked(left) };
-    let right = unsafe { str::from_utf8_unchecked(right) };
+    let (left, right) = texts_of(left, right);
     Some((left, right, shared))
 }
 
@@ -86,7 +95,6 @@ pub(crate) fn read_narrow<'l, 'r>(
     ensures shared { IfSome result (λ read. take read.2 left.now ≡ take read.2 right.now) }
 {
     let shared = shared_of_narrow(left, right)?;
-    let left = unsafe { str::from_utf8_unchecked(left) };
-    let right = unsafe { str::from_utf8_unchecked(right) };
+    let (left, right) = texts_of(left, right);
     Some((left, right, shared))
 }

@@ -20,8 +20,8 @@ marks_of_leads bytes = mask_l (map (λ b. nat_le 0xc2 b && nat_lt b 0xe0) bytes)
 abbrev pub marks_of_others : List ℕ → ℕ
 marks_of_others bytes = marks_from 0x80 bytes - marks_from 0xc0 bytes
 
--- No byte is C0, C1, or E0 or more. After each byte from C2 to DF comes one of 80 to BF, and that stands nowhere else. In the
--- text the eighth of these bytes does not come right before the ninth, so nothing is said of these two.
+-- No byte is C0, C1, or E0 or more. After each byte from C2 to DF comes one of 80 to BF, and that stands nowhere else.
+-- In the text the eighth of these bytes does not come right before the ninth, so nothing is said of these two.
 pub record EndsAgree (ends : List ℕ) : Type 0 where
   pub narrow : marks_from 0xe0 ends ≡ 0
   pub none : marks_from 0xc0 ends ≡ marks_from 0xc2 ends
