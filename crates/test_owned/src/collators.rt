@@ -79,12 +79,6 @@ fn check_lengths(collator: &mut OwnedCollator, letters: &str) -> Result<(), Fail
     check_random(collator, letters)
 }
 
-#[test]
-fn keys_of_many_lengths(rt: HostRuntime) -> Result<(), Fail> {
-    let letters = repeated(rt.alloc(), "a", MOST_LETTERS)?;
-    check_lengths(&mut opened(rt.alloc())?, &letters)
-}
-
 /// The first code point of a page of planes 2 and 3. It is a starter, and has no decomposition and no row.
 fn first_of_page(page: u32) -> Result<char, Fail> {
     let start: u32 = if page < 248 { 0x2_0000 } else { 0x2_0800 };
@@ -130,11 +124,6 @@ fn check_both(first: &mut OwnedCollator, other: &mut OwnedCollator) -> Result<()
 fn check_other(first: &mut OwnedCollator, alloc: Global) -> Result<(), Fail> {
     let mut other = first.share(alloc)?;
     check_both(first, &mut other)
-}
-
-#[test]
-fn collators_that_share_a_table(rt: HostRuntime) -> Result<(), Fail> {
-    check_other(&mut opened(rt.alloc())?, rt.alloc())
 }
 
 /// Two texts, and the order that the first bytes that differ tell. They tell nothing (`-`) where a text is not UTF-8,
@@ -186,11 +175,6 @@ fn check_before_and_after(alloc: Global, collator: &mut OwnedCollator) -> Result
     check_at_once(alloc, collator, true)
 }
 
-#[test]
-fn orders_that_are_told_at_once(rt: HostRuntime) -> Result<(), Fail> {
-    check_before_and_after(rt.alloc(), &mut opened(rt.alloc())?)
-}
-
 /// The levels of the key of `ba`, one letter after the other.
 fn check_levels(collator: &mut OwnedCollator) -> Result<(), Fail> {
     holds(collator.make_levels(b"ba")?, "the levels of two letters")?;
@@ -207,12 +191,11 @@ fn check_no_levels(collator: &mut OwnedCollator) -> Result<(), Fail> {
     holds(found == Err(KeyFault::Utf8), "a key of no UTF-8")
 }
 
-#[test]
-fn levels_that_are_not_joined(rt: HostRuntime) -> Result<(), Fail> {
-    let mut collator = opened(rt.alloc())?;
-    check_levels(&mut collator)?;
-    check_no_levels(&mut collator)?;
-    check_levels(&mut collator)
+/// An error leaves a collator as it was.
+fn check_levels_again(collator: &mut OwnedCollator) -> Result<(), Fail> {
+    check_levels(collator)?;
+    check_no_levels(collator)?;
+    check_levels(collator)
 }
 
 /// 518 for each byte, and 8 more, as far as there is room: 35,611,475,045,771,335 is the greatest length with room.
@@ -227,7 +210,17 @@ fn check_bounds(collator: &OwnedCollator) -> Result<(), Fail> {
     holds(collator.key_bound(most + 1) == usize::MAX, "one byte more")
 }
 
+/// Each collator is opened by one function, and lent to all checks: to drop it is long to prove.
+fn check_all(alloc: Global, collator: &mut OwnedCollator, letters: &str) -> Result<(), Fail> {
+    check_bounds(collator)?;
+    check_before_and_after(alloc, collator)?;
+    check_levels_again(collator)?;
+    check_other(collator, alloc)?;
+    check_lengths(collator, letters)
+}
+
 #[test]
-fn bounds_of_keys(rt: HostRuntime) -> Result<(), Fail> {
-    check_bounds(&opened(rt.alloc())?)
+fn keys_levels_and_orders(rt: HostRuntime) -> Result<(), Fail> {
+    let letters = repeated(rt.alloc(), "a", MOST_LETTERS)?;
+    check_all(rt.alloc(), &mut opened(rt.alloc())?, &letters)
 }
