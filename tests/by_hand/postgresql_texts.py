@@ -577,7 +577,7 @@ def random_like(program):
     return check
 
 
-ROUNDS = 7
+ROUNDS = 21
 
 
 def seconds(server, statements):
