@@ -104,8 +104,8 @@ fn texts(rt: HostRuntime) -> Result<(), Fail> {
     Ok(())
 }
 
-/// The text of a book with this many starts of each level, from 0002 on.
-fn long_text(alloc: Global, letters: u16, variables: u16) -> Result<String, Fail> {
+/// The text of a book with this many starts of each level, from 0002 on, and more lines.
+fn long_text(alloc: Global, letters: u16, variables: u16, more: &str) -> Result<String, Fail> {
     let mut text = String::from_str(alloc, "@book 1\n")?;
     for at in 0..letters {
         writeln!(text, "1 {:04X}", at.saturating_add(2))?;
@@ -113,12 +113,19 @@ fn long_text(alloc: Global, letters: u16, variables: u16) -> Result<String, Fail
     for at in 0..variables {
         writeln!(text, "4 {:04X}", at.saturating_add(2))?;
     }
+    text.push_str(more)?;
     Ok(text)
 }
 
 /// The message of a long text; nothing where it is a book.
-fn check_long(alloc: Global, letters: u16, variables: u16, wanted: &str) -> Result<(), Fail> {
-    let text = long_text(alloc, letters, variables)?;
+fn check_long(
+    alloc: Global,
+    letters: u16,
+    variables: u16,
+    more: &str,
+    wanted: &str,
+) -> Result<(), Fail> {
+    let text = long_text(alloc, letters, variables, more)?;
     match read_book(alloc, &mut Source::new(text.as_bytes())) {
         Ok(book) => {
             same("", wanted, wanted)?;
@@ -130,8 +137,14 @@ fn check_long(alloc: Global, letters: u16, variables: u16, wanted: &str) -> Resu
 
 #[test]
 fn most_starts(rt: HostRuntime) -> Result<(), Fail> {
-    check_long(rt.alloc(), 245, 255, "")?;
-    check_long(rt.alloc(), 246, 0, "line 247: Limit")?;
-    check_long(rt.alloc(), 0, 256, "line 257: Limit")?;
-    check_long(rt.alloc(), 245, 256, "line 502: Limit")
+    check_long(rt.alloc(), 245, 255, "", "")?;
+    check_long(rt.alloc(), 246, 0, "", "line 247: Limit")?;
+    check_long(rt.alloc(), 0, 256, "", "line 257: Limit")?;
+    check_long(rt.alloc(), 245, 256, "", "line 502: Limit")?;
+    // one start too many, with an earlier cause: the last ones are 00F6 and 0100
+    check_long(rt.alloc(), 245, 0, "1 00F6\n", "line 247: Order")?;
+    check_long(rt.alloc(), 245, 0, "1 0001\n", "line 247: Weight")?;
+    check_long(rt.alloc(), 245, 1, "1 FFFF\n", "line 248: Order")?;
+    check_long(rt.alloc(), 0, 255, "4 0100\n", "line 257: Order")?;
+    check_long(rt.alloc(), 0, 255, "4 FFFF\n", "line 257: Weight")
 }

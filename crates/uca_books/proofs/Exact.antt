@@ -126,7 +126,7 @@ barred s line kind t (inr (inr (inr (inl c)))) (inr h) =
 barred s line kind t (inr (inr (inr (inr c)))) (inl h) = let e : true ≡ false = sym c.1 ∙ h.0 in cc
 barred s line kind t (inr (inr (inr (inr c)))) (inr h) =
     let same : c.2.0 ≡ h.2.0 = start_same line c.2.0 h.2.0 c.2.1 h.2.1 in
-    h.2.2.room (subst (λ (i : Start). IsFull s.content i) same c.2.2)
+    h.2.2.room (subst (λ (i : Start). IsFull s.content i) same c.2.3)
 
 by_line : IsExactByLine Says Takes Cause
 by_line = record {

@@ -92,7 +92,7 @@ spelled_refused start small text w book (Err kind) read (inr (inl h)) =
 spelled_refused start small text w book (Err kind) read (inr (inr (inl h))) =
     inr (inr (inl (h.0, (w, (weight_takes text w (sym read)).0, h.1, h.2))))
 spelled_refused start small text w book (Err kind) read (inr (inr (inr h))) =
-    inr (inr (inr (h.0, (w, (weight_takes text w (sym read)).0, h.1, h.2))))
+    inr (inr (inr (h.0, (w, (weight_takes text w (sym read)).0, h.1, h.2, h.3))))
 
 -- no start is spelled
 pub none_spelled : (start : ℕ → Start) → ((v : ℕ) → IsStart (start v) → v < 0x1_0000) → (text : List ℕ) → None ≡ weight_of text
@@ -185,4 +185,4 @@ line_refused start line rest started old (Err kind) is e (inr (inl h)) =
 line_refused start line rest started old (Err kind) is e (inr (inr (inl h))) =
     inr (inr (inr (inr (inl (h.0, e, (start h.1.0, is.here h.1.0 h.1.1 h.1.2, h.1.3))))))
 line_refused start line rest started old (Err kind) is e (inr (inr (inr h))) =
-    inr (inr (inr (inr (inr (h.0, e, (start h.1.0, is.here h.1.0 h.1.1 h.1.2, h.1.3))))))
+    inr (inr (inr (inr (inr (h.0, e, (start h.1.0, is.here h.1.0 h.1.1 h.1.2, h.1.3, h.1.4))))))

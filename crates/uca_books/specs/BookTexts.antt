@@ -69,16 +69,16 @@ pub record IsLine (line : List ℕ) (start : Start) : Type 0 where
 abbrev pub NamesLevel : List ℕ → Type 0
 NamesLevel line = (rest : List ℕ) × ((line ≡ 49 ∷ 32 ∷ rest) ⊎ (line ≡ 52 ∷ 32 ∷ rest))
 
--- Why a line is rejected. It is not the header where the header must come, it begins otherwise than with a level and a
--- space, or what follows these is no start. Or the start does not come after all that is listed before it, or is one too
--- many.
+-- Why a line is rejected, the first of these. It is not the header where the header must come, it begins otherwise than
+-- with a level and a space, or what follows these is no start. Or the start does not come after all that is listed before
+-- it, or is one too many.
 abbrev pub Cause : Said → List ℕ → FaultKind → Type 0
 Cause said line kind =
     ((kind ≡ kinds.Order) × (said.started ≡ false) × (line ≢ header))
     ⊎ ((kind ≡ kinds.Line) × (said.started ≡ true) × ¬ (NamesLevel line))
     ⊎ ((kind ≡ kinds.Weight) × (said.started ≡ true) × NamesLevel line × ((start : Start) → ¬ (IsLine line start)))
     ⊎ ((kind ≡ kinds.Order) × (said.started ≡ true) × ((start : Start) × IsLine line start × ¬ (MayFollow said.content start)))
-    ⊎ ((kind ≡ kinds.Limit) × (said.started ≡ true) × ((start : Start) × IsLine line start × IsFull said.content start))
+    ⊎ ((kind ≡ kinds.Limit) × (said.started ≡ true) × ((start : Start) × IsLine line start × MayFollow said.content start × IsFull said.content start))
 
 -- a file may not end before its header
 abbrev pub IsUnfinished : Said → Type 0

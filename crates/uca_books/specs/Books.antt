@@ -65,9 +65,9 @@ pub record Adds (old : BookContent) (start : Start) (new : BookContent) : Type 0
   pub room : ¬ (IsFull old start)
   pub adds : new ≡ put_last start old
 
--- why it is not: it is none, it may not follow, or it is one too many
+-- why it is not, the first of these: it is none, it may not follow, or it is one too many
 abbrev pub Refuses : BookContent → Start → FaultKind → Type 0
 Refuses book start kind =
     ((kind ≡ kinds.Weight) × ¬ (IsStart start))
     ⊎ ((kind ≡ kinds.Order) × IsStart start × ¬ (MayFollow book start))
-    ⊎ ((kind ≡ kinds.Limit) × IsStart start × IsFull book start)
+    ⊎ ((kind ≡ kinds.Limit) × IsStart start × MayFollow book start × IsFull book start)

@@ -195,7 +195,7 @@ excluded before s line kind more t h cause k =
         omega (arith, low, above, behind)
     by_kind kinds.Limit c cause =
         let same : cause.0 ≡ c.next = line_same line cause.0 c.next cause.1 c.is_line in
-        let full : length (at_level c.next.level s) ≡ 0xFFFF = subst (λ (l : RunLine). length (at_level l.level s) ≡ 0xFFFF) same cause.2 in
+        let full : length (at_level c.next.level s) ≡ 0xFFFF = subst (λ (l : RunLine). length (at_level l.level s) ≡ 0xFFFF) same cause.3 in
         let more_runs = one_more (run_lines s) c.next c.rest in
         omega (
           arith,

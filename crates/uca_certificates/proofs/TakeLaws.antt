@@ -40,12 +40,12 @@ added_takes old new line level run (Ok x) h due room adds = record {
 
 -- a run that is not added leaves a cause in its line
 pub add_fault : {X : Type 0} (old : CertificateContent) (line : List ℕ) (level : Level) (run : Run) (r : Result X CertificateFaultKind)
-    → ◌≡◌ {A = Option RunLine} (Some (record { level = level; run = run })) (line_of line)
+    → ◌≡◌ {A = Option RunLine} (Some (record { level = level; run = run })) (line_of line) → ¬ (IsPassed old level)
     → IfErr r (λ kind. (kind ≡ kinds.Memory) ⊎ ((kind ≡ kinds.Limit) × (length (at_level level old) ≡ 0xFFFF)))
     → IfErr r (λ kind. (kind ≡ kinds.Memory) ⊎ Cause old line kind)
-add_fault old line level run (Ok x) h fault = tt
-add_fault old line level run (Err kind) h (inl memory) = inl memory
-add_fault old line level run (Err kind) h (inr limit) =
+add_fault old line level run (Ok x) h due fault = tt
+add_fault old line level run (Err kind) h due (inl memory) = inl memory
+add_fault old line level run (Err kind) h due (inr limit) =
     let said : RunLine = record { level = level; run = run } in
     let P : CertificateFaultKind → Type 0 = Cause old line in
-    inr (subst P (sym limit.0) (said, line_takes line said (sym h), limit.1))
+    inr (subst P (sym limit.0) (said, line_takes line said (sym h), due, limit.1))

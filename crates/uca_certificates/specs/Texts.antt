@@ -73,11 +73,11 @@ pub record IsLine (line : List ℕ) (l : RunLine) : Type 0 where
 abbrev pub IsPassed : CertificateContent → Level → Type 0
 IsPassed content level = (higher : Level) × (level_number level < level_number higher) × (at_level higher content ≢ [])
 
--- why a line after lines that say these runs is rejected
+-- why a line after lines that say these runs is rejected; no other cause comes before the limit
 abbrev pub Cause : CertificateContent → List ℕ → CertificateFaultKind → Type 0
 Cause content line kinds.Line = (l : RunLine) → ¬ (IsLine line l)
 Cause content line kinds.Order = (l : RunLine) × IsLine line l × IsPassed content l.level
-Cause content line kinds.Limit = (l : RunLine) × IsLine line l × (length (at_level l.level content) ≡ 0xFFFF)
+Cause content line kinds.Limit = (l : RunLine) × IsLine line l × ¬ (IsPassed content l.level) × (length (at_level l.level content) ≡ 0xFFFF)
 Cause content line _ = ⊥
 
 -- how many lines come before those of a level

@@ -143,13 +143,13 @@ after_element text e more h =
 
 -- the rest is not empty, and does not begin as an element does
 pub line_cause : (text : List ℕ) (front : List Element) (rest : List ℕ) → Leads BeginsElement text front rest → false ≡ (length rest == 0)
-    → opens rest ≡ false → ElementsCause text kinds.Line
-line_cause text front [] h some o = cc
-line_cause text front (b ∷ bs) h some o = inr (front, b ∷ bs, h, (λ e. cc), o)
+    → opens rest ≡ false → length front ≤ 32 → ElementsCause text kinds.Line
+line_cause text front [] h some o few = cc
+line_cause text front (b ∷ bs) h some o few = inr (front, b ∷ bs, h, (λ e. cc), o, few)
 
 pub weight_cause : (text : List ℕ) (front : List Element) (rest : List ℕ) → Leads BeginsElement text front rest → opens rest ≡ true
-    → None ≡ element_at rest → ElementsCause text kinds.Weight
-weight_cause text front rest h o n = (front, rest, h, o, none_begins rest n)
+    → None ≡ element_at rest → length front ≤ 32 → ElementsCause text kinds.Weight
+weight_cause text front rest h o n few = (front, rest, h, o, none_begins rest n, few)
 
 pub limit_cause : (text : List ℕ) (front : List Element) (rest : List ℕ) (e : Element) (more : List ℕ) → Leads BeginsElement text front rest
     → 32 ≤ length front → BeginsElement rest e more → ElementsCause text kinds.Limit

@@ -227,7 +227,7 @@ row_text_barred text row kind h (inr (inr c)) =
 pub range_text_barred : (text : List ℕ) (r : ImplicitRange) (kind : FaultKind) → IsRangeText text r → RangeTextCause text kind → ⊥
 range_text_barred text r kinds.Line h (inl c) = let e = sym h.cut ∙ c in cc
 range_text_barred text r kinds.Line h (inr c) = let e = sym h.ends ∙ c in cc
-range_text_barred text r kinds.CodePoint h c = let e = sym h.ends ∙ c in cc
+range_text_barred text r kinds.CodePoint h c = let e = sym h.ends ∙ c.1 in cc
 range_text_barred text r kinds.Weight h c =
-    let e = sym h.lead ∙ (ap (λ t. weight_of (trim t)) (rest_same text h.rest c.0 h.cut c.1) ∙ c.2) in cc
+    let e = sym h.lead ∙ (ap (λ t. weight_of (trim t)) (rest_same text h.rest c.0 h.cut c.1) ∙ c.3) in cc
 range_text_barred text r _ h c = c

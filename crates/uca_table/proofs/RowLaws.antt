@@ -28,11 +28,14 @@ key_fault text front kind h (inl m) = inl m
 key_fault text front kind h (inr e) = inr (inl (subst (λ (t : List ℕ). KeyCause t kind) h e))
 
 -- nothing is at the cut, so the row has no `;`
-pub no_semicolon : (text back : List ℕ) → back ≡ from_first is_semicolon text → length back ≡ 0 → (kinds.Line ≡ kinds.Memory) ⊎ RowTextCause text kinds.Line
-no_semicolon text [] h n = inr (inr (inl (sym h, refl)))
-no_semicolon text (b ∷ bs) h n = absurd (omega (arith, n))
+pub no_semicolon : (text front key back : List ℕ) → front ≡ up_to is_semicolon text → IsKey front key → back ≡ from_first is_semicolon text → length back ≡ 0
+    → (kinds.Line ≡ kinds.Memory) ⊎ RowTextCause text kinds.Line
+no_semicolon text front key [] f k h n = inr (inr (inl (sym h, refl, (key, subst (λ (t : List ℕ). IsKey t key) f k))))
+no_semicolon text front key (b ∷ bs) f k h n = absurd (omega (arith, n))
 
-pub elements_fault : (text back : List ℕ) (b : ℕ) (rest : List ℕ) (kind : FaultKind) → back ≡ from_first is_semicolon text → back ≡ b ∷ rest
-    → (kind ≡ kinds.Memory) ⊎ ElementsCause rest kind → (kind ≡ kinds.Memory) ⊎ RowTextCause text kind
-elements_fault text back b rest kind h k (inl m) = inl m
-elements_fault text back b rest kind h k (inr e) = inr (inr (inr (rest, after_semicolon text back b rest h k, e)))
+pub elements_fault : (text front key back : List ℕ) (b : ℕ) (rest : List ℕ) (kind : FaultKind) → front ≡ up_to is_semicolon text → IsKey front key
+    → back ≡ from_first is_semicolon text → back ≡ b ∷ rest → (kind ≡ kinds.Memory) ⊎ ElementsCause rest kind
+    → (kind ≡ kinds.Memory) ⊎ RowTextCause text kind
+elements_fault text front key back b rest kind f is h k (inl m) = inl m
+elements_fault text front key back b rest kind f is h k (inr e) =
+    inr (inr (inr (rest, after_semicolon text back b rest h k, e, (key, subst (λ (t : List ℕ). IsKey t key) f is))))

@@ -20,7 +20,7 @@ no_read_in_purpose b text ForRow (inr h) = h.2
 pub no_read : (b : TableSoFar) (line : List ℕ) → Cause b line kinds.Read → ⊥
 no_read b line (inl h) = let e = h.0 in cc
 no_read b line (inr (inl h)) = let e = h.0 in cc
-no_read b line (inr (inr h)) = no_read_in_purpose b _ h.0 h.2
+no_read b line (inr (inr h)) = no_read_in_purpose b _ h.0 h.3
 
 forms_push : (lines : List (List ℕ)) (items : List Item) (line : List ℕ) (item : Item) → AllZip IsLine lines items → IsLine line item
     → AllZip IsLine (lines ++ line ∷ []) (items ++ item ∷ [])

@@ -99,12 +99,12 @@ due_range s t r h e = (
 
 follow_barred : (s t : TableSoFar) (r : ImplicitRange) (kind : FaultKind) → IsTableSoFar t → in_order t ≡ in_order s ++ OfRange r ∷ [] → FollowCause s.ranges r kind → ⊥
 follow_barred s t r kinds.Range h e c = c (ranges_last s.ranges r (subst AreImplicitRanges (ranges_with s t (OfRange r) e) h.ranges))
-follow_barred s t r kinds.Limit h e c = omega (arith, ap length (ranges_with s t (OfRange r) e), length-append s.ranges (r ∷ []), h.few_ranges)
+follow_barred s t r kinds.Limit h e c = omega (arith, ap length (ranges_with s t (OfRange r) e), length-append s.ranges (r ∷ []), h.few_ranges, c.1)
 follow_barred s t r _ h e c = c
 
 add_barred : (s t : TableSoFar) (row : Entry) (kind : FaultKind) → IsTableSoFar t → in_order t ≡ in_order s ++ OfRow row ∷ [] → AddCause s.rows row kind → ⊥
 add_barred s t row kinds.DuplicateKey h e c = distinct_last s.rows row (subst AreDistinct (rows_with s t (OfRow row) e) h.rows.distinct) c
-add_barred s t row kinds.Limit h e c = omega (arith, ap length (rows_with s t (OfRow row) e), length-append s.rows (row ∷ []), h.rows.few)
+add_barred s t row kinds.Limit h e c = omega (arith, ap length (rows_with s t (OfRow row) e), length-append s.rows (row ∷ []), h.rows.few, c.1)
 add_barred s t row _ h e c = c
 
 -- the item that a text with a purpose says
@@ -154,7 +154,7 @@ has_purpose text (OfRow row) h at none = none ForRow (row_begins text row h)
 text_barred : (s t : TableSoFar) (text : List ℕ) (kind : FaultKind) → TextCause s text kind → TakesText s text t → ⊥
 text_barred s t text kind (inl c) h = has_purpose text h.item h.form c.1 c.2
 text_barred s t text kind (inr (inl c)) h = c.1.2 (taken_is_due s t text c.1.0 h c.1.1)
-text_barred s t text kind (inr (inr c)) h = purpose_barred s t text c.0 kind h c.1 c.2
+text_barred s t text kind (inr (inr c)) h = purpose_barred s t text c.0 kind h c.1 c.3
 
 -- ---- The last line
 

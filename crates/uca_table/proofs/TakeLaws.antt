@@ -25,7 +25,7 @@ use Rattle.uca_table.specs.Headers.{argument_of, IsRangeText, MayFollow, RangeTe
 use Rattle.uca_table.specs.CanonicalWords.{at_version, at_variable, at_ranges, setting_word}
 use Rattle.uca_table.specs.Rows.{IsRow, RowTextCause, AddCause}
 use Rattle.uca_table.specs.inside.Keeping.{Keeps}
-use Rattle.uca_table.specs.TableLines.{Nothing, OfVersion, OfSetting, OfRange, OfRow, in_order, Purpose, ForSetting, ForRange, ForRow, begins_at, Has, IsDue, PurposeCause, TextCause}
+use Rattle.uca_table.specs.TableLines.{Nothing, OfVersion, OfSetting, OfRange, OfRow, in_order, Purpose, ForVersion, ForSetting, ForRange, ForRow, begins_at, Has, IsDue, PurposeCause, TextCause}
 use Rattle.uca_table.specs.inside.Taking.{TakesText}
 use Rattle.uca_table.proofs.KeepingLaws.{some_not_none, rows_push}
 use Rattle.uca_table.proofs.OrderLaws.{in_order-row, in_order-range, ranges_push}
@@ -144,9 +144,9 @@ pub out_of_order : (b : TableSoFar) (text : List ℕ) (purpose : Purpose) (due :
     → (kinds.Order ≡ kinds.Memory) ⊎ TextCause b text kinds.Order
 out_of_order b text purpose due has h e = inr (inr (inl (refl, (purpose, has, (λ d. false≢true (sym e ∙ h.1 d))))))
 
-pub cause_in : (b : TableSoFar) (text : List ℕ) (purpose : Purpose) (kind : FaultKind) → Has text purpose → PurposeCause b text purpose kind
-    → (kind ≡ kinds.Memory) ⊎ TextCause b text kind
-cause_in b text purpose kind has h = inr (inr (inr (purpose, has, h)))
+pub cause_in : (b : TableSoFar) (text : List ℕ) (purpose : Purpose) (kind : FaultKind) → Has text purpose → IsDue b purpose
+    → PurposeCause b text purpose kind → (kind ≡ kinds.Memory) ⊎ TextCause b text kind
+cause_in b text purpose kind has due h = inr (inr (inr (purpose, has, due, h)))
 
 -- a name is text
 name_byte_small : (b : ℕ) → is_name_byte b ≡ true → b < 128
@@ -203,30 +203,43 @@ keeps_ranges points has inside old text all h t = record { keys = h.keys; named 
 
 -- ---- Why a setting, a range or a row is rejected
 
--- no setting has the argument's word
-pub setting_fault : (b : TableSoFar) (text word : List ℕ) → word_of text ≡ at_variable → word ≡ argument_of text
-    → ((setting : Weighting) → word ≡ setting_word setting → ⊥) → (kinds.Line ≡ kinds.Memory) ⊎ TextCause b text kinds.Line
-setting_fault b text word first argument none = cause_in b text ForSetting kinds.Line first (refl, (λ setting h. none setting (argument ∙ h.argument)))
+-- the name of a version is none
+pub version_fault : (b inside : TableSoFar) (text name : List ℕ) → inside ≡ b → inside.version ≡ None → word_of text ≡ at_version
+    → name ≡ argument_of text → is_version_name name ≡ false → (kinds.Line ≡ kinds.Memory) ⊎ TextCause b text kinds.Line
+version_fault b inside text name same none first argument wrong =
+    let P : TableSoFar → Type 0 = λ x. x.version ≡ None in
+    cause_in b text ForVersion kinds.Line first (subst P same none) (
+      refl,
+      (λ other h. false≢true (sym wrong ∙ (ap is_version_name (argument ∙ h.argument) ∙ h.named))),
+    )
 
-pub range_text_fault : (b : TableSoFar) (text rest : List ℕ) (kind : FaultKind) → word_of text ≡ at_ranges → rest ≡ after_word text
+-- no setting has the argument's word
+pub setting_fault : (b : TableSoFar) (text word : List ℕ) → IsDue b ForSetting → word_of text ≡ at_variable → word ≡ argument_of text
+    → ((setting : Weighting) → word ≡ setting_word setting → ⊥) → (kinds.Line ≡ kinds.Memory) ⊎ TextCause b text kinds.Line
+setting_fault b text word due first argument none =
+    cause_in b text ForSetting kinds.Line first due (refl, (λ setting h. none setting (argument ∙ h.argument)))
+
+pub range_text_fault : (b : TableSoFar) (text rest : List ℕ) (kind : FaultKind) → IsDue b ForRange → word_of text ≡ at_ranges → rest ≡ after_word text
     → RangeTextCause rest kind → (kind ≡ kinds.Memory) ⊎ TextCause b text kind
-range_text_fault b text rest kind first argument h = cause_in b text ForRange kind first (inl (subst (λ (t : List ℕ). RangeTextCause t kind) argument h))
+range_text_fault b text rest kind due first argument h =
+    cause_in b text ForRange kind first due (inl (subst (λ (t : List ℕ). RangeTextCause t kind) argument h))
 
 pub range_follow_fault : (b inside : TableSoFar) (text rest : List ℕ) (r : ImplicitRange) (earlier : List ImplicitRange) (may : Bool) → inside ≡ b
-    → word_of text ≡ at_ranges → rest ≡ after_word text → IsRangeText rest r → earlier ≡ inside.ranges → (may ≡ true) ↔ MayFollow earlier r
-    → may ≡ false → (kinds.Range ≡ kinds.Memory) ⊎ TextCause b text kinds.Range
-range_follow_fault b inside text rest r earlier may same first argument form e h fails =
-    cause_in b text ForRange kinds.Range first (inr (
+    → IsDue b ForRange → word_of text ≡ at_ranges → rest ≡ after_word text → IsRangeText rest r → earlier ≡ inside.ranges
+    → (may ≡ true) ↔ MayFollow earlier r → may ≡ false → (kinds.Range ≡ kinds.Memory) ⊎ TextCause b text kinds.Range
+range_follow_fault b inside text rest r earlier may same due first argument form e h fails =
+    cause_in b text ForRange kinds.Range first due (inr (
       r,
       subst (λ (t : List ℕ). IsRangeText t r) argument form,
       (λ m. false≢true (sym fails ∙ h.1 (subst (λ (rs : List ImplicitRange). MayFollow rs r) (sym (e ∙ ap (λ (x : TableSoFar). x.ranges) same)) m))),
     ))
 
-pub range_limit_fault : (b inside : TableSoFar) (text rest : List ℕ) (r : ImplicitRange) → inside ≡ b → word_of text ≡ at_ranges → rest ≡ after_word text
-    → IsRangeText rest r → 256 ≤ length inside.ranges → (kinds.Limit ≡ kinds.Memory) ⊎ TextCause b text kinds.Limit
-range_limit_fault b inside text rest r same first argument form many =
-    let P : TableSoFar → Type 0 = λ x. 256 ≤ length x.ranges in
-    cause_in b text ForRange kinds.Limit first (inr (r, subst (λ (t : List ℕ). IsRangeText t r) argument form, subst P same many))
+pub range_limit_fault : (b inside : TableSoFar) (text rest : List ℕ) (r : ImplicitRange) → inside ≡ b → IsDue b ForRange → word_of text ≡ at_ranges
+    → rest ≡ after_word text → IsRangeText rest r → MayFollow inside.ranges r → 256 ≤ length inside.ranges
+    → (kinds.Limit ≡ kinds.Memory) ⊎ TextCause b text kinds.Limit
+range_limit_fault b inside text rest r same due first argument form may many =
+    let P : TableSoFar → Type 0 = λ x. MayFollow x.ranges r × (256 ≤ length x.ranges) in
+    cause_in b text ForRange kinds.Limit first due (inr (r, subst (λ (t : List ℕ). IsRangeText t r) argument form, subst P same (may, many)))
 
 pub row_order_fault : (b inside : TableSoFar) (text : List ℕ) → inside ≡ b → text ≢ [] → begins_at text ≡ false → (IsSome inside.version → ⊥)
     → (kinds.Order ≡ kinds.Memory) ⊎ TextCause b text kinds.Order
@@ -234,16 +247,18 @@ row_order_fault b inside text same some row none =
     let P : TableSoFar → Type 0 = λ x. IsSome x.version → ⊥ in
     inr (inr (inl (refl, (ForRow, (some, row), subst P same none))))
 
-pub row_text_fault : (b : TableSoFar) (text : List ℕ) (kind : FaultKind) → text ≢ [] → begins_at text ≡ false
+pub row_text_fault : (b inside : TableSoFar) (text : List ℕ) (kind : FaultKind) → inside ≡ b → IsSome inside.version → text ≢ [] → begins_at text ≡ false
     → (kind ≡ kinds.Memory) ⊎ RowTextCause text kind → (kind ≡ kinds.Memory) ⊎ TextCause b text kind
-row_text_fault b text kind some row (inl m) = inl m
-row_text_fault b text kind some row (inr h) = cause_in b text ForRow kind (some, row) (inl h)
+row_text_fault b inside text kind same version some row (inl m) = inl m
+row_text_fault b inside text kind same version some row (inr h) =
+    let P : TableSoFar → Type 0 = λ x. IsSome x.version in cause_in b text ForRow kind (some, row) (subst P same version) (inl h)
 
-pub row_add_fault : (b : TableSoFar) (text : List ℕ) (r : Entry) (result : Result (Unit {0}) FaultKind) → text ≢ [] → begins_at text ≡ false → IsRow text r
-    → IfErr result (λ kind. (kind ≡ kinds.Memory) ⊎ AddCause b.rows r kind) → IfErr result (λ kind. (kind ≡ kinds.Memory) ⊎ TextCause b text kind)
-row_add_fault b text r (Ok x) some row form h = tt
-row_add_fault b text r (Err kind) some row form (inl m) = inl m
-row_add_fault b text r (Err kind) some row form (inr h) = cause_in b text ForRow kind (some, row) (inr (r, form, h))
+pub row_add_fault : (b : TableSoFar) (text : List ℕ) (r : Entry) (result : Result (Unit {0}) FaultKind) → IsSome b.version → text ≢ []
+    → begins_at text ≡ false → IsRow text r → IfErr result (λ kind. (kind ≡ kinds.Memory) ⊎ AddCause b.rows r kind)
+    → IfErr result (λ kind. (kind ≡ kinds.Memory) ⊎ TextCause b text kind)
+row_add_fault b text r (Ok x) version some row form h = tt
+row_add_fault b text r (Err kind) version some row form (inl m) = inl m
+row_add_fault b text r (Err kind) version some row form (inr h) = cause_in b text ForRow kind (some, row) version (inr (r, form, h))
 
 pub row_taken : {E : Type 0} (old inside new : TableSoFar) (text : List ℕ) (row : Entry) (result : Result (Unit {0}) E) → inside ≡ old → IsTableSoFar inside
     → IsSome inside.version → IsRow text row → OnOk result (Contains (keys_of old.rows) row.key → ⊥) → OnOk result (length old.rows < 200000)

@@ -25,12 +25,12 @@ opens [] = false
 opens (a ∷ []) = false
 opens (a ∷ b ∷ bs) = a == 91 && (b == 46 || b == 42)
 
--- A cause of the kind in the text of some elements: there is none, or something else comes after some
--- of them. One begins, and does not go on as an element does. Or there are more than 32.
+-- The first cause in the text of some elements is of this kind: there is none, or something else comes after at most 32
+-- of them. One begins after so many, and does not go on as an element does. Or there are more than 32.
 abbrev pub ElementsCause : List ℕ → FaultKind → Type 0
 ElementsCause text kinds.Line = (skip_blanks text ≡ []) ⊎ ((front : List Element) × (rest : List ℕ) × Leads BeginsElement text front rest
-    × (rest ≢ []) × (opens rest ≡ false))
+    × (rest ≢ []) × (opens rest ≡ false) × (length front ≤ 32))
 ElementsCause text kinds.Weight = (front : List Element) × (rest : List ℕ) × Leads BeginsElement text front rest × (opens rest ≡ true)
-    × ((e : Element) (more : List ℕ) → BeginsElement rest e more → ⊥)
+    × ((e : Element) (more : List ℕ) → BeginsElement rest e more → ⊥) × (length front ≤ 32)
 ElementsCause text kinds.Limit = (front : List Element) × (rest : List ℕ) × Leads BeginsElement text front rest × (32 < length front)
 ElementsCause text _ = ⊥

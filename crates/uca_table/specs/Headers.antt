@@ -1,5 +1,5 @@
 -- The lines of a table file before its rows (UTS #10, section 9.1).
-use Rattle.std.specs.Prelude.{◌≡◌, ℕ, ◌≤◌, ◌⊎◌, true, List, [], ◌∷◌, length, Some, None, Ok, Err}
+use Rattle.std.specs.Prelude.{◌≡◌, ◌≢◌, ℕ, ◌≤◌, ◌⊎◌, true, List, [], ◌∷◌, length, Some, None, Ok, Err, IsOk}
 use Rattle.std.specs.List.{AllByRecursion}
 use Rattle.uca_weights.specs.declared.Weighting.{Weighting}
 use Rattle.uca_values.specs.declared.faults.FaultKind.{FaultKind}
@@ -44,19 +44,20 @@ pub record IsRange (text : List ℕ) (r : ImplicitRange) : Type 0 where
   pub word : word_of text ≡ at_ranges
   pub range : IsRangeText (after_word text) r
 
--- a cause of the kind in what follows `@implicitweights`
+-- the first cause in what follows `@implicitweights` is of this kind
 abbrev pub RangeTextCause : List ℕ → FaultKind → Type 0
 RangeTextCause text kinds.Line = (from_first is_semicolon text ≡ []) ⊎ (range_of (trim (up_to is_semicolon text)) ≡ Err faults.NoDots)
-RangeTextCause text kinds.CodePoint = range_of (trim (up_to is_semicolon text)) ≡ Err faults.CodePoint
-RangeTextCause text kinds.Weight = (rest : List ℕ) × (from_first is_semicolon text ≡ 59 ∷ rest) × (weight_of (trim rest) ≡ None)
+RangeTextCause text kinds.CodePoint = (from_first is_semicolon text ≢ []) × (range_of (trim (up_to is_semicolon text)) ≡ Err faults.CodePoint)
+RangeTextCause text kinds.Weight = (rest : List ℕ) × (from_first is_semicolon text ≡ 59 ∷ rest) × IsOk (range_of (trim (up_to is_semicolon text)))
+    × (weight_of (trim rest) ≡ None)
 RangeTextCause text _ = ⊥
 
--- why a range may not come after these
+-- the first cause why a range may not come after these is of this kind
 abbrev pub FollowCause : List ImplicitRange → ImplicitRange → FaultKind → Type 0
 FollowCause earlier r kinds.Range = MayFollow earlier r → ⊥
-FollowCause earlier r kinds.Limit = 256 ≤ length earlier
+FollowCause earlier r kinds.Limit = MayFollow earlier r × (256 ≤ length earlier)
 FollowCause earlier r _ = ⊥
 
--- a cause of the kind in what follows `@implicitweights`, after these ranges
+-- the same of both: what follows `@implicitweights`, and its place after these ranges
 abbrev pub RangeCause : List ImplicitRange → List ℕ → FaultKind → Type 0
 RangeCause earlier text kind = RangeTextCause text kind ⊎ ((r : ImplicitRange) × IsRangeText text r × FollowCause earlier r kind)

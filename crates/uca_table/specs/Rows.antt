@@ -21,26 +21,27 @@ pub record IsRow (text : List ℕ) (row : Entry) : Type 0 where
   pub key : IsKey (up_to is_semicolon text) row.key
   pub elements : AreElements rest row.elements
 
--- A cause of the kind in the text of a key: there is no word; after some code points comes another word;
--- or there are more than 16.
+-- The first cause in the text of a key is of this kind: there is no word; after at most 16 code points comes another
+-- word; or there are more than 16.
 abbrev pub KeyCause : List ℕ → FaultKind → Type 0
 KeyCause text kinds.Line = skip_blanks text ≡ []
 KeyCause text kinds.CodePoint = (front : List ℕ) × (rest : List ℕ) × Leads BeginsCodePoint text front rest × (rest ≢ []) × (code_point_of (word_of rest) ≡ None)
+    × (length front ≤ 16)
 KeyCause text kinds.Limit = (front : List ℕ) × (rest : List ℕ) × Leads BeginsCodePoint text front rest × (16 < length front)
 KeyCause text _ = ⊥
 
--- why a row may not come after these
+-- the first cause why a row may not come after these is of this kind
 abbrev pub AddCause : List Entry → Entry → FaultKind → Type 0
 AddCause rows row kinds.DuplicateKey = Contains (keys_of rows) row.key
-AddCause rows row kinds.Limit = 200000 ≤ length rows
+AddCause rows row kinds.Limit = ¬ (Contains (keys_of rows) row.key) × (200000 ≤ length rows)
 AddCause rows row _ = ⊥
 
--- A cause of the kind in the text of a row: in its key; it has no `;`; or in its elements.
+-- The first cause in the text of a row is of this kind: in its key; it has no `;` after a key; or in its elements.
 abbrev pub RowTextCause : List ℕ → FaultKind → Type 0
 RowTextCause text kind = KeyCause (up_to is_semicolon text) kind
-    ⊎ ((from_first is_semicolon text ≡ []) × (kind ≡ kinds.Line))
-    ⊎ ((rest : List ℕ) × (from_first is_semicolon text ≡ 59 ∷ rest) × ElementsCause rest kind)
+    ⊎ ((from_first is_semicolon text ≡ []) × (kind ≡ kinds.Line) × ((key : List ℕ) × IsKey (up_to is_semicolon text) key))
+    ⊎ ((rest : List ℕ) × (from_first is_semicolon text ≡ 59 ∷ rest) × ElementsCause rest kind × ((key : List ℕ) × IsKey (up_to is_semicolon text) key))
 
--- a cause of the kind in the text of a row, or why the row may not come after these
+-- the same of both: the text of a row, and its place after these rows
 abbrev pub RowCause : List Entry → List ℕ → FaultKind → Type 0
 RowCause rows text kind = RowTextCause text kind ⊎ ((row : Entry) × IsRow text row × AddCause rows row kind)

@@ -100,19 +100,19 @@ IsDue b ForSetting = IsSome b.version × (b.setting ≡ None) × (b.ranges ≡ [
 IsDue b ForRange = IsSome b.version × (b.rows ≡ [])
 IsDue b ForRow = IsSome b.version
 
--- a cause of the kind in what a line for a purpose takes
+-- the first cause in what a line for a purpose takes is of this kind
 abbrev pub PurposeCause : TableSoFar → List ℕ → Purpose → FaultKind → Type 0
 PurposeCause b text ForVersion kind = (kind ≡ kinds.Line) × ((name : List ℕ) → IsVersion text name → ⊥)
 PurposeCause b text ForSetting kind = (kind ≡ kinds.Line) × ((setting : Weighting) → IsSetting text setting → ⊥)
 PurposeCause b text ForRange kind = RangeCause b.ranges (after_word text) kind
 PurposeCause b text ForRow kind = RowCause b.rows text kind
 
--- A cause of the kind in the text of a line, after lines that say what is begun. It is an `@` with another
--- word, a line out of order, or a cause in what the line says.
+-- The first cause in the text of a line, after lines that say what is begun, is of this kind. It is an `@` with another
+-- word, a line out of order, or a cause in what the line says where it may come.
 abbrev pub TextCause : TableSoFar → List ℕ → FaultKind → Type 0
 TextCause b text kind = ((kind ≡ kinds.Line) × (begins_at text ≡ true) × ((purpose : Purpose) → Has text purpose → ⊥))
     ⊎ ((kind ≡ kinds.Order) × ((purpose : Purpose) × Has text purpose × (IsDue b purpose → ⊥)))
-    ⊎ ((purpose : Purpose) × Has text purpose × PurposeCause b text purpose kind)
+    ⊎ ((purpose : Purpose) × Has text purpose × IsDue b purpose × PurposeCause b text purpose kind)
 
 abbrev pub Cause : TableSoFar → List ℕ → FaultKind → Type 0
 Cause b line kind = TextCause b (text_of line) kind

@@ -17,7 +17,7 @@ abbrev pub RefusesSpelled : (ℕ → Start) → List ℕ → BookContent → Fau
 RefusesSpelled start text book kind =
     ((kind ≡ kinds.Weight) × ((w : ℕ) → text ≡ digits 4 w → ¬ (IsStart (start w))))
     ⊎ ((kind ≡ kinds.Order) × ((w : ℕ) × (text ≡ digits 4 w) × IsStart (start w) × ¬ (MayFollow book (start w))))
-    ⊎ ((kind ≡ kinds.Limit) × ((w : ℕ) × (text ≡ digits 4 w) × IsStart (start w) × IsFull book (start w)))
+    ⊎ ((kind ≡ kinds.Limit) × ((w : ℕ) × (text ≡ digits 4 w) × IsStart (start w) × MayFollow book (start w) × IsFull book (start w)))
 
 -- after lines that say the old the line may follow, and then they say the new
 abbrev pub Takes : Said → List ℕ → Said → Type 0

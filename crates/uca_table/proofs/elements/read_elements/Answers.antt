@@ -11,7 +11,7 @@ use Rattle.uca_table.proofs.elements.read_elements.Goals as goal
 pub returns-in_default-clause-fault : goal.returns-in_default-clause-fault
 returns-in_default-clause-fault g c =
     inr (weight_cause c.args.text.now c.loop-rest.elements.items c.loop-rest.rest.now c.loop-rest.invariant.leads
-    (sym c.opens.ensures ∙ c.if-not-opens.false) c.in_default.ensures)
+    (sym c.opens.ensures ∙ c.if-not-opens.false) c.in_default.ensures c.loop-rest.invariant.few)
 
 pub returns-then-len-eq-MOST_ELEMENTS-clause-fault : goal.returns-then-len-eq-MOST_ELEMENTS-clause-fault
 returns-then-len-eq-MOST_ELEMENTS-clause-fault g c =
@@ -36,7 +36,7 @@ loop-rest-preserved g c =
 pub returns-then-not-opens-clause-fault : goal.returns-then-not-opens-clause-fault
 returns-then-not-opens-clause-fault g c =
     inr (line_cause c.args.text.now c.loop-rest.elements.items c.loop-rest.rest.now c.loop-rest.invariant.leads c.loop-rest-test.ensures
-    (sym c.opens.ensures ∙ c.if-not-opens.true))
+    (sym c.opens.ensures ∙ c.if-not-opens.true) c.loop-rest.invariant.few)
 
 pub returns-in_err-push-clause-fault : goal.returns-in_err-push-clause-fault
 returns-in_err-push-clause-fault g c = let p = err_from_is_err_and c.from_residual.result c.from_residual.ensures.1 in rw p.1 (inl p.2)

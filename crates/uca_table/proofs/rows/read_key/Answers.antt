@@ -42,6 +42,7 @@ returns-in_default-clause-fault g c =
       c.loop-rest.invariant.leads,
       some_from_test rest _ c.is_empty.ensures c.loop-rest-test.true,
       sym (c.in_default.ensures ∙ ap code_point_of c.cut_word.ensures.word),
+      c.loop-rest.invariant.few,
     )
 
 pub returns-then-is_empty-clause-fault : goal.returns-then-is_empty-clause-fault

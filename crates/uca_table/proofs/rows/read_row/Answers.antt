@@ -5,7 +5,8 @@ use Rattle.uca_table.proofs.rows.read_row.Goals as goal
 
 pub returns-in-Err-clause-fault : goal.returns-in-Err-clause-fault
 returns-in-Err-clause-fault g c =
-    elements_fault c.args.text.now _ _ _ _ c.cut_at.ensures.back c.in-Some.ensures.cases.0 c.in-Err.ensures.fault
+    elements_fault c.args.text.now _ _ _ _ _ _ c.cut_at.ensures.front c.in_ok-key.ensures.found c.cut_at.ensures.back c.in-Some.ensures.cases.0
+    c.in-Err.ensures.fault
 
 pub returns-in-Ok-clause-found : goal.returns-in-Ok-clause-found
 returns-in-Ok-clause-found g c =
@@ -18,4 +19,5 @@ returns-in_err-key-clause-fault g c =
     rw (p.1, p.2) (key_fault c.args.text.now _ _ c.cut_at.ensures.front c.in_err-key.ensures.fault)
 
 pub returns-in_default-clause-fault : goal.returns-in_default-clause-fault
-returns-in_default-clause-fault g c = no_semicolon c.args.text.now _ c.cut_at.ensures.back c.in_default.ensures.cases
+returns-in_default-clause-fault g c =
+    no_semicolon c.args.text.now _ _ _ c.cut_at.ensures.front c.in_ok-key.ensures.found c.cut_at.ensures.back c.in_default.ensures.cases

@@ -15,4 +15,6 @@ returns-clause-ok g c =
     (denied c.is_passed.result c.is_passed.ensures.1 c.if-is_passed.false) c.add.ensures.room c.add.ensures.ok
 
 pub returns-clause-fault : goal.returns-clause-fault
-returns-clause-fault g c = add_fault c.args.self.now c.args.line.now c.in-Some.level c.in-Some.run' c.add.result c.in-Some.ensures c.add.ensures.fault
+returns-clause-fault g c =
+    add_fault c.args.self.now c.args.line.now c.in-Some.level c.in-Some.run' c.add.result c.in-Some.ensures
+    (denied c.is_passed.result c.is_passed.ensures.1 c.if-is_passed.false) c.add.ensures.fault

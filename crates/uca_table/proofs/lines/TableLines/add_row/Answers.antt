@@ -47,8 +47,13 @@ returns-in-Ok-clause-new g c =
 
 pub returns-then-len-ge-MOST_ROWS-clause-fault : goal.returns-then-len-ge-MOST_ROWS-clause-fault
 returns-then-len-ge-MOST_ROWS-clause-fault g c =
+    let rows = ap (λ (b : TableSoFar). b.rows) c.self.view_is in
+    let key = ap (λ (r : Entry). r.key) c.row.view_is in
     let Full : TableSoFar → Type 0 = λ b. 200000 ≤ length b.rows in
-    inr (subst Full c.self.view_is (omega arith))
+    inr (
+      not_contained _ _ _ _ rows key _ (c.self.invariant.keys c.row.inside.key) (sym c.contains.ensures ∙ c.if-contains.false),
+      subst Full c.self.view_is (omega arith),
+    )
 
 pub returns-in-Ok-clause-few : goal.returns-in-Ok-clause-few
 returns-in-Ok-clause-few g c =

@@ -12,17 +12,21 @@ use Rattle.uca_table.proofs.lines.TableLines.take_range.Goals as goal
 pub returns-in_err-range-clause-fault : goal.returns-in_err-range-clause-fault
 returns-in_err-range-clause-fault g c =
     let p = err_from_is_err_and c.from_residual.result c.from_residual.ensures.1 in
-    rw (p.1, p.2) (range_text_fault c.args.self.now c.args.text.now _ _ c.requires c.cut_word.ensures.rest c.in_err-range.ensures.fault)
+    rw (p.1, p.2) (range_text_fault c.args.self.now c.args.text.now _ _ (c.is_range_due.ensures.0 c.if-not-is_range_due.false) c.requires
+    c.cut_word.ensures.rest c.in_err-range.ensures.fault)
 
 pub returns-then-not-may_follow-clause-fault : goal.returns-then-not-may_follow-clause-fault
 returns-then-not-may_follow-clause-fault g c =
-    range_follow_fault c.args.self.now _ c.args.text.now _ c.in_ok-range.range _ _ c.self.view_is c.requires c.cut_word.ensures.rest
+    range_follow_fault c.args.self.now _ c.args.text.now _ c.in_ok-range.range _ _ c.self.view_is
+    (c.is_range_due.ensures.0 c.if-not-is_range_due.false) c.requires c.cut_word.ensures.rest
     c.in_ok-range.ensures.found c.as_slice.ensures.value c.may_follow.ensures c.if-not-may_follow.true
 
 pub returns-then-len-ge-MOST_IMPLICIT_RANGES-clause-fault : goal.returns-then-len-ge-MOST_IMPLICIT_RANGES-clause-fault
 returns-then-len-ge-MOST_IMPLICIT_RANGES-clause-fault g c =
-    range_limit_fault c.args.self.now _ c.args.text.now _ c.in_ok-range.range c.self.view_is c.requires c.cut_word.ensures.rest
-    c.in_ok-range.ensures.found (omega arith)
+    range_limit_fault c.args.self.now _ c.args.text.now _ c.in_ok-range.range c.self.view_is
+    (c.is_range_due.ensures.0 c.if-not-is_range_due.false) c.requires c.cut_word.ensures.rest c.in_ok-range.ensures.found
+    (subst (λ (rs : List ImplicitRange). MayFollow rs c.in_ok-range.range) c.as_slice.ensures.value (c.may_follow.ensures.0 c.if-not-may_follow.false))
+    (omega arith)
 
 pub invariant_of-self-2 : goal.invariant_of-self-2
 invariant_of-self-2 g c =

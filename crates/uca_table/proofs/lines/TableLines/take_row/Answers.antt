@@ -26,10 +26,12 @@ returns-clause-ok g c =
 pub returns-clause-fault : goal.returns-clause-fault
 returns-clause-fault g c =
     subst (λ b. IfErr c.add_row-added.result (λ kind. (kind ≡ kinds.Memory) ⊎ TextCause b c.args.text.now kind)) c.self.view_is
-    (row_add_fault _ c.args.text.now c.in_ok-row.row c.add_row-added.result c.requires.some c.requires.row c.in_ok-row.ensures.found
+    (row_add_fault _ c.args.text.now c.in_ok-row.row c.add_row-added.result
+    (has_some _ c.self.inside.version _ c.is_none.ensures c.if-is_none.false) c.requires.some c.requires.row c.in_ok-row.ensures.found
     c.add_row-added.ensures.fault)
 
 pub returns-in_err-row-clause-fault : goal.returns-in_err-row-clause-fault
 returns-in_err-row-clause-fault g c =
     let p = err_from_is_err_and c.from_residual.result c.from_residual.ensures.1 in
-    rw (p.1, p.2) (row_text_fault c.args.self.now c.args.text.now _ c.requires.some c.requires.row c.in_err-row.ensures.fault)
+    rw (p.1, p.2) (row_text_fault c.args.self.now _ c.args.text.now _ c.self.view_is
+    (has_some _ c.self.inside.version _ c.is_none.ensures c.if-is_none.false) c.requires.some c.requires.row c.in_err-row.ensures.fault)

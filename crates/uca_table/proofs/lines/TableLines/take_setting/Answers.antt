@@ -9,7 +9,8 @@ returns-then-not-is_setting_due-clause-fault g c =
 
 pub returns-in_default-clause-fault : goal.returns-in_default-clause-fault
 returns-in_default-clause-fault g c =
-    setting_fault c.args.self.now c.args.text.now c.argument.result.now c.requires c.argument.ensures c.in_default.ensures
+    setting_fault c.args.self.now c.args.text.now c.argument.result.now (c.is_setting_due.ensures.0 c.if-not-is_setting_due.false) c.requires
+    c.argument.ensures c.in_default.ensures
 
 pub invariant_of-self : goal.invariant_of-self
 invariant_of-self g c =
