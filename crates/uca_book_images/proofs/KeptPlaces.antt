@@ -1,5 +1,5 @@
 -- Weights keep their place in the image of a book, if their offsets stay.
-use Rattle.std.proofs.Common.{◌≡◌, ◌⊎◌, inl, inr, ℕ, suc, ◌-◌, ◌/◌, ◌%◌, ◌<◌, ◌≤◌, List, [], ◌∷◌, Bool, true, false, cond, length, max, nat_le, nat_lt, unwrap_or, Option, refl, ap, sym, ◌∙◌, arith}
+use Rattle.std.proofs.Common.{◌≡◌, ◌⊎◌, inl, inr, ℕ, zero, suc, ◌-◌, ◌/◌, ◌%◌, ◌<◌, ◌≤◌, List, [], ◌∷◌, Bool, true, false, cond, length, map, max, nat_le, nat_lt, unwrap_or, Option, Some, None, refl, ap, sym, subst, ◌∙◌, arith}
 use Rattle.std.specs.List.{AllByRecursion}
 use Rattle.std.specs.Ordering.{nat_cmp}
 use Rattle.std.specs.declared.cmp.Ordering.TheVariants.{Less, Greater}
@@ -15,7 +15,7 @@ use Rattle.uca_compact.proofs.OnlyCells.{same_some}
 use Rattle.uca_tailorings.specs.Moves.{AreSent}
 use Rattle.uca_book_images.specs.BookImages.{last_image, start_image, starts_image}
 use Rattle.uca_book_images.specs.KeptKeys.{cell_by, KeepsPlace}
-use Rattle.uca_book_images.specs.KeptPlaces.{StartsBecomeTheirImages, cell_start, cell_end, RisingMapsKeepPlaces}
+use Rattle.uca_book_images.specs.KeptPlaces.{StartsBecomeTheirImages, cell_start, cell_end, KeepsOffset, RisingMapsKeepPlaces}
 
 -- ---- Starts that have images
 
@@ -81,13 +81,57 @@ test_sent images rising w x s y sent started = elim (cases_lt w s) [
         let one : y ≡ x = same_some y x (sym started ∙ ap images (sym same) ∙ sent) in
         omega arith
 
+-- the image of a weight below a start is not above the last image below the start
+image_below : (images : WeightImages) → IsRisingMap One images → (w x n : ℕ) → Sends images w x → w < n → x ≤ last_image images n
+image_below images rising w x zero sent less = absurd (omega arith)
+image_below images rising w x (suc m) sent less = elim (cases_lt w m) [
+  | inl before ↦ by (images m) refl before
+  | inr last ↦
+      let same : w ≡ m = omega arith in
+      let own : images m ≡ Some x = ap images (sym same) ∙ sent in
+      let is : unwrap_or (images m) (last_image images m) ≡ x = ap (λ (o : Option ℕ). unwrap_or o (last_image images m)) own in
+      omega (arith, is)
+]
+  where
+    by : (o : Option ℕ) → images m ≡ o → w < m → x ≤ unwrap_or o (last_image images m)
+    by None none before = image_below images rising w x m sent before
+    by (Some y) found before = let up = rising.rising w m x y sent found before in omega (arith, up)
+
+-- and that of a weight from the start on is above it
+image_above : (images : WeightImages) → IsRisingMap One images → (w x n : ℕ) → 0 < x → Sends images w x → n ≤ w → last_image images n < x
+image_above images rising w x zero some sent more = some
+image_above images rising w x (suc m) some sent more = by (images m) refl
+  where
+    by : (o : Option ℕ) → images m ≡ o → unwrap_or o (last_image images m) < x
+    by None none = image_above images rising w x m some sent (omega arith)
+    by (Some y) found = rising.rising m w y x found sent (omega arith)
+
+-- so it is with what a start becomes
+test_start : (images : WeightImages) → IsRisingMap One images → (w x s : ℕ) → 0 < x → Sends images w x → nat_lt w s ≡ nat_lt x (start_image images s)
+test_start images rising w x s some sent = by (images s) refl
+  where
+    by : (o : Option ℕ) → images s ≡ o → nat_lt w s ≡ nat_lt x (unwrap_or o (suc (last_image images s)))
+    by (Some y) found = test_sent images rising w x s y sent found
+    by None none = elim (cases_lt w s) [
+      | inl less ↦
+          let below : x ≤ last_image images s = image_below images rising w x s sent less in
+          let one : nat_lt w s ≡ true = grind (arith, nat_tests) in
+          let two : nat_lt x (suc (last_image images s)) ≡ true = grind (arith, nat_tests) in
+          one ∙ sym two
+      | inr more ↦
+          let above : last_image images s < x = image_above images rising w x s some sent more in
+          let one : nat_lt w s ≡ false = grind (arith, nat_tests) in
+          let two : nat_lt x (suc (last_image images s)) ≡ false = grind (arith, nat_tests) in
+          one ∙ sym two
+    ]
+
 -- the offsets of a weight and of a new one in their cells are one, and have as many bytes
 record HasOffset (w x start end new_start new_end : ℕ) : Type 0 where
   offset : w - start ≡ x - new_start
   bytes : length (offset_bytes (end - start) 0) ≡ length (offset_bytes (new_end - new_start) 0)
 
 -- cells from one on
-module _ (images : WeightImages) (rising : IsRisingMap One images) (w x : ℕ) (sent : Sends images w x) where
+module _ (images : WeightImages) (rising : IsRisingMap One images) (w x : ℕ) (some : 0 < x) (sent : Sends images w x) where
   -- the first cell
   here : (number start end new_start new_end : ℕ) → HasOffset w x start end new_start new_end
       → number ∷ offset_bytes (end - start) (w - start) ≡ number ∷ offset_bytes (new_end - new_start) (x - new_start)
@@ -96,16 +140,20 @@ module _ (images : WeightImages) (rising : IsRisingMap One images) (w x : ℕ) (
       ∙ ap (λ (ys : List ℕ). number ∷ ys) (offset_kept (end - start) (new_end - new_start) (x - new_start) h.bytes)
 
   -- any cell
-  cell_sent : (number start new_start : ℕ) (later new_later : List ℕ) (end new_end : ℕ) → AreSent images later new_later
-      → HasOffset w x (cell_start start later w) (cell_end later end w) (cell_start new_start new_later x) (cell_end new_later new_end x)
-      → cell number start later end w ≡ cell number new_start new_later new_end x
-  cell_sent number start new_start [] [] end new_end starts h = here number start end new_start new_end h
-  cell_sent number start new_start [] (y ∷ new_later) end new_end starts h = absurd starts
-  cell_sent number start new_start (s ∷ later) [] end new_end starts h = absurd starts
-  cell_sent number start new_start (s ∷ later) (y ∷ new_later) end new_end starts h =
-      by (nat_lt w s) (nat_lt x y) (test_sent images rising w x s y sent starts.0)
-      (λ more. cell_sent (suc number) s y later new_later end new_end starts.1 more) h
+  cell_sent : (number start new_start : ℕ) (later : List ℕ) (end new_end : ℕ)
+      → HasOffset w x (cell_start start later w) (cell_end later end w) (cell_start new_start (map (start_image images) later) x) (cell_end (map (start_image images) later) new_end x)
+      → cell number start later end w ≡ cell number new_start (map (start_image images) later) new_end x
+  cell_sent number start new_start [] end new_end h = here number start end new_start new_end h
+  cell_sent number start new_start (s ∷ later) end new_end h =
+      by (nat_lt w s) (nat_lt x (start_image images s)) (test_start images rising w x s some sent)
+      (λ more. cell_sent (suc number) s (start_image images s) later end new_end more) h
     where
+      abbrev y : ℕ
+      y = start_image images s
+
+      abbrev new_later : List ℕ
+      new_later = map (start_image images) later
+
       by : (t u : Bool) → t ≡ u
           → (HasOffset w x (cell_start s later w) (cell_end later end w) (cell_start y new_later x) (cell_end new_later new_end x)
           → cell (suc number) s later end w ≡ cell (suc number) y new_later new_end x)
@@ -143,13 +191,20 @@ rising_maps_keep_places images book new_book rising =
     record {
       letters = λ starts later w x some sent offset.
           let above : 0 < x = rising.rising 0 w 0 x rising.zero sent some in
+          let kept : KeepsOffset 0x1_0000 book.letters (map (start_image images) book.letters) w x =
+          subst (λ (l : List ℕ). KeepsOffset 0x1_0000 book.letters l w x) starts offset in
           greater_place (letters_form book later) (letters_form new_book later) w x (above_none w some) (above_none x above)
-          (cell_sent images rising w x sent (first_cell (letters_form book later)) 1 1 book.letters new_book.letters 65536 65536 starts
-          (record { offset = offset.offset; bytes = offset.bytes }));
-      variables = λ starts later w x less sent offset.
+          (cell_sent images rising w x above sent (first_cell (letters_form book later)) 1 1 book.letters 65536 65536
+          (record { offset = kept.offset; bytes = kept.bytes })
+          ∙ ap (λ (l : List ℕ). cell (first_cell (letters_form book later)) 1 l 65536 x) (sym starts));
+      variables = λ starts later w x some less sent offset.
           let stays : Sends images 0xFFFF 0xFFFF = rising.fixed.0 0xFFFF (omega arith) (omega arith) in
+          let above : 0 < x = rising.rising 0 w 0 x rising.zero sent some in
           let below : x < 0xFFFF = rising.rising w 0xFFFF x 0xFFFF sent stays less in
+          let kept : KeepsOffset 0xFFFF book.variables (map (start_image images) book.variables) w x =
+          subst (λ (l : List ℕ). KeepsOffset 0xFFFF book.variables l w x) starts offset in
           lesser_place (variables_form book later) (variables_form new_book later) w x (below_common w less) (below_common x below)
-          (cell_sent images rising w x sent 0 1 1 book.variables new_book.variables 0xFFFF 0xFFFF starts
-          (record { offset = offset.offset; bytes = offset.bytes }));
+          (cell_sent images rising w x above sent 0 1 1 book.variables 0xFFFF 0xFFFF
+          (record { offset = kept.offset; bytes = kept.bytes })
+          ∙ ap (λ (l : List ℕ). cell 0 1 l 0xFFFF x) (sym starts));
     }

@@ -2,3 +2,4 @@ pub mod BookImages
 pub mod KeptKeys
 pub mod KeptPlaces
 pub mod MovedKeys
+pub mod KeptBooks

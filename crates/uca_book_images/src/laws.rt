@@ -1,6 +1,6 @@
 //! What is true of the images of all books, and of all keys. The functions do nothing: their contracts are the laws.
 
-ghost use Rattle.uca_book_images.specs.Laws.{ImagesAreBooks, KeptKeysStay, MovedKeysStay};
+ghost use Rattle.uca_book_images.specs.Laws.{BooksKeepCompactKeys, ImagesAreBooks, KeptKeysStay, MovedKeysStay};
 ghost use Rattle.uca_book_images.specs.KeptPlaces.{StartsBecomeTheirImages, RisingMapsKeepPlaces};
 ghost use Rattle.uca_book_images.specs.Worked.{WorkedImages};
 
@@ -14,8 +14,9 @@ pub fn starts_become_their_images()
     ensures { StartsBecomeTheirImages }
 {}
 
-/// If each start becomes its image under a rising map, a weight and its image are in cells of one number. So the weight
-/// keeps its place, if it is as far from the start of its cell, and as many bytes say so.
+/// Each start becomes its image under a rising map, or the weight after the last image below it. Then a weight and its
+/// image are in cells of one number. So the weight keeps its place, if it is as far from the start of its cell, and as many
+/// bytes say so.
 pub fn rising_maps_keep_places()
     ensures { RisingMapsKeepPlaces }
 {}
@@ -30,6 +31,13 @@ pub fn kept_keys_stay()
 /// weights keeps its place.
 pub fn moved_keys_stay()
     ensures { MovedKeysStay }
+{}
+
+/// A book becomes its image, and a stored key is put through the same rising maps, as `uca book` and `uca rekey` do. No start
+/// of the book is pushed up or left out. The weights of the key keep their offsets in their cells, and those of levels 2
+/// and 3 stay. Then `uca compact` makes of the new key by the new book what it made of the old key by the old book.
+pub fn books_keep_compact_keys()
+    ensures { BooksKeepCompactKeys }
 {}
 
 /// The definitions give some images that were worked out by hand, and a key that stays.

@@ -5,13 +5,12 @@ use Rattle.std.proofs.lemmas.Str.{scalars-chars}
 use Rattle.uca_weights.specs.declared.Settings.{Settings}
 use Rattle.uca_scalars.proofs.NfdScalars.{normal_scalars}
 use Rattle.uca_order.specs.Depths.{ReadText}
-use Rattle.uca_order.specs.Keyings.{Keying, key_of_bytes}
+use Rattle.uca_order.specs.Keyings.{Keying, key_of_bytes, read_of}
 use Rattle.uca_books.specs.Books.{BookContent}
 use Rattle.uca_compact.specs.CompactKeys.{KeyParts, text_parts, compact_key}
 use Rattle.uca_compact.specs.StoredParts.{stored_parts}
 use Rattle.uca_compact.proofs.OnlyCells.{AreBytes, nothing, same_some}
 use Rattle.uca_compact.proofs.TextKeys.{parts_of_bytes, text_is_read}
-use Rattle.uca_c.specs.OpenCollators.{text_of}
 use Rattle.uca_c.specs.inside.TextKeys.{IsKeyOf}
 
 -- its parts are read
@@ -33,5 +32,5 @@ found_text s b t key made found are is h =
     found_by (compact_key s.depth s.weighting b) (stored_parts s.depth s.weighting key) (text_parts s.depth s.weighting t) made found (parts_are_read s t key are is) h
 
 -- the key of bytes that are UTF-8 is such a key
-pub bytes_key : (k : Keying) (bytes key : List ℕ) → IsUtf8 bytes → key ≡ key_of_bytes k bytes → IsKeyOf k.settings (text_of k bytes) key
+pub bytes_key : (k : Keying) (bytes key : List ℕ) → IsUtf8 bytes → key ≡ key_of_bytes k bytes → IsKeyOf k.settings (read_of k bytes) key
 bytes_key k bytes key utf8 is = record { scalars = normal_scalars (chars bytes) (scalars-chars bytes utf8); is = is }

@@ -4,14 +4,15 @@ use Rattle.uca_weights.specs.declared.Depth.{Depth}
 use Rattle.uca_weights.specs.declared.Depth.TheVariants.{Weights, Identical}
 use Rattle.uca_weights.specs.declared.Weighting.{Weighting}
 use Rattle.uca_order.specs.Depths.{ReadText, key_at}
-use Rattle.uca_order.specs.Keyings.{Keying, key_of_bytes}
+use Rattle.uca_order.specs.Keyings.{Keying, key_of_bytes, read_of}
 use Rattle.uca_books.specs.Books.{BookContent}
 use Rattle.uca_compact.specs.CompactKeys.{stored_key, text_parts}
 use Rattle.uca_compact.specs.Programs.{CompacterState}
 use Rattle.uca_compact.proofs.Lengths.{compact_is_short}
 use Rattle.uca_owned.specs.Bounds.{BoundsKeys, key_bound}
 use Rattle.uca_owned.specs.Owned.{OwnedState, keying_in}
-use Rattle.uca_c.specs.OpenCollators.{OpenState, keying_at, key_by, parts_of, text_of}
+use Rattle.uca_compact.specs.CompactTexts.{parts_of}
+use Rattle.uca_c.specs.OpenCollators.{OpenState, keying_at, key_by}
 use Rattle.uca_c.specs.TextCalls.{bound_by}
 
 -- the parts of the key of a text are its key
@@ -24,7 +25,7 @@ bounded : (k : Keying) (book : Option BookContent) (count : ℕ) → BoundsKeys 
 bounded k None count bounds text fits utf8 = bounds text fits utf8
 bounded k (Some b) count bounds text fits utf8 =
     let same : length (stored_key k.settings.depth (parts_of k text)) ≡ length (key_of_bytes k text) =
-    ap length (same_key k.settings.depth k.settings.weighting (text_of k text)) in
+    ap length (same_key k.settings.depth k.settings.weighting (read_of k text)) in
     omega (arith, bounds text fits utf8, same, compact_is_short k.settings.depth k.settings.weighting b (parts_of k text))
 
 -- so it is where the parts of a collator are seen

@@ -18,7 +18,8 @@ use Rattle.uca_compact.proofs.WeightBytes.{levels_are}
 use Rattle.uca_key_writer.specs.declared.key_levels.KeyLevels.{KeyLevels}
 use Rattle.uca_key_writer.specs.KeyLevels.{AreLevelsOf, levels_in}
 use Rattle.uca_owned.specs.Owned.{OwnedState, keying_in}
-use Rattle.uca_c.specs.OpenCollators.{key_by, text_of}
+use Rattle.uca_order.specs.Keyings.{read_of}
+use Rattle.uca_c.specs.OpenCollators.{key_by}
 
 -- the levels as they are handed over
 abbrev pub handed_over : KeyLevels → LevelBytes
@@ -46,11 +47,11 @@ bytes_of_weights s settings es l same are =
 
 -- the compact key of a text with these levels
 pub key_of_levels : (c : OwnedState) (m : CompacterState) (text key : List ℕ) (l : KeyLevels) → m.settings ≡ c.settings → c.settings.depth ≡ Weights
-    → AreLevelsOf c.settings.weighting (text_of (keying_in c) text).elements (levels_in l)
+    → AreLevelsOf c.settings.weighting (read_of (keying_in c) text).elements (levels_in l)
     → key ≡ compact plain_level (forms_of m.settings.weighting m.book) (read_of m.settings.weighting l)
     → key ≡ key_by (keying_in c) (Some m.book) text
 key_of_levels c m text key l same at are made =
-    let t = text_of (keying_in c) text in
+    let t = read_of (keying_in c) text in
     let weighting = c.settings.weighting in
     made ∙ ap (λ (s : Settings). compact plain_level (forms_of s.weighting m.book) (read_of s.weighting l)) same
     ∙ ap (compact plain_level (forms_of weighting m.book)) (are_weights weighting t.elements l are).1

@@ -3,7 +3,7 @@ use Rattle.std.specs.Prelude.{◌≡◌, ◌⊎◌, ℕ, List, [], ◌∷◌, Op
 use Rattle.uca_weights.specs.declared.Weighting.{Weighting}
 use Rattle.uca_order.specs.Levels.{weighted, level_list}
 use Rattle.uca_order.specs.Depths.{ReadText}
-use Rattle.uca_order.specs.Keyings.{Keying}
+use Rattle.uca_order.specs.Keyings.{Keying, read_of}
 use Rattle.uca_books.specs.Books.{BookContent}
 use Rattle.uca_lookups.specs.Ranges.{levels_low, levels_high, letters_low, letters_high}
 use Rattle.uca_lookups.specs.Ranges.{compact_levels_low, compact_levels_high, compact_letters_low, compact_letters_high}
@@ -12,7 +12,6 @@ use Rattle.uca_c.specs.declared.numbers.RangeOf.TheVariants.{SameLetters, SameAc
 use Rattle.uca_c.specs.declared.numbers.End.{End}
 use Rattle.uca_c.specs.declared.numbers.End.TheVariants.{Low, High}
 use Rattle.uca_c.specs.Numbers.{range_of, end_of}
-use Rattle.uca_c.specs.OpenCollators.{text_of}
 
 -- level 1 of a text
 abbrev pub letters_in : Weighting → ReadText → List ℕ
@@ -57,4 +56,4 @@ AsksNoEnd range side = (range_of range ≡ None) ⊎ (end_of side ≡ None)
 -- the bytes are the end that the numbers ask for, by this text
 abbrev pub IsEndOf : Keying → Option BookContent → (range side : ℕ) → (text bytes : List ℕ) → Type 0
 IsEndOf k book range side text bytes =
-    (r : RangeOf) × (e : End) × AsksEnd range side r e × (bytes ≡ end_by book r e k.settings.weighting (text_of k text))
+    (r : RangeOf) × (e : End) × AsksEnd range side r e × (bytes ≡ end_by book r e k.settings.weighting (read_of k text))

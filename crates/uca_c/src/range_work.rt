@@ -4,7 +4,8 @@ ghost use Rattle.std.specs.Prelude.{◌≡◌, ◌≢◌, ◌↔◌, IfSome, IfO
 ghost use Rattle.uca_order.specs.Depths.{ReadText};
 ghost use Rattle.uca_compact.specs.Forms.{AreWeights};
 ghost use Rattle.uca_c.specs.CompactCalls.{IsOneTooSmall, WritesOne};
-ghost use Rattle.uca_c.specs.OpenCollators.{keying_at, text_of};
+ghost use Rattle.uca_order.specs.Keyings.{read_of};
+ghost use Rattle.uca_c.specs.OpenCollators.{keying_at};
 ghost use Rattle.uca_c.specs.declared.numbers.End.{End};
 ghost use Rattle.uca_c.specs.declared.numbers.RangeOf.{RangeOf};
 ghost use Rattle.uca_c.specs.RangeCalls.{letters_in, whole_end, compact_end, end_by, AsksNoEnd, IsEndOf};
@@ -173,7 +174,7 @@ fn last_end(
 
 // Makes the key of a text.
 fn make_key(collator: &mut OpenCollator, text: &[u8]) -> Result<(), u32>
-    ensures key { OnOk result (IsKeyOf (keying_at collator.old).settings (text_of (keying_at collator.old) text.now) (key_in collator.new.collator)) }
+    ensures key { OnOk result (IsKeyOf (keying_at collator.old).settings (read_of (keying_at collator.old) text.now) (key_in collator.new.collator)) }
     ensures accepted { OnOk result (IsAcceptedBy (keying_at collator.old) text.now) }
     ensures rejected { let k = keying_at collator.old in
         IfErr result (IsErrorStatus (IsKeyCause k.settings.numbers k.collation.properties text.now) key_status) }

@@ -26,7 +26,8 @@ use Rattle.uca_tailorings.proofs.Images.{images-append}
 use Rattle.uca_tailorings.proofs.ImplicitImages.{own_implicit}
 use Rattle.uca_tailorings.proofs.RowConditions.{kept_at_key}
 use Rattle.uca_tailorings.proofs.Parts.{each_of_both}
-use Rattle.uca_tailorings.proofs.UntouchedTexts.{letters_occur, images_compare}
+use Rattle.uca_text.proofs.Texts.{letters_occur}
+use Rattle.uca_tailorings.proofs.UntouchedTexts.{images_compare}
 use Rattle.uca_tailorings.proofs.AgreeingReadings.{same_reading}
 use Rattle.uca_tailorings.proofs.Moves.{images_move, kept_is_new}
 use Rattle.uca_changes.specs.Changes.{Change, IsChange, old_reading, new_reading, old_weighting, new_weighting, new_settings, IsChangedText, IsChangedPoint, IsUnaffected, IsAcceptedChange}

@@ -8,6 +8,7 @@ pub mod PointOrder
 pub mod Forms
 pub mod TextOrder
 pub mod TextKeys
+pub mod CompactTexts
 pub mod OnlyCells
 pub mod OnlyLevels
 pub mod OnlyKeys

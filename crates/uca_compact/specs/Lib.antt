@@ -1,6 +1,7 @@
 pub mod Forms
 pub mod PlainLevels
 pub mod CompactKeys
+pub mod CompactTexts
 pub mod Programs
 pub mod StoredParts
 pub mod WorkedKeys

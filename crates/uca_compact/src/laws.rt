@@ -1,7 +1,7 @@
 //! What is true of the compact keys of all texts. The functions do nothing: their contracts are the laws.
 
 ghost use Rattle.uca_compact.specs.Laws.{CompactLevelsKeepOrder, EachCompactKeyIsOfOneKey, NoCompactKeyBeginsAnother};
-ghost use Rattle.uca_compact.specs.Laws.{StoredKeysAreRead, OnlyStoredKeysAreRead, CompactKeysKeepOrder};
+ghost use Rattle.uca_compact.specs.Laws.{StoredKeysAreRead, OnlyStoredKeysAreRead, CompactKeysKeepOrder, CompactKeysAreShort, CompactKeysCompareAsTexts};
 ghost use Rattle.uca_compact.specs.WorkedKeys.{WorkedKeys};
 ghost use Rattle.uca_compact.specs.WorkedReadings.{WorkedReadings};
 
@@ -30,8 +30,19 @@ pub fn only_stored_keys_are_read()
     ensures { OnlyStoredKeysAreRead }
 {}
 
-/// Byte order of the compact keys of texts is that of their keys, and so the order of the texts. Compact keys are equal
-/// exactly if the keys are.
+/// A compact key has at most one byte more than two keys have.
+pub fn compact_keys_are_short()
+    ensures { CompactKeysAreShort }
+{}
+
+/// Under each table the compact keys of texts, by one book, compare byte by byte as the texts do level by level. They are
+/// equal exactly if no level differs. The texts are bytes of UTF-8: lines, or texts that C hands over.
+pub fn compact_keys_compare_as_texts()
+    ensures { CompactKeysCompareAsTexts }
+{}
+
+/// The same of all texts whose elements have weights of 16 bits: byte order of the compact keys is that of the keys, and
+/// compact keys are equal exactly if the keys are.
 pub fn compact_keys_keep_order()
     ensures { CompactKeysKeepOrder }
 {}

@@ -10,5 +10,7 @@ pub mod Parts
 pub mod CutReading
 pub mod RelatedReading
 pub mod RowsByKey
+pub mod ReadingEach
+pub mod Collations
 pub mod Prefixes
 pub mod Leaves

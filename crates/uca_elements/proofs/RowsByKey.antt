@@ -3,7 +3,9 @@ use Rattle.std.proofs.Common.{◌≡◌, ℕ, zero, suc, ◌<◌, List, [], ◌�
 use Rattle.std.proofs.Common.{is_some, sym, ap, ap₂, subst, refl, ◌∙◌, arith}
 use Rattle.std.proofs.lemmas.Bool.{and_parts, and_from, eqb-true, eq-eqb, cond_both, cond-true, cond-false, false≢true, false_from_ne_true}
 use Rattle.std.proofs.lemmas.List.{length-map, get_or-map}
+use Rattle.std.specs.List.{AllByRecursion}
 use Rattle.uca_weights.specs.declared.Element.{Element}
+use Rattle.uca_weights.proofs.Lists.{each_contained}
 use Rattle.uca_values.specs.Content.{Entry, keys_of, AreDistinct}
 use Rattle.uca_elements.specs.Rows.{IsKey, same_key, rows_of}
 use Rattle.uca_elements.proofs.ReadingLemmas.{some_row}
@@ -48,7 +50,12 @@ row_of_found (r ∷ table) key elements at_key =
     (λ other found. Contains-later r here table (row_of_found table key elements found))
     at_key
 
--- and where keys are distinct, a row is found at its key
+-- what is true of each row is true of the one that is found at a key
+pub at_row : (P : Entry → Type 0) (table : List Entry) (key : List ℕ) (row : List Element) → AllByRecursion P table →
+    rows_of table key ≡ Some row → P (record { key = key; elements = row })
+at_row P table key row all found = each_contained P table (record { key = key; elements = row }) all (row_of_found table key row found)
+
+-- where keys are distinct, a row is found at its key
 pub found_of_row : (table : List Entry) → AreDistinct table → (row : Entry) → Contains table row → rows_of table row.key ≡ Some row.elements
 found_of_row [] distinct row h = absurd (omega (arith, h.1))
 found_of_row (r ∷ table) distinct row h =

@@ -8,7 +8,7 @@ use Rattle.std.specs.List.{list_all, AllByRecursion}
 use Rattle.std.specs.Str.{IsUtf8, is_utf8}
 use lib.Utf8.{scalar}
 use Rattle.unicode_normalization.specs.Forms.{nfd}
-use Rattle.uca_scalars.proofs.NfdScalars.{nfd_scalars}
+use Rattle.uca_scalars.proofs.NfdScalars.{each_nfd_scalar}
 use Rattle.uca_weights.specs.declared.Numbers.{Numbers}
 use Rattle.uca_values.specs.Content.{Properties}
 use Rattle.uca_text.specs.Texts.{NfdText}
@@ -17,11 +17,7 @@ use Rattle.uca_text.specs.Limits.{IsNormal}
 use Rattle.uca_run_parts.specs.declared.faults.InputKind.TheVariants.{Utf8, TooLong, LongRun, Limit}
 use Rattle.uca_run_parts.specs.Input.{first_long_run, text_cause, cause_of, line_text}
 use Rattle.uca_run_parts.proofs.LongRuns.{none_is_long}
-use Rattle.uca_run_parts.proofs.WrittenScalars.{written_scalars}
-
-each_scalar : (points : List ℕ) → list_all scalar points ≡ true → AllByRecursion IsScalar points
-each_scalar [] all = tt
-each_scalar (c ∷ points) all = let parts = and_parts (scalar c) (list_all scalar points) all in (parts.0, each_scalar points parts.1)
+use Rattle.uca_order.proofs.WrittenScalars.{written_scalars}
 
 -- ---- A line without an error
 
@@ -37,7 +33,7 @@ without read_of before line false false true a b c none = (IsUtf8-from_is_utf8 l
 pub line_scalars : (read_of : List ℕ → NfdText) (before : ℕ) (line : List ℕ) → cause_of read_of before line ≡ None → AllByRecursion IsScalar (nfd (chars line))
 line_scalars read_of before line none =
     let parts = without read_of before line _ _ _ refl refl refl none in
-    each_scalar (nfd (chars line)) (nfd_scalars (chars line) (scalars-chars line parts.0))
+    each_nfd_scalar (chars line) (scalars-chars line parts.0)
 
 -- and the test of its text
 within : (text : NfdText) (long : Bool) → nat_lt 1048576 (length text.points) ≡ long → text_cause text ≡ None →
@@ -62,5 +58,5 @@ normal_line numbers properties before line none =
         few = limits.0;
         short_runs = none_is_long (line_text numbers properties line).classes limits.1;
       };
-      scalars = each_scalar (nfd points) (nfd_scalars points (written_scalars numbers (chars line) (scalars-chars line parts.0)));
+      scalars = each_nfd_scalar points (written_scalars numbers (chars line) (scalars-chars line parts.0));
     }

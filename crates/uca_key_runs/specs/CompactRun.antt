@@ -1,12 +1,11 @@
 -- What the runs return and write that print compact keys: alone, or each before its line, and with or without a header.
-use Rattle.std.specs.Prelude.{ℕ, List, [], ◌∷◌, Result, chars}
+use Rattle.std.specs.Prelude.{ℕ, List, [], ◌∷◌, Result}
 use Rattle.uca_weights.specs.declared.Asked.{Asked}
 use Rattle.uca_weights.specs.Streams.{SourceState, SinkState}
 use Rattle.uca_values.specs.Content.{Properties, TableContent}
 use Rattle.uca_books.specs.Books.{BookContent}
-use Rattle.uca_order.specs.Depths.{read_points}
 use Rattle.uca_order.specs.Keyings.{Keying}
-use Rattle.uca_compact.specs.CompactKeys.{compact_key, text_parts}
+use Rattle.uca_compact.specs.CompactTexts.{compact_of_bytes}
 use Rattle.uca_run_parts.specs.declared.faults.Role.{Role}
 use Rattle.uca_run_parts.specs.declared.faults.Role.TheVariants as roles
 use Rattle.uca_run_parts.specs.declared.faults.RunFault.{RunFault}
@@ -17,13 +16,7 @@ use Rattle.uca_key_runs.specs.KeysRun.{RunsUnder}
 
 -- ---- Lines
 
--- The compact key of a text that is given as bytes of UTF-8: that of the parts of its key.
-abbrev pub compact_of_bytes : BookContent → Keying → List ℕ → List ℕ
-compact_of_bytes book c bytes =
-    let text = read_points c.collation c.settings.numbers (chars bytes) in
-    compact_key c.settings.depth c.settings.weighting book (text_parts c.settings.depth c.settings.weighting text)
-
--- that of a line as a line of output
+-- the compact key of a line as a line of output
 abbrev pub compact_line : BookContent → Keying → List ℕ → List ℕ
 compact_line book c line = digits_line_of (compact_of_bytes book c line)
 

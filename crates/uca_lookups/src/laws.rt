@@ -1,6 +1,6 @@
 //! What is true of all ranges. The functions do nothing: their contracts are the laws.
 
-ghost use Rattle.uca_lookups.specs.Laws.{StoredKeysByLevels, StoredKeysByLetters, CompactKeysByLevels, CompactKeysByLetters, StoredLowEndsTellLevels, CompactLowEndsTellLevels, TextsHaveParts};
+ghost use Rattle.uca_lookups.specs.Laws.{StoredKeysByLevels, StoredKeysByLetters, CompactKeysByLevels, CompactKeysByLetters, StoredLowEndsTellLevels, CompactLowEndsTellLevels, TextsHaveParts, RangesFindTexts};
 ghost use Rattle.uca_lookups.specs.WorkedRanges.{WorkedRanges};
 
 /// A range has exactly the stored keys with some first levels.
@@ -33,9 +33,15 @@ pub fn compact_low_ends_tell_levels()
     ensures { CompactLowEndsTellLevels }
 {}
 
-/// The laws are true of the keys of texts.
+/// Under each table the key of a text of UTF-8 has such parts.
 pub fn texts_have_parts()
     ensures { TextsHaveParts }
+{}
+
+/// Under each table a range has the key of a text of UTF-8 exactly if the text has the first levels, or the letters, that the
+/// range is of. So has a range of compact keys its compact key.
+pub fn ranges_find_texts()
+    ensures { RangesFindTexts }
 {}
 
 /// The definitions give some ranges that were worked out by hand.

@@ -5,3 +5,6 @@ pub mod WeightLemmas
 pub mod KeyLength
 pub mod FetchedLemmas
 pub mod DepthOrder
+pub mod Levels
+pub mod WrittenScalars
+pub mod Keyings

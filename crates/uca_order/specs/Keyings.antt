@@ -9,7 +9,7 @@ use Rattle.uca_elements.specs.Rows.{Rows, rows_of}
 use Rattle.uca_elements.specs.Collations.{Collation, collation_of, collation_over}
 use Rattle.uca_elements.specs.declared.collator.Collator.{Collator}
 use Rattle.uca_order.specs.Levels.{Comparison}
-use Rattle.uca_order.specs.Depths.{written_text, text_key, texts_compared}
+use Rattle.uca_order.specs.Depths.{ReadText, read_points, written_text, text_key, texts_compared}
 
 -- what keys go by
 pub record Keying : Type 0 where
@@ -39,6 +39,10 @@ keying asked table properties = keying_over (rows_of table.rows) table.header as
 -- what is read of such a text, in Normalization Form D
 abbrev pub text_of : Keying → List ℕ → NfdText
 text_of k bytes = written_text k.settings.numbers k.collation.properties (chars bytes)
+
+-- what it is compared by
+abbrev pub read_of : Keying → List ℕ → ReadText
+read_of k bytes = read_points k.collation k.settings.numbers (chars bytes)
 
 -- its sort key
 abbrev pub key_of_bytes : Keying → List ℕ → List ℕ

@@ -1,6 +1,6 @@
 -- Draft elements: how they depend on the rows.
 use Rattle.std.proofs.Common.{◌≡◌, ◌≢◌, ℕ, List, [], ◌∷◌, ◌++◌, length, map, Bool, true, false, cond, Option, Some, None, unwrap_or, is_some, refl, sym}
-use Rattle.std.proofs.Common.{option_map, ap, ap₂, ◌∙◌, append-nil, arith, inl}
+use Rattle.std.proofs.Common.{option_map, ap, ap₂, ◌∙◌, append-nil}
 use Rattle.std.specs.List.{AllByRecursion, flat_map}
 use Rattle.std.proofs.lemmas.Simd.{map-map}
 use Rattle.std.proofs.lemmas.List.{map-append}
@@ -8,8 +8,9 @@ use Rattle.uca_weights.specs.declared.Element.{Element}
 use Rattle.uca_values.specs.declared.ImplicitRange.{ImplicitRange}
 use Rattle.uca_values.specs.Content.{Properties}
 use Rattle.uca_values.specs.Implicit.{implicit}
-use Rattle.uca_text.specs.Texts.{NfdText, code_points, with_classes, classed}
+use Rattle.uca_text.specs.Texts.{NfdText, code_points, classed}
 use Rattle.uca_text.specs.Occurring.{OccursInOrder}
+use Rattle.uca_text.proofs.Texts.{points_of_letters, letters_occur}
 use Rattle.uca_text.proofs.Occurring.{occurs_trans}
 use Rattle.uca_elements.specs.Rows.{rows_of, is_key, same_key}
 use Rattle.uca_elements.specs.Parts.{Part, Row, Implicit, part_elements, IsPartOf}
@@ -22,20 +23,9 @@ use Rattle.uca_plans.proofs.KeyPlaces.{has_draft}
 
 -- ---- Texts
 
--- letters have the code points that they are made of
-points_of_letters : (points classes : List ℕ) → length classes ≡ length points → code_points (with_classes points classes) ≡ points
-points_of_letters [] classes same = refl
-points_of_letters (c ∷ points) [] same = absurd (omega arith)
-points_of_letters (c ∷ points) (k ∷ classes) same = ap (λ rest. c ∷ rest) (points_of_letters points classes (omega arith))
-
 -- a text has the code points of its NFD
 pub points_of : (text : NfdText) → length text.classes ≡ length text.points → code_points (classed text) ≡ text.points
 points_of text same = points_of_letters text.points text.classes same
-
-letters_occur : (points classes : List ℕ) → OccursInOrder (code_points (with_classes points classes)) points
-letters_occur [] classes = tt
-letters_occur (c ∷ points) [] = tt
-letters_occur (c ∷ points) (k ∷ classes) = inl (refl, letters_occur points classes)
 
 -- what occurs in order in the letters of a text occurs in it
 pub occurs_in_text : (key : List ℕ) (text : NfdText) → OccursInOrder key (code_points (classed text)) → OccursInOrder key text.points

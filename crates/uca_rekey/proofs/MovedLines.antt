@@ -1,25 +1,39 @@
--- The line of a key that is put through the maps is the line of the new key: its digits, alone and in groups.
-use Rattle.std.proofs.Common.{◌≡◌, ℕ, zero, suc, ◌+◌, ◌*◌, ◌/◌, ◌%◌, ◌<◌, ◌≤◌, false, List, [], ◌∷◌, ◌++◌, map, length, Option, Some, None, nat_eq, nat_lt, refl, ap, ap₂, sym, ◌∙◌, append_assoc, append-nil, arith, length-append}
+-- The line of a key that is put through the maps is the line of the new key: its digits, alone and in groups. And the line of a
+-- key becomes that of its compact key.
+use Rattle.std.proofs.Common.{◌≡◌, ℕ, zero, suc, ◌+◌, ◌*◌, ◌/◌, ◌%◌, ◌<◌, ◌≤◌, false, List, [], ◌∷◌, ◌++◌, map, length, Option, Some, None, nat_eq, nat_lt, refl, ap, ap₂, sym, ◌∙◌, append_assoc, append-nil, arith, length-append, chars, subst, ◌↔◌}
 use Rattle.std.specs.Prelude.{◌==◌}
 use Rattle.std.specs.List.{flat_map, join_with_byte}
 use Rattle.std.specs.Option.{option_map, option_and_then}
 use Rattle.std.proofs.lemmas.Bool.{cond_both, ne_eqb}
 use Rattle.std.proofs.lemmas.Grind.{flat_map-append}
 use Rattle.std.proofs.lemmas.List.{append_cancel_right, map-append}
+use Rattle.std.proofs.lemmas.Str.{scalars-chars}
+use Rattle.std.specs.Str.{IsUtf8}
+use Rattle.uca_scalars.proofs.NfdScalars.{each_nfd_scalar}
+use Rattle.uca_weights.specs.declared.Asked.{Asked}
 use Rattle.uca_weights.specs.declared.Depth.{Depth}
 use Rattle.uca_weights.specs.declared.Depth.TheVariants.{Weights, Identical}
 use Rattle.uca_weights.specs.declared.Weighting.{Weighting}
 use Rattle.uca_weights.proofs.Tests.{by_cases}
+use Rattle.uca_values.specs.Content.{TableContent, Properties, IsTable}
 use Rattle.uca_lines.specs.Lines.{ended}
 use Rattle.uca_lines.specs.Numbers.{digits, hex_of, upper_digit}
 use Rattle.uca_lines.proofs.DigitLemmas.{hex_of-digits}
 use Rattle.uca_order.specs.Levels.{key_bytes, level_count, weight_bytes}
 use Rattle.uca_order.specs.Depths.{ReadText, key_at, point_bytes, points_bytes}
+use Rattle.uca_order.specs.Keyings.{Keying, keying, key_of_bytes, read_of}
+use Rattle.uca_order.proofs.Levels.{key_is_bytes}
+use Rattle.uca_order.proofs.Keyings.{bytes_fit}
+use Rattle.uca_books.specs.Books.{BookContent}
+use Rattle.uca_compact.specs.CompactTexts.{compact_of_bytes}
+use Rattle.uca_compact.specs.StoredParts.{IsCompactOf}
+use Rattle.uca_compact.proofs.CompactTexts.{compact_is}
 use Rattle.uca_tailorings.specs.Images.{Maps}
 use Rattle.uca_tailorings.specs.Moves.{KeyMoves, are_points, level_images, moved_from, moved_key, weight_before}
-use Rattle.uca_run_parts.specs.Print.{byte_digits, groups, keyed_line_of, print_line_at, printed_after, printed_groups, spaced_point}
-use Rattle.uca_rekey.specs.Laws.{AreBytes, LinesMoveWithKeys}
-use Rattle.uca_rekey.specs.RekeyedLines.{byte_before, bytes_of, digits_of, rekeyed, with_digits, with_key}
+use Rattle.uca_run_parts.specs.Print.{byte_digits, digits_line_of, groups, keyed_line_of, print_line_at, printed_after, printed_groups, spaced_point}
+use Rattle.uca_rekey.specs.Laws.{AreBytes, LinesMoveWithKeys, LinesBecomeCompactLines}
+use Rattle.uca_rekey.specs.RekeyedLines.{byte_before, bytes_of, digits_of, key_in, rekeyed, with_digits, with_key}
+use Rattle.uca_rekey.specs.ChangedLines.{LineBecomes, from_tab, with_new_key}
 use Rattle.uca_rekey.proofs.LineKeys.{with_no_digits}
 
 -- ---- The digits of a key
@@ -300,3 +314,88 @@ module _ (maps : Maps) (old new : ReadText) (moves : KeyMoves maps old new) wher
 
 pub lines_move : LinesMoveWithKeys
 lines_move maps old new moves = record { keyed = keyed_moves maps old new moves; printed = printed_moves maps old new moves }
+
+-- ---- Compact keys
+
+-- digits are no tab
+from_tab-key : (key rest : List ℕ) → from_tab (flat_map byte_digits key ++ rest) ≡ from_tab rest
+from_tab-key [] rest = refl
+from_tab-key (b ∷ key) rest = rw (is_other (b / 16) 9 (omega arith), is_other (b % 16) 9 (omega arith)) (from_tab-key key rest)
+
+-- nor are the spaces before groups
+from_tab-spelled : (parts : List (List ℕ)) → from_tab (spelled parts) ≡ []
+unfolding spelled
+from_tab-spelled [] = refl
+from_tab-spelled (part ∷ parts) = from_tab-key part (spelled parts) ∙ from_tab-spelled parts
+
+from_tab-printed : (depth : Depth) (key points : List ℕ) → from_tab (printed depth key points) ≡ []
+from_tab-printed depth [] points = ap from_tab (no_key-spelled depth points) ∙ from_tab-spelled (parts_of depth [] points)
+from_tab-printed depth (a ∷ key) points = ap from_tab (some_key-spelled depth a key points) ∙ from_tab-spelled (parts_of depth (a ∷ key) points)
+
+-- the key of a line has one compact key
+one_line : (depth : Depth) (weighting : Weighting) (b : BookContent) (line key compact new : List ℕ) → key_in line ≡ Some key →
+    IsCompactOf depth weighting b key compact → LineBecomes (IsCompactOf depth weighting b) line new ↔ (new ≡ with_new_key line compact)
+one_line depth weighting b line key compact new has is = (
+  (λ h. let same : h.key ≡ key = cc (h.has, has) in
+      let of_key : IsCompactOf depth weighting b key h.new_key = subst (λ (k : List ℕ). IsCompactOf depth weighting b k h.new_key) same h.becomes in
+      let one : h.new_key ≡ compact = cc (of_key, is) in
+      h.put ∙ ap (with_new_key line) one),
+  (λ put. record { key = key; new_key = compact; has = has; becomes = is; put = put }),
+)
+
+module _ (asked : Asked) (table : TableContent) (properties : Properties) (b : BookContent) (bytes : List ℕ) (is : IsTable table) (utf8 : IsUtf8 bytes) where
+  abbrev k : Keying
+  k = keying asked table properties
+
+  abbrev key : List ℕ
+  key = key_of_bytes k bytes
+
+  abbrev compact : List ℕ
+  compact = compact_of_bytes b k bytes
+
+  are_bytes : AreBytes key
+  are_bytes =
+      key_is_bytes k.settings.depth k.settings.weighting (read_of k bytes) (bytes_fit asked table properties is bytes utf8)
+      (each_nfd_scalar (chars bytes) (scalars-chars bytes utf8))
+
+  -- what the line becomes, by its digits
+  line_becomes : (before after : List ℕ) → digits_of before ≡ flat_map byte_digits key →
+      LineBecomes (IsCompactOf k.settings.depth k.settings.weighting b) before after ↔ (after ≡ with_new_key before compact)
+  line_becomes before after digits_are =
+      one_line k.settings.depth k.settings.weighting b before key compact after (ap bytes_of digits_are ∙ bytes_of-key key are_bytes)
+      (compact_is asked table properties is bytes utf8 b)
+
+  -- a key before a row
+  keyed_compact : (row before after : List ℕ) → ended before ≡ keyed_line_of key row →
+      LineBecomes (IsCompactOf k.settings.depth k.settings.weighting b) before after ↔ (ended after ≡ keyed_line_of compact row)
+  keyed_compact row before after was =
+      let front = keyed_is key row before was in
+      let new : with_new_key before compact ≡ flat_map byte_digits compact ++ 9 ∷ row =
+      ap (λ l. flat_map byte_digits compact ++ l) (ap from_tab front ∙ from_tab-key key (9 ∷ row)) in
+      let line = line_becomes before after (ap digits_of front ∙ digits_of-key key (9 ∷ row) ∙ append-nil (flat_map byte_digits key)) in (
+        (λ h. ap ended (line.0 h ∙ new) ∙ append_assoc (flat_map byte_digits compact) (9 ∷ row) (10 ∷ [])),
+        (λ h. line.1 (keyed_is compact row after h ∙ sym new)),
+      )
+
+  -- a key alone, in groups
+  printed_compact : (before after : List ℕ) → ended before ≡ print_line_at k.settings.depth (key_bytes k.settings.weighting (read_of k bytes).elements) (read_of k bytes).points →
+      LineBecomes (IsCompactOf k.settings.depth k.settings.weighting b) before after ↔ (ended after ≡ digits_line_of compact)
+  printed_compact before after was =
+      let weights = key_bytes k.settings.weighting (read_of k bytes).elements in
+      let points = (read_of k bytes).points in
+      let front = printed_is k.settings.depth weights points before was in
+      let new : with_new_key before compact ≡ flat_map byte_digits compact =
+      ap (λ l. flat_map byte_digits compact ++ l) (ap from_tab front ∙ from_tab-printed k.settings.depth weights points) ∙ append-nil (flat_map byte_digits compact) in
+      let line =
+      line_becomes before after
+      (ap digits_of front ∙ digits_of-printed k.settings.depth weights points
+      ∙ ap (flat_map byte_digits) (all_of-parts k.settings.depth k.settings.weighting (read_of k bytes))) in (
+        (λ h. ap ended (line.0 h ∙ new)),
+        (λ h. line.1 (append_cancel_right after (flat_map byte_digits compact) (10 ∷ []) h ∙ sym new)),
+      )
+
+pub lines_become_compact : LinesBecomeCompactLines
+lines_become_compact asked table properties b bytes is utf8 = record {
+  keyed = keyed_compact asked table properties b bytes is utf8;
+  printed = printed_compact asked table properties b bytes is utf8;
+}

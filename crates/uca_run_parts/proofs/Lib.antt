@@ -15,4 +15,3 @@ pub mod AffectedLines
 pub mod PointTexts
 pub mod PrintLemmas
 pub mod RoleTexts
-pub mod WrittenScalars

@@ -1,7 +1,8 @@
 -- Normalization Form D of Unicode scalar values has such values alone.
 use Rattle.std.proofs.Common.{◌≡◌, ℕ, ◌+◌, ◌-◌, ◌/◌, ◌%◌, true, false, List, [], ◌∷◌, flat_map, refl, sym, subst, inl, inr, arith}
 use Rattle.std.proofs.lemmas.Bool.{cases_Bool, cases_eq, cond-false, and_parts, and_from}
-use Rattle.std.specs.List.{list_all}
+use Rattle.std.specs.Char.{IsScalar}
+use Rattle.std.specs.List.{list_all, AllByRecursion}
 use lib.Utf8.{scalar, scalars, low_scalar}
 use Rattle.ucd_table.proofs.Computing.{tables}
 use Rattle.ucd_table.proofs.RangedFacts.{values_ok, Stepped-at_values}
@@ -59,9 +60,17 @@ flat_scalars (c ∷ points) all =
     list_all-append scalar (decompose Nfd c) (flat_map (decompose Nfd) points) (decomposed_scalars c parts.0) (flat_scalars points parts.1)
 
 -- the code points of Normalization Form D are in canonical order
-pub nfd_scalars : (points : List ℕ) → scalars points ≡ true → list_all scalar (nfd points) ≡ true
+nfd_scalars : (points : List ℕ) → scalars points ≡ true → list_all scalar (nfd points) ≡ true
 unfolding normalize decomposed
 nfd_scalars points all = list_all-canonical_order scalar (flat_map (decompose Nfd) points) (flat_scalars points all)
+
+-- each is one
+each_scalar : (points : List ℕ) → list_all scalar points ≡ true → AllByRecursion IsScalar points
+each_scalar [] all = tt
+each_scalar (c ∷ points) all = let parts = and_parts (scalar c) (list_all scalar points) all in (parts.0, each_scalar points parts.1)
+
+pub each_nfd_scalar : (points : List ℕ) → scalars points ≡ true → AllByRecursion IsScalar (nfd points)
+each_nfd_scalar points all = each_scalar (nfd points) (nfd_scalars points all)
 
 -- each is one, so all are
 scalars_from : (points : List ℕ) → list_all scalar points ≡ true → scalars points ≡ true

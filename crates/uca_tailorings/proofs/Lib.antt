@@ -8,7 +8,6 @@ pub mod UntouchedTexts
 pub mod AgreeingReadings
 pub mod MovedKeys
 pub mod Parts
-pub mod ReadingEach
 pub mod Sound
 pub mod Holding
 pub mod Shifting

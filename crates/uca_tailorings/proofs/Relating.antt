@@ -23,7 +23,7 @@ use Rattle.uca_tailorings.specs.Meaning.{AreNotVariable, Holds, HoldsShifted, Ho
 use Rattle.uca_tailorings.specs.declared.conditions.Condition.TheVariants.{TailoredIllFormed, NotPlaced, NotNearest}
 use Rattle.uca_weights.proofs.Lists.{each_parts}
 use Rattle.uca_tailorings.proofs.Parts.{each_by_parts, of_part}
-use Rattle.uca_tailorings.proofs.ReadingEach.{points_of_text}
+use Rattle.uca_text.proofs.Texts.{points_of_text}
 use Rattle.uca_tailorings.proofs.Sound.{IsSound, sound_row, sound_elements, old_is_some, new_is_some}
 use Rattle.uca_tailorings.proofs.Holding.{compared_itself, holds_placed}
 use Rattle.uca_tailorings.proofs.Shifting.{placed_not_variable, shifted_stands}

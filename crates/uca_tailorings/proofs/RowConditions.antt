@@ -1,32 +1,18 @@
 -- What the conditions on rows say of the elements at a key.
 use Rattle.std.proofs.Common.{◌≡◌, ℕ, List, [], ◌∷◌, Bool, true, false, Option, Some, None, is_some, ◌⊎◌, inl, inr, ⊎_elim, refl, sym, ap, subst, ◌∙◌}
 use Rattle.std.specs.List.{AllByRecursion}
-use Rattle.std.proofs.lemmas.Bool.{cond_both}
 use Rattle.uca_weights.specs.declared.Element.{Element}
 use Rattle.uca_values.specs.Content.{Entry}
 use Rattle.uca_relations.specs.declared.Relation.{Relation}
 use Rattle.uca_relations.specs.Relations.{IsTarget}
 use Rattle.uca_elements.specs.Rows.{IsKey, same_key, rows_of}
 use Rattle.uca_elements.specs.Laws.{AreRelatedRows}
-use Rattle.uca_elements.proofs.RowsByKey.{same_key-true, same_key-itself}
+use Rattle.uca_elements.proofs.RowsByKey.{at_row, same_key-true, same_key-itself}
 use Rattle.uca_weights.proofs.Lists.{each_weaker}
 use Rattle.uca_tailorings.specs.Images.{Maps, AreImages}
 use Rattle.uca_tailorings.specs.KeptRows.{IsKeptRow, IsKnownRow}
 use Rattle.uca_tailorings.specs.Tailorings.{Tailoring, IsAccepted, IsPresentRow}
 use Rattle.uca_tailorings.specs.declared.conditions.Condition.TheVariants.{RowChanged, RowMissing, RowExtra}
-
--- what is true of each row is true of the one that is found at a key
-pub at_row : (P : Entry → Type 0) (table : List Entry) (key : List ℕ) (row : List Element) → AllByRecursion P table →
-    rows_of table key ≡ Some row → P (record { key = key; elements = row })
-at_row P [] key row all found = cc
-at_row P (r ∷ table) key row all at_key =
-    cond_both (same_key r.key key) (Some r.elements) (rows_of table key) (λ o. o ≡ Some row → P (record { key = key; elements = row }))
-    (λ same found.
-    let same_elements : r.elements ≡ row = cc in
-    let same_row : r ≡ record { key = key; elements = row } = λ i. record { key = same_key-true r.key key same i; elements = same_elements i } in
-    subst P same_row all.0)
-    (λ other found. at_row P table key row all.1 found)
-    at_key
 
 -- lists of numbers are equal or not
 same_or_not : (a b : List ℕ) (same : Bool) → same_key a b ≡ same → (a ≡ b) ⊎ ¬ (a ≡ b)

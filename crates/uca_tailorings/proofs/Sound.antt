@@ -14,14 +14,15 @@ use Rattle.uca_check.specs.WellFormed.{HasGap, MeetsWF1, MeetsWF2, IsWellFormed}
 use Rattle.uca_weights.proofs.Lists.{each_weaker}
 use Rattle.uca_text.specs.Texts.{NfdText, classed}
 use Rattle.uca_text.specs.Limits.{IsNormal}
+use Rattle.uca_text.proofs.Texts.{points_of_text}
 use Rattle.uca_elements.specs.Rows.{rows_of}
 use Rattle.uca_elements.specs.Collations.{elements_of}
+use Rattle.uca_elements.proofs.RowsByKey.{at_row}
+use Rattle.uca_elements.proofs.ReadingEach.{read_each}
 use Rattle.uca_tailorings.specs.Placing.{IsIgnorableTo, reset, reweighted}
 use Rattle.uca_tailorings.specs.Tailorings.{Tailoring, IsTailoring, tailored_reading, IsBetween}
-use Rattle.uca_tailorings.proofs.RowConditions.{at_row}
 use Rattle.uca_values.proofs.ImplicitPairs.{each_pair}
 use Rattle.uca_tailorings.proofs.Parts.{each_by_parts, each_of_both}
-use Rattle.uca_tailorings.proofs.ReadingEach.{points_of_text, read_each}
 use borrow.Table.Char.{scalar_below}
 
 -- ---- Sound elements

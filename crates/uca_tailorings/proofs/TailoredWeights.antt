@@ -20,7 +20,8 @@ use Rattle.uca_tailorings.specs.declared.conditions.Condition.TheVariants.{RowMi
 use Rattle.uca_tailorings.proofs.RowConditions.{target_or_not}
 use Rattle.uca_tailorings.proofs.UntouchedTexts.{no_target}
 use Rattle.uca_tailorings.proofs.Parts.{of_part}
-use Rattle.uca_tailorings.proofs.ReadingEach.{points_of_text, read_each}
+use Rattle.uca_text.proofs.Texts.{points_of_text}
+use Rattle.uca_elements.proofs.ReadingEach.{read_each}
 use borrow.Table.Char.{scalar_below}
 use Rattle.uca_tailorings.proofs.Relating.{key_reads}
 

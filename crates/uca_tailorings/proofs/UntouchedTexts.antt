@@ -1,5 +1,5 @@
 -- Texts in which no target occurs in order compare as before, and keep their keys where no weight is changed.
-use Rattle.std.proofs.Common.{◌≡◌, ℕ, zero, suc, List, [], ◌∷◌, ◌++◌, inl, ⊎_elim, refl, sym, ap, ap₂, subst}
+use Rattle.std.proofs.Common.{◌≡◌, ℕ, zero, suc, List, [], ◌∷◌, ◌++◌, ⊎_elim, refl, sym, ap, ap₂, subst}
 use Rattle.std.specs.Char.{IsScalar}
 use Rattle.uca_weights.specs.declared.Depth.{Depth}
 use Rattle.uca_weights.specs.declared.Depth.TheVariants.{Weights, Identical}
@@ -9,9 +9,10 @@ use Rattle.uca_weights.specs.declared.Weighting.TheVariants.{NonIgnorable, Shift
 use Rattle.uca_values.specs.Content.{HeaderContent}
 use Rattle.uca_values.specs.Implicit.{implicit}
 use Rattle.uca_weights.proofs.Lists.{each_weaker}
-use Rattle.uca_text.specs.Texts.{NfdText, with_classes, classed, code_points}
+use Rattle.uca_text.specs.Texts.{NfdText, classed, code_points}
 use Rattle.uca_text.specs.Limits.{IsNormal}
 use Rattle.uca_text.specs.Occurring.{OccursInOrder}
+use Rattle.uca_text.proofs.Texts.{letters_occur}
 use Rattle.uca_text.proofs.Occurring.{occurs_trans, each_occurring}
 use Rattle.uca_relations.specs.declared.Relation.{Relation}
 use Rattle.uca_relations.specs.Relations.{IsTarget, IsUntouched}
@@ -40,12 +41,6 @@ no_target (r ∷ relations) key text untouched occurs target =
     (λ same. untouched.0 (subst (λ points. OccursInOrder points text) (sym same) occurs))
     (λ later. no_target relations key text untouched.1 occurs later)
     target
-
--- the code points of a text's letters
-pub letters_occur : (points classes : List ℕ) → OccursInOrder (code_points (with_classes points classes)) points
-letters_occur [] classes = tt
-letters_occur (c ∷ points) [] = tt
-letters_occur (c ∷ points) (k ∷ classes) = inl (refl, letters_occur points classes)
 
 -- an untouched text reads as the images of what it read as before
 pub images_read : (tailoring : Tailoring) → IsTailoring tailoring → IsAccepted tailoring → (text : NfdText) → IsNormal text →

@@ -22,11 +22,12 @@ use Rattle.uca_rekey.specs.Laws.{AreBytes, LinesMove}
 use Rattle.uca_rekey.specs.RekeyedLines.{rekeyed}
 use Rattle.uca_rekey.proofs.MovedLines.{lines_move}
 use Rattle.uca_elements.specs.Collations.{collation_under}
+use Rattle.uca_elements.proofs.Collations.{elements_fit}
 use Rattle.uca_order.specs.Keyings.{Keying, keying}
+use Rattle.uca_order.proofs.Levels.{key_is_bytes}
 use Rattle.uca_key_runs.specs.Keys.{keyed_line, printed_key}
 use Rattle.uca_key_runs.proofs.NormalLines.{line_scalars, normal_line}
 use Rattle.uca_upgrades.specs.Upgrades.{Upgrade, AreUnaffectedLines, IsRekeyed, IsStoredLineKey, IsUnaffectedLine, KeepsOrder, new_key, new_keying, new_weighting, old_key, old_keying, stored_weighting}
-use Rattle.uca_upgrades.proofs.KeyBytes.{text_key_is_bytes}
 use Rattle.uca_upgrades.proofs.Outputs.{keyed_body, keyed_body_lacks, keyed_is, lines_lack, output_rekeyed, printed_body, printed_body_lacks, printed_is}
 
 -- a line as it is read under some files
@@ -70,8 +71,9 @@ module _ (upgrade : Upgrade) (is : IsTable upgrade.old.table) (moves : Moves upg
   -- the old key is of bytes
   old_bytes : (line : List ℕ) → IsUnaffectedLine asked.numbers upgrade line → AreBytes (key_at asked.depth weighting (read_line asked.numbers upgrade.old line))
   old_bytes line unaffected =
-      text_key_is_bytes upgrade.old.table upgrade.old.properties is asked.depth weighting (line_text asked.numbers upgrade.old.properties line) (nfd (chars line))
-      (read_scalars asked.numbers upgrade line unaffected) (own_scalars asked.numbers upgrade line unaffected)
+      key_is_bytes asked.depth weighting (read_line asked.numbers upgrade.old line)
+      (elements_fit upgrade.old.table upgrade.old.properties is (line_text asked.numbers upgrade.old.properties line) (read_scalars asked.numbers upgrade line unaffected))
+      (own_scalars asked.numbers upgrade line unaffected)
 
   -- so the printed lines become new ones
   lines : (line : List ℕ) → IsUnaffectedLine asked.numbers upgrade line → LinesMove upgrade.maps (read_line asked.numbers upgrade.old line) (read_line asked.numbers upgrade.new line)

@@ -1,4 +1,3 @@
-pub mod KeyBytes
 pub mod Outputs
 pub mod Meanings
 pub mod OneMeaning

@@ -1,25 +1,14 @@
 -- What is true of the elements of each row and of the implicit weights that a text may read as is true of all its elements.
-use Rattle.std.proofs.Common.{◌≡◌, ℕ, List, [], ◌∷◌, length, Option, Some, None, refl, ap, arith}
+use Rattle.std.proofs.Common.{◌≡◌, ℕ, List, Option, Some, None, refl}
 use Rattle.std.specs.List.{AllByRecursion}
 use Rattle.uca_weights.specs.declared.Element.{Element}
-use Rattle.uca_text.specs.Texts.{Text, NfdText, code_points, with_classes, classed}
-use Rattle.uca_text.specs.Limits.{IsNormal}
+use Rattle.uca_text.specs.Texts.{Text, code_points}
 use Rattle.uca_text.specs.Occurring.{OccursInOrder}
 use Rattle.uca_elements.specs.Rows.{Rows}
 use Rattle.uca_elements.specs.Reading.{read}
 use Rattle.uca_elements.specs.Laws.{AreRelatedRows}
 use Rattle.uca_elements.proofs.RelatedReading.{read_related}
 use Rattle.uca_weights.proofs.Lists.{each_append}
-
--- letters have the code points that they are made of
-points_of_letters : (points classes : List ℕ) → length classes ≡ length points → code_points (with_classes points classes) ≡ points
-points_of_letters [] classes same = refl
-points_of_letters (c ∷ points) [] same = absurd (omega arith)
-points_of_letters (c ∷ points) (k ∷ classes) same = ap (λ rest. c ∷ rest) (points_of_letters points classes (omega arith))
-
--- a text has the code points of its NFD
-pub points_of_text : (text : NfdText) → IsNormal text → code_points (classed text) ≡ text.points
-points_of_text text normal = points_of_letters text.points text.classes normal.accepted.same
 
 module _ (P : Element → Type 0) (implicit : ℕ → List Element) (rows : Rows) where
   -- a row is related to itself
