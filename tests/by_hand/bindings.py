@@ -1664,8 +1664,8 @@ def none_sprung(says, database, role, schema, what):
 
 
 def postgresql_traps(work):
-    """Roles that make functions and operators in the schema of the extension, before a superuser installs it: the owner of a database, and a role that may
-    create in a schema. Each fits the types of some call better than what pg_catalog has. None may run as the superuser."""
+    """The owner of a database, and a role that may create in a schema, make functions and operators there before a superuser installs the extension. Each fits
+    the types of some call better than what pg_catalog has. None may run as the superuser."""
     attacks = (("carol", "carols", "public", "CREATE EXTENSION uca;"), ("mallory", "hers", "app", "CREATE EXTENSION uca SCHEMA app;"))
     with postgresql_server(work) as (server, says, settings):
         says("CREATE ROLE carol; CREATE DATABASE carols OWNER carol; CREATE ROLE mallory; CREATE DATABASE hers;")
