@@ -510,6 +510,16 @@ def sqlite_loads(work):
     same(sqlite_says(work, f"SELECT uca_load('{TABLE}', '{DATA}', '', '', '{USED}');", load="", database=private), USED + "\n", "a private cache")
 
 
+def sqlite_authorizers(work):
+    """The extension is loaded a second time, while an authorizer denies what it asks, and from another file."""
+    sqlite_says(work, "SELECT 1;")
+    extension = f"{TOP}/bindings/sqlite/out/uca"
+    os.makedirs(f"{work}/copies", exist_ok=True)
+    shutil.copy(f"{extension}.so", f"{work}/copies/uca.so")
+    run(["gcc", "-O2", "-std=c11", "-Wall", "-Wextra", "-Werror", "-o", f"{work}/authorizers", f"{TOP}/bindings/sqlite/authorizers.c", "-lsqlite3"])
+    run([f"{work}/authorizers", extension, f"{work}/copies/uca", TABLE, DATA])
+
+
 def sqlite_files(work):
     """What is not a file that can be read to its end is rejected without being read."""
     os.mkfifo(f"{work}/pipe")
@@ -2373,7 +2383,7 @@ def main():
         sys.exit(f"there is no {missing[0]}: run `tools/build.py uca_c uca_run` first")
     checks = [("make", make), ("valgrind", valgrind), ("sanitizers", sanitizers), ("header in C++", header), ("exported names", exports),
               ("installation", installed), ("stored run", stored_run), ("docs/BINDINGS.md", page), ("keys", keys_like(program)), ("Python", python), ("Python under valgrind", python_valgrind), ("wheel", wheel), ("sort", sorted_like(program)), ("SQLite", sqlite),
-              ("SQLite's loads", sqlite_loads), ("SQLite's files", sqlite_files), ("SQLite's compact keys", sqlite_compact), ("SQLite's numbers", sqlite_numbers), ("SQLite's arguments", sqlite_arguments), ("SQLite's checks", sqlite_checks),
+              ("SQLite's loads", sqlite_loads), ("SQLite's authorizers", sqlite_authorizers), ("SQLite's files", sqlite_files), ("SQLite's compact keys", sqlite_compact), ("SQLite's numbers", sqlite_numbers), ("SQLite's arguments", sqlite_arguments), ("SQLite's checks", sqlite_checks),
               ("SQLite's books", sqlite_books), ("SQLite's lookups", sqlite_lookups), ("SQLite's schemas", sqlite_schemas), ("SQLite's restores", sqlite_restore),
               ("SQLite's attached databases", sqlite_attached), ("SQLite's threads", sqlite_threads), ("SQLite's moves from thread to thread", sqlite_moved), ("SQLite's upgrades", sqlite_upgrades),
               ("SQLite's loads of upgrades", sqlite_upgrade_loads), ("SQLite's compact keys in upgrades", sqlite_compact_upgrades), ("SQLite's moves", sqlite_moves),
