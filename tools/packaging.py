@@ -5,7 +5,7 @@
 
 The manual page and each completion name the commands and options that the program's help names, and no others. They are what
 tools/man_page.py and tools/completions.py write. The page renders without a warning. Each completion is run by its shell. tools/install.sh puts all files
-into a temporary folder, lists them, and takes them away again; the program there runs (tests/test_installed.py looks at its scripts and pages).
+into a temporary folder, lists them, and takes them away again; the program there runs. The gate's tests/test_installed.py looks at the scripts and pages.
 `uca --version` names the logic of this machine's kit, and docs/FORMATS.md shows its line.
 
 Debian packages: man-db, mandoc, zsh and fish (bash and coreutils are always there). A check that needs a missing one is not run, and
