@@ -74,7 +74,7 @@ fn headers_by<A: Allocator>(
     }
 }
 
-// The same headers the other way round.
+// These headers the other way round.
 fn swapped(headers: Option<HeaderLines>) -> Option<HeaderLines>
     ensures { headers_of result ≡ option_map swapped (headers_of headers) }
 {
