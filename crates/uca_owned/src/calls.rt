@@ -146,7 +146,7 @@ impl OwnedCollator {
     }
 
     /// How two texts compare (UTS #10, section 1.1), without keys: their order, and the first level at which they
-    /// differ, or 0. The key that was made last stays.
+    /// differ, or 0. The key and the levels that were made last stay, at an error too.
     ///
     /// # Errors
     ///
@@ -161,6 +161,7 @@ impl OwnedCollator {
             IfErr result (IsCompareCause k.settings.numbers k.collation.properties left.now right.now) }
         ensures keying { keying_in self.new ≡ keying_in self.old }
         ensures key { key_in self.new ≡ key_in self.old }
+        ensures levels { self.new.levels ≡ self.old.levels }
     {
         compare_bytes(
             &*self.collation,

@@ -1,6 +1,7 @@
 //! An order of all byte strings.
 
-ghost use Rattle.std.specs.Prelude.{◌≡◌, IfOk};
+ghost use Rattle.std.specs.Prelude.{◌≡◌, ◌⊎◌, IfOk, OnErr};
+ghost use Rattle.std.specs.Str.{IsUtf8};
 ghost use Rattle.uca_values.specs.Content.{properties_of};
 ghost use Rattle.uca_order.specs.Keyings.{keying_by};
 ghost use Rattle.uca_match.specs.OwnedCollations.{owned_collation};
@@ -46,6 +47,7 @@ fn order_bytes(
     requires { Knows (owned_collation collation.now) comparison.old }
     ensures known { Knows (owned_collation collation.now) comparison.new }
     ensures order { IfOk result (IsOrder (keying_by (owned_collation collation.now) settings.now) left.now right.now) }
+    ensures utf8 { OnErr result (IsUtf8 left.now ⊎ IsUtf8 right.now) }
 {
     if left.len() > SHORT && left == right {
         return Ok(Ordering::Equal);
@@ -69,6 +71,7 @@ fn order_rejected(
     requires cause { IsCompareCause settings.numbers (properties_of collation.now.properties) left.now right.now fault }
     ensures known { Knows (owned_collation collation.now) comparison.new }
     ensures order { IfOk result (IsOrder (keying_by (owned_collation collation.now) settings) left.now right.now) }
+    ensures utf8 { OnErr result (IsUtf8 left.now ⊎ IsUtf8 right.now) }
 {
     match fault {
         CompareFault::Left(cause) => {
@@ -98,6 +101,7 @@ fn order_left_rejected(
     requires rejected { ¬ (IsAcceptedText settings.numbers (properties_of collation.now.properties) left.now) }
     ensures known { Knows (owned_collation collation.now) comparison.new }
     ensures order { IfOk result (IsOrder (keying_by (owned_collation collation.now) settings) left.now right.now) }
+    ensures utf8 { OnErr result (IsUtf8 right.now) }
 {
     match judge(collation, comparison, settings, right) {
         Ok(()) => Ok(Ordering::Greater),
@@ -112,16 +116,18 @@ fn order_left_rejected(
 
 impl OwnedCollator {
     /// The order of any two byte strings. Texts that are accepted are in their order, as
-    /// [`compare`](OwnedCollator::compare) says. All other bytes come after them, in the order of bytes. The key that
-    /// was made last stays.
+    /// [`compare`](OwnedCollator::compare) says. All other bytes come after them, in the order of bytes. The key and the
+    /// levels that were made last stay, at an error too.
     ///
     /// # Errors
     ///
-    /// An allocation failed.
+    /// An allocation failed. One of the two is UTF-8, or both are.
     pub fn order(&mut self, left: &[u8], right: &[u8]) -> Result<Ordering, AllocError>
         ensures order { IfOk result (IsOrder (keying_in self.old) left.now right.now) }
+        ensures utf8 { OnErr result (IsUtf8 left.now ⊎ IsUtf8 right.now) }
         ensures keying { keying_in self.new ≡ keying_in self.old }
         ensures key { key_in self.new ≡ key_in self.old }
+        ensures levels { self.new.levels ≡ self.old.levels }
     {
         order_bytes(
             &*self.collation,

@@ -57,7 +57,7 @@ impl OwnedCollator {
     ///
     /// # Errors
     ///
-    /// The table has 2^63 - 1 collators.
+    /// The table has 2^63 - 1 collators. This one stays as it is.
     pub fn share(&self, alloc: Global) -> Result<OwnedCollator, AllocError>
         ensures keying { IfOk result (λ c. keying_in c ≡ keying_in self.now) }
         ensures key { IfOk result (λ c. key_in c ≡ []) }

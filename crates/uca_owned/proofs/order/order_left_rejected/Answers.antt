@@ -5,7 +5,7 @@ use Rattle.uca_order.specs.Keyings.{keying_by}
 use Rattle.uca_order.specs.Levels.{lexicographic}
 use Rattle.uca_match.specs.OwnedCollations.{owned_collation}
 use Rattle.uca_owned.proofs.OrderLemmas.{neither_order}
-use Rattle.uca_owned.proofs.Rejected.{rejected}
+use Rattle.uca_owned.proofs.Rejected.{memory_utf8, rejected}
 use Rattle.uca_owned.proofs.order.order_left_rejected.Goals as goal
 
 pub returns-else-is_memory-clause-order : goal.returns-else-is_memory-clause-order
@@ -16,3 +16,8 @@ returns-else-is_memory-clause-order c =
     neither_order (keying_by (owned_collation c.args.collation.now) c.args.settings) left right c.cmp.result c.requires.rejected
     (rejected c.args.settings.numbers (properties_of c.args.collation.now.properties) right c.in-Err.fault (sym c.is_memory.ensures ∙ c.if-is_memory.false)
     c.in-Err.ensures.fault) same
+
+pub returns-then-is_memory-clause-utf8 : goal.returns-then-is_memory-clause-utf8
+returns-then-is_memory-clause-utf8 c =
+    memory_utf8 c.args.settings.numbers (properties_of c.args.collation.now.properties) c.args.right.now c.in-Err.fault
+    (sym c.is_memory.ensures ∙ c.if-is_memory.true) c.in-Err.ensures.fault
