@@ -16,7 +16,7 @@ First prove and build the static library: `tools/build.py uca_c uca_run`. Then t
 - the tests of the module for Python, as it is and from a wheel with the library inside, and those of keys, threads, signals and forks under valgrind;
 - statements of SQLite with the extension, over files that are the same or others, and those of docs/BINDINGS.md; also in threads, and where each allocation fails in turn;
 - upgrades from the edition of examples/ to that of examples/editions/, in Python, SQLite and PostgreSQL. upgrades.py does the same with Unicode's tables;
-- statements, dumps and replication of PostgreSQL with its extension, and the commands, settings and statements of docs/BINDINGS.md. The extension is installed to a copy of the server's programs in a temporary folder. Each server
+- statements, dumps and replication of PostgreSQL with its extension, roles that make functions to be run by a superuser, and the commands, settings and statements of docs/BINDINGS.md. The extension is installed to a copy of the server's programs in a temporary folder. Each server
   has a folder of its own, listens on a Unix socket there, and is stopped afterwards;
 - all four over Unicode's table, and over that table tailored for Danish: 100,000 words of nine languages have the keys of `uca keys` and the order of `uca sort`.
   Compact keys are those of `uca compact`. Ranges of keys find exactly the words that a search through all keys finds. The sizes of indexes are printed.
@@ -1632,7 +1632,8 @@ def names_in_sql():
     code = "".join(content(f"{folder}/{it}").decode() for it in ("uca_postgresql.c", "uca_text.c"))
     strings = " ".join(re.findall(r'"((?:[^"\\]|\\.)*)"', re.sub(r"/\*.*?\*/", "", code, flags=re.S)))
     script = re.sub(r"--.*", "", content(f"{folder}/uca--0.1.sql").decode()) + OF_SUPERUSER
-    operators = {*re.findall(r"[-+*/<>=~!@#%^&|`?]+", re.sub("'[^']*'", "", script))}
+    # IN, CASE, BETWEEN and LIKE call the first four
+    operators = {"=", "<=", ">=", "~~", *re.findall(r"[-+*/<>=~!@#%^&|`?]+", re.sub("'[^']*'", "", script))}
     return sorted(operators), sorted({*re.findall(r"\b([a-z]\w*) ?\(", script + strings)})
 
 
