@@ -52,7 +52,7 @@ fn compact_collation<A: Allocator + Copy>(
     ensures made { IfOk result (λ made. IsCompactBy asked (owned_collation made.0.collation) made.0.settings made.1
         (compact_with files.0 (properties_of files.1) files.2)) }
     ensures short { IfOk result (λ made. HasShortRows (owned_collation made.0.collation).rows) }
-    ensures refused { IfErr result (λ fault. fault ≡ RunFault.Memory) }
+    ensures refused { IfErr result (IsNoCollation asked (table_with files.0 (properties_of files.1))) }
 {
     let (table, properties, book) = files;
     match collation_of(alloc, table, properties, asked) {
@@ -75,7 +75,7 @@ fn read_compact<A: Allocator + Copy, T: Read, D: Read, B: Read>(
     ensures read { Over compact_files (table.old ∷ properties.old ∷ book.old ∷ []) (table.new ∷ properties.new ∷ book.new ∷ [])
         (λ content. MatchResult result
         (λ made. IsCompactBy asked (owned_collation made.0.collation) made.0.settings made.1 content)
-        (λ fault. fault ≡ RunFault.Memory)) result }
+        (λ fault. IsNoCollation asked (table_with content.table content.properties) fault)) result }
     ensures short { IfOk result (λ made. HasShortRows (owned_collation made.0.collation).rows) }
     ensures before_input { IfErr result (λ _. ended_before_input result ≡ true) }
     ensures failed { HaveFailed compact_roles (table.old ∷ properties.old ∷ book.old ∷ [])

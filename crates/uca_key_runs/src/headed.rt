@@ -89,7 +89,7 @@ fn headed_collation<A: Allocator + Copy>(
     ensures made { IfOk result (λ made. IsHeaded asked (owned_collation made.0.collation) made.0.settings made.1
         (summed_with files.table (properties_of files.properties.0, files.properties.1))) }
     ensures short { IfOk result (λ made. HasShortRows (owned_collation made.0.collation).rows) }
-    ensures refused { IfErr result (λ fault. fault ≡ RunFault.Memory) }
+    ensures refused { IfErr result (IsNoCollation asked (table_with files.table.0 (properties_of files.properties.0))) }
 {
     let SummedFiles { table, properties } = files;
     let (table, table_sum) = table;
@@ -114,7 +114,7 @@ fn read_headed<A: Allocator + Copy, T: Read, D: Read>(
     ensures read { Over summed_files (table.old ∷ properties.old ∷ []) (table.new ∷ properties.new ∷ [])
         (λ content. MatchResult result
         (λ made. IsHeaded asked (owned_collation made.0.collation) made.0.settings made.1 content)
-        (λ fault. fault ≡ RunFault.Memory)) result }
+        (λ fault. IsNoCollation asked (table_with content.table content.properties) fault)) result }
     ensures short { IfOk result (λ made. HasShortRows (owned_collation made.0.collation).rows) }
     ensures before_input { IfErr result (λ _. ended_before_input result ≡ true) }
     ensures failed { HaveFailed table_and_data_roles (table.old ∷ properties.old ∷ [])

@@ -31,7 +31,7 @@ fn headed_collation<A: Allocator + Copy>(
     ensures made { IfOk result (λ made. IsHeadedCompact asked (owned_collation made.0.collation) made.0.settings made.1 made.2
         (booked_with (summed_with read.files.table (properties_of read.files.properties.0, read.files.properties.1)) read.book)) }
     ensures short { IfOk result (λ made. HasShortRows (owned_collation made.0.collation).rows) }
-    ensures refused { IfErr result (λ fault. fault ≡ RunFault.Memory) }
+    ensures refused { IfErr result (IsNoCollation asked (table_with read.files.table.0 (properties_of read.files.properties.0))) }
 {
     let BookedFiles { files, book } = read;
     let SummedFiles { table, properties } = files;
@@ -63,7 +63,7 @@ fn read_headed<A: Allocator + Copy, T: Read, D: Read, B: Read>(
     ensures read { Over booked_files (table.old ∷ properties.old ∷ book.old ∷ []) (table.new ∷ properties.new ∷ book.new ∷ [])
         (λ content. MatchResult result
         (λ made. IsHeadedCompact asked (owned_collation made.0.collation) made.0.settings made.1 made.2 content)
-        (λ fault. fault ≡ RunFault.Memory)) result }
+        (λ fault. IsNoCollation asked (table_with content.files.table content.files.properties) fault)) result }
     ensures short { IfOk result (λ made. HasShortRows (owned_collation made.0.collation).rows) }
     ensures before_input { IfErr result (λ _. ended_before_input result ≡ true) }
     ensures failed { HaveFailed booked_roles (table.old ∷ properties.old ∷ book.old ∷ [])
