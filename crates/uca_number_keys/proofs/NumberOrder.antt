@@ -133,12 +133,12 @@ module _ (c : Collation) (orders : OrdersNumbers c) where
       ((d : ℕ) (ws : List ℕ) → IsDigit d → lexicographic (digit_weight c.rows d ∷ ws) tail ≡ order) →
       DifferFirst c depth weighting (front ++ (number ++ rest)) other order
   decided_by_digit depth weighting front number rest other tail order stands decides first =
-      let code = code_digits number stands.number.is_number in
+      let code = code_digits number stands.between.is_number in
       let weights = map (digit_weight c.rows) in
       let after = first_level c weighting rest in
       let left = front ++ (number ++ rest) in
       let level : lexicographic (first_level c weighting left) (first_level c weighting other) ≡ order =
-      ap₂ lexicographic (level_in_pieces c orders weighting front number rest stands.number) stands.same
+      ap₂ lexicographic (level_in_pieces c orders weighting front number rest stands.between) stands.same
       ∙ same_front (first_level c weighting front) (weights (number_code number) ++ after) tail
       ∙ ap (λ l. lexicographic (weights l ++ after) tail) code.same
       ∙ first code.first (weights code.more ++ after) code.all.0 in

@@ -1,8 +1,8 @@
 -- What is looked at in a table, and what it says of the order of numbers.
-use Rattle.std.proofs.Common.{◌≡◌, ◌≢◌, ◌↔◌, ◌⊎◌, ℕ, zero, suc, ◌+◌, ◌-◌, ◌<◌, ◌≤◌, List, [], ◌∷◌, ◌++◌, length, get_or, set, take, drop, Bool, true, false, not, Some, Contains, IsTrue, refl, sym, ap, subst, ◌∙◌, arith, inl, inr, length-take}
+use Rattle.std.proofs.Common.{◌≡◌, ◌≢◌, ◌⊎◌, ℕ, ◌+◌, ◌-◌, ◌<◌, ◌≤◌, List, [], ◌∷◌, length, get_or, set, take, drop, replicate, true, Some, Contains, refl, sym, ap, subst, ◌∙◌, arith, inl, inr, length-take}
 use Rattle.std.specs.List.{AllByRecursion}
-use Rattle.std.proofs.lemmas.Bool.{cases_eq, cond-true, cond-false, false_from_ne_true, false≢true}
-use Rattle.std.proofs.lemmas.List.{drop_more, take_more, get_or-set_same, get_or-set_other}
+use Rattle.std.proofs.lemmas.Bool.{cases_eq, cases_lt, cond-true, cond-false, false_from_ne_true}
+use Rattle.std.proofs.lemmas.List.{drop_all, drop_more, take_more, get_or-set_same, get_or-set_other, get_or-replicate, get_or_past, length-replicate}
 use Rattle.uca_weights.specs.declared.Element.{Element}
 use Rattle.uca_weights.proofs.Lists.{each_contained, each_push, inside, split_at}
 use Rattle.uca_values.specs.Content.{Entry, TableContent, Properties, keys_of}
@@ -11,7 +11,6 @@ use Rattle.uca_elements.specs.Collations.{collation_under}
 use Rattle.uca_elements.proofs.ReadingLemmas.{some_row}
 use Rattle.uca_elements.proofs.RowsByKey.{same_key-true, same_key-itself, Contains-first, Contains-later, row_of_found, key_iff}
 use Rattle.uca_numbers.specs.Numbers.{IsDigit}
-use Rattle.uca_numbers.specs.Texts.{has_digit}
 use Rattle.uca_number_keys.specs.Tables.{lone_primary, lone_primary_at, digit_weight, OrdersNumbers, SharesDigit, IsWrongDigit, IsWrongKey, HasWrongKey, IsToBlame}
 use Rattle.uca_number_keys.specs.inside.Checks.{no_entry, IsRowFrom, IsFoundFrom, IsFound, AreOrdered}
 
@@ -66,6 +65,17 @@ pub one_more_row : (rows : List Entry) (at above : ℕ) (found : List ℕ) → a
 one_more_row rows at above found next within other are d digit =
     kept_row rows at above d (get_or found (d - 0x30) 0) next within (other d digit) (are d digit)
 
+zero_at : (n i : ℕ) → ◌≡◌ {A = ℕ} (get_or (replicate n 0) i 0) 0
+zero_at n i = elim (cases_lt i n) [
+  | inl within ↦ get_or-replicate n i 0 0 within
+  | inr past ↦ get_or_past (replicate n 0) i 0 (let many = length-replicate {A = ℕ} n 0 in omega (arith, many, past))
+]
+
+-- after the last row none is found
+pub none_found : (rows : List Entry) (at : ℕ) → at ≡ length rows → AreFoundFrom rows at (0 ∷ 0 ∷ 0 ∷ 0 ∷ 0 ∷ 0 ∷ 0 ∷ 0 ∷ 0 ∷ 0 ∷ [])
+none_found rows at all d digit =
+    inl (zero_at 10 (d - 0x30), ap (λ l. rows_of l (d ∷ [])) (drop_all at rows (omega (arith, all))))
+
 own_found : (rows : List Entry) (at above d : ℕ) → above ≡ at + 1 → at < length rows → (get_or rows at no_entry).key ≡ d ∷ [] → IsRowFrom rows at d above
 own_found rows at above d next within key =
     let place : at ≡ above - 1 = omega (arith, next) in
@@ -99,7 +109,7 @@ one_more_digit rows at above found digit next within ten small key are d digit_i
 -- ---- What is found of a digit
 
 pub found_within : (rows : List Entry) (d row : ℕ) → IsFound rows d row → row ≤ length rows
-found_within rows d row is = elim is [ | inl none ↦ omega (arith, none.0) | inr there ↦ there.within ]
+found_within rows d row is = elim is [ inl none ↦ omega (arith, none.0) | inr there ↦ there.within ]
 
 pub weight_of_none : (rows : List Entry) (row : ℕ) → row ≡ 0 → (d : ℕ) → IsFound rows d row → 0 ≡ digit_weight (rows_of rows) d
 weight_of_none rows row nought d is = elim is [
@@ -209,7 +219,7 @@ blamed_digit properties rows digit last weight row digit_is found is below wrong
 
 module _ (table : TableContent) (properties : Properties) where
   alone_at_one : (n : ℕ) → (n ≢ 1 → ⊥) → n ≡ 1
-  alone_at_one n one = elim (cases_eq n 1) [ | inl same ↦ same | inr other ↦ absurd (one other) ]
+  alone_at_one n one = elim (cases_eq n 1) [ inl same ↦ same | inr other ↦ absurd (one other) ]
 
   pub orders_from : AllByRecursion StandsAlone table.rows → AreOrdered properties (rows_of table.rows) → OrdersNumbers (collation_under table properties)
   orders_from alone ordered = record {

@@ -45,7 +45,7 @@ pub record NumbersOrderTexts : Type 0 where
 
 -- A text with a number, and another text whose weights at level 1 are those before the number, and then `tail`.
 pub record StandsAgainst (c : Collation) (weighting : Weighting) (front number rest other tail : List ℕ) : Type 0 where
-  pub number : IsNumberBetween front number rest
+  pub between : IsNumberBetween front number rest
   pub same : first_level c weighting other ≡ first_level c weighting front ++ tail
 
 -- the weights end, or go on with one below this

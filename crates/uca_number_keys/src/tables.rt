@@ -128,7 +128,8 @@ fn wrong_digit<A: Allocator, B: Allocator>(
     for digit in b'0'..b'9' + 1 {
         let row = found[(digit - b'0') as usize];
         let weight = weight_of_row(rows, row);
-        if weight <= last || properties.class(char::from(digit)) != 0 {
+        let class = properties.class(char::from(digit));
+        if weight <= last || class != 0 {
             return Some(row);
         }
         last = weight;

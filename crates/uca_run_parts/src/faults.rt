@@ -322,7 +322,9 @@ fn digits_message(row: u32) -> Message
     if row == 0 {
         Message::of("table: Digits")
     } else {
-        Message::of("table row ").number(row.into()).text(": Digits")
+        Message::of("table row ")
+            .number(row.into())
+            .text(": Digits")
     }
 }
 
