@@ -6,9 +6,10 @@ ghost use Rattle.uca_values.specs.Content.{properties_of};
 ghost use Rattle.uca_match.specs.OwnedCollations.{owned_collation};
 ghost use Rattle.uca_order.specs.Lengths.{HasShortRows};
 ghost use Rattle.uca_run_parts.specs.EachLine.{ended_before_input};
-ghost use Rattle.uca_run_parts.specs.Files.{HaveFailed, Over};
+ghost use Rattle.uca_run_parts.specs.Files.{HaveFailed, Over, table_with};
 ghost use Rattle.uca_fingerprint_runs.specs.SummedFiles.{booked_files, booked_roles, booked_with, summed_with};
 ghost use Rattle.uca_key_runs.specs.HeadedCompactRun.{PrintsHeadedCompactKeys, PrintsHeadedCompactLines};
+ghost use Rattle.uca_key_runs.specs.inside.Collations.{IsNoCollation};
 ghost use Rattle.uca_key_runs.specs.inside.CompactParts.{IsHeadedCompact, PrintsHeadedCompactAs};
 
 use crate::collations::{ReadCollation, collation_of};
@@ -120,7 +121,9 @@ fn run_headed_compact_in<A: Allocator + Copy, T: Read, D: Read, B: Read, I: Read
 /// # Errors
 ///
 /// - `File`: the table, or else the data file, or else the book, is rejected.
-/// - `Memory`: an allocation failed for looking up rows. In both cases nothing was written, and nothing of the input was read.
+/// - `Digits`: numbers are to be ordered by value, and the table does not order them. It comes after the errors of files.
+/// - `Memory`: an allocation failed for looking up rows. In these cases nothing was written, and nothing of the input was
+///   read.
 /// - `Input`: the first line with an error. The header was written, and the compact keys of the lines before it.
 /// - `Write`: the writer failed, also if a later line has an error. The first `written` bytes of the whole output went out,
 ///   with those of the header. The count stops at `u64::MAX`.
