@@ -68,7 +68,7 @@ abbrev pub TakesTable : Numbers → TableContent → Properties → Type 0
 TakesTable numbers table properties = numbers ≡ ByValue → OrdersNumbers (collation_under table properties)
 
 -- They are to be so ordered, and the table does not order them: this row is to blame.
-pub record RejectsTable (numbers : Numbers) (table : TableContent) (properties : Properties) (row : ℕ) : Type 0 where
+pub record RefusesTable (numbers : Numbers) (table : TableContent) (properties : Properties) (row : ℕ) : Type 0 where
   pub asked : numbers ≡ ByValue
   pub unordered : OrdersNumbers (collation_under table properties) → ⊥
   pub blame : IsToBlame properties table.rows row

@@ -2,12 +2,12 @@
 
 ghost use Rattle.std.specs.Prelude.{◌≡◌, ◌≢◌, ◌↔◌, ◌+◌, ◌-◌, ℕ, ◌<◌, ◌≤◌, List, ◌∷◌, [], length, IsTrue, IsOk, IfErr, OnOk, MatchOption, slice_index, slice_index_or};
 ghost use Rattle.std.specs.List.{AllByRecursion};
-ghost use Rattle.uca_values.specs.Content.{Entry, properties_of};
+ghost use Rattle.uca_values.specs.Content.{Entry, HeaderContent, properties_of};
 ghost use Rattle.uca_elements.specs.Rows.{rows_of};
 ghost use Rattle.uca_elements.specs.Collations.{collation_under};
 ghost use Rattle.uca_numbers.specs.Numbers.{IsDigit};
 ghost use Rattle.uca_numbers.specs.Texts.{has_digit};
-ghost use Rattle.uca_number_keys.specs.Tables.{OrdersNumbers, SharesDigit, IsToBlame, TakesTable, RejectsTable, digit_weight};
+ghost use Rattle.uca_number_keys.specs.Tables.{OrdersNumbers, SharesDigit, IsToBlame, TakesTable, RefusesTable, digit_weight};
 ghost use Rattle.uca_number_keys.specs.inside.Checks.{AreOrdered, IsFound};
 
 use std::alloc::Allocator;
@@ -57,11 +57,33 @@ pub fn check_table_for<A: Allocator, B: Allocator>(
     properties: &Data<B>,
 ) -> Result<(), UnorderedDigits>
     ensures taken { OnOk result (TakesTable numbers table.now (properties_of properties.now)) }
-    ensures rejected { IfErr result (λ fault. RejectsTable numbers table.now (properties_of properties.now) fault.row) }
+    ensures rejected { IfErr result (λ fault. RefusesTable numbers table.now (properties_of properties.now) fault.row) }
+{
+    check_rows_for(numbers, &table.rows, properties)
+}
+
+/// As `check_table_for`, for the rows of a table with any header.
+///
+/// # Errors
+///
+/// The row to blame, as `check_numbers` says it.
+pub fn check_rows_for<A: Allocator, B: Allocator>(
+    numbers: Numbers,
+    rows: &PackedRows<A>,
+    properties: &Data<B>,
+) -> Result<(), UnorderedDigits>
+    requires { length rows.now ≤ 200000 }
+    ensures taken { (header : HeaderContent) →
+        OnOk result (TakesTable numbers (record { header = header; rows = rows.now }) (properties_of properties.now)) }
+    ensures rejected { (header : HeaderContent) → IfErr result (λ fault.
+        RefusesTable numbers (record { header = header; rows = rows.now }) (properties_of properties.now) fault.row) }
 {
     match numbers {
         Numbers::AsText => Ok(()),
-        Numbers::ByValue => check_numbers(table, properties),
+        Numbers::ByValue => match row_to_blame(rows, properties) {
+            None => Ok(()),
+            Some(row) => Err(UnorderedDigits { row }),
+        },
     }
 }
 
