@@ -32,8 +32,8 @@ _uca_options_of() {
         changes) echo "-h --help" ;;
         audit-changes) echo "-h --help" ;;
         rekey) echo "--weighting --identical --from --to -h --help" ;;
-        compact) echo "--weighting --identical --from --to -h --help" ;;
-        expand) echo "--weighting --identical --from --to -h --help" ;;
+        compact) echo "--weighting --identical --from -h --help" ;;
+        expand) echo "--weighting --identical --to -h --help" ;;
         book) echo "-h --help" ;;
         fingerprint) echo "--weighting --identical --numeric --compact -h --help" ;;
     esac

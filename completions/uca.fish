@@ -63,9 +63,8 @@ complete -c uca -n '__uca_wants_option changes affected' -l changes -d 'RULES is
 complete -c uca -n '__uca_wants_option numeric affected' -l numeric -d 'The lines are keyed or sorted with --numeric'
 complete -c uca -n '__uca_has_command rekey compact expand' -l weighting -x -a 'non-ignorable shifted' -d 'non-ignorable or shifted, as the keys were made'
 complete -c uca -n '__uca_wants_option identical rekey compact expand' -l identical -d 'The keys were made with --identical'
-complete -c uca -n '__uca_has_command rekey compact expand' -l from -x -d 'The input has a header with this fingerprint'
+complete -c uca -n '__uca_has_command rekey compact' -l from -x -d 'The input has a header with this fingerprint'
 complete -c uca -n '__uca_has_command rekey' -l to -x -d 'Print a header with this fingerprint, that of the new table and data file'
-complete -c uca -n '__uca_has_command compact' -l to -x -d 'Print a header of compact keys with this fingerprint'
 complete -c uca -n '__uca_has_command expand' -l to -x -d 'Print a header of keys with this fingerprint'
 complete -c uca -n '__uca_has_command fingerprint' -l compact -x -d 'Print the fingerprint of compact keys that are made by this book'
 

@@ -4,7 +4,8 @@
     tests/run.py [MODULE ..]        such as test_keys; all of this folder unless some are named
 
 The program is crates/uca/out/uca, which `rt ci` and tools/build.py make, or what the environment variable UCA names. It needs
-python3 alone; `test_refusals` needs a C compiler too, and is not run without one. The last line is `N passed, M failed`, without what was not run.
+python3 alone. `test_refusals` needs a C compiler too, and `test_header` that and the libraries for C, which `rt ci` proves and does not keep, as
+tools/build.py does. Without these a line says what was not run. The last line is `N passed, M failed`, without what was not run.
 """
 import os
 import sys

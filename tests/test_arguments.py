@@ -103,8 +103,8 @@ class Model:
         "changes": (5, []),
         "audit-changes": (6, []),
         "rekey": (1, ["--weighting", "--identical", "--from", "--to"]),
-        "compact": (1, ["--weighting", "--identical", "--from", "--to"]),
-        "expand": (1, ["--weighting", "--identical", "--from", "--to"]),
+        "compact": (1, ["--weighting", "--identical", "--from"]),
+        "expand": (1, ["--weighting", "--identical", "--to"]),
         "book": (2, []),
         "fingerprint": (2, ["--weighting", "--identical", "--numeric", "--compact"]),
     }
@@ -114,8 +114,9 @@ class Model:
         self.texts, self.options = [], {}
         self.is_taken = self.command in self.TAKES and self.takes(words)
         self.is_weighting_known = self.options.get("--weighting") in (None, "shifted", "non-ignorable")
-        fingerprints = [self.options.get(name) for name in ("--from", "--to")]
-        self.are_fingerprints_known = fingerprints == [None, None] or all(it and re.fullmatch("[0-9a-f]{64}", it) for it in fingerprints)
+        fingerprints = [self.options[name] for name in ("--from", "--to") if name in self.options]
+        are_together = self.command != "rekey" or len(fingerprints) != 1
+        self.are_fingerprints_known = are_together and all(re.fullmatch("[0-9a-f]{64}", it) for it in fingerprints)
 
     def takes(self, words):
         count, options = self.TAKES[self.command]
@@ -165,8 +166,8 @@ audit-changes b d t d h c
 rekey --weighting shifted c --identical
 rekey --from {0} c --to={0}
 compact --weighting non-ignorable k
-compact --from {0} --to={0} k
-expand k --identical
+compact --from {0} k
+expand k --identical --to={0}
 book c k
 fingerprint --identical t --weighting=shifted d
 fingerprint t --compact k d""".format("0123456789abcdef" * 4).splitlines()

@@ -1,4 +1,4 @@
-"""The header of key lines: `uca keys --header` writes it. `rekey`, `compact` and `expand` test it by `--from`, and write another one by `--to`."""
+"""The header of key lines: `uca keys --header` writes it. `rekey`, `compact` and `expand` test it, and write another one."""
 import hashlib
 
 from program import DATA, TABLE, ProgramTest
@@ -133,13 +133,21 @@ class Rekey(ProgramTest):
             self.expect(f"rekey {options} missing", "", status=2, err="fingerprint: unknown\n")
 
 
-# The book has a cell for 1C60, which is 0A. So the key of `b` is 0A, and 03 says that all later levels are plain.
+# The book has a cell for 1C60, which is 0A. So the key of `b` is 0A, and 03 says that all later levels are plain. By the
+# other book 0A is the cell of 1C47, and the key of `b` is 0C.
 BOOK = "@book 1\n1 1C60\n1 1C61\n"
+OTHER_BOOK = "@book 1\n1 1C47\n1 1C48\n1 1C60\n1 1C61\n"
 COMPACT = "0A03"
 
 
-def compact_header(weighting="shifted", depth="weights", digits=OTHER):
-    return f"#uca compact 1 {weighting} {depth} {digits}\n"
+def compact_fingerprint(keys, book=BOOK):
+    """The SHA-256 of the text that docs/FORMATS.md states."""
+    text = f"uca compact keys 1\nkeys {keys}\nbook {hashlib.sha256(book.encode()).hexdigest()}\n"
+    return hashlib.sha256(text.encode()).hexdigest()
+
+
+def compact_header(weighting="shifted", depth="weights", digits=None):
+    return f"#uca compact 1 {weighting} {depth} {digits or compact_fingerprint(fingerprint(weighting, depth))}\n"
 
 
 class Compact(ProgramTest):
@@ -147,9 +155,9 @@ class Compact(ProgramTest):
 
     def setUp(self):
         super().setUp()
-        self.write(t=TABLE, d=DATA, k=BOOK)
-        self.ask = f"--from {fingerprint()} --to {OTHER} k"
-        self.back = f"--from {OTHER} --to {fingerprint()} k"
+        self.write(t=TABLE, d=DATA, k=BOOK, j=OTHER_BOOK)
+        self.ask = f"--from {fingerprint()} k"
+        self.back = f"--to {fingerprint()} k"
 
     def test_compact(self):
         new = compact_header()
@@ -157,6 +165,8 @@ class Compact(ProgramTest):
         for lines in header(), header().rstrip("\n"):
             self.expect(f"compact {self.ask}", lines, out=new)
         self.expect(f"compact {self.ask}", header() + KEY, out=new + COMPACT + "\n")
+        new = compact_header(digits=compact_fingerprint(OTHER, OTHER_BOOK))
+        self.expect(f"compact --from {OTHER} j", header(digits=OTHER) + KEY + "\n", out=new + "0C03\n")
 
     def test_expand(self):
         key = KEY.replace(" ", "")
@@ -169,23 +179,33 @@ class Compact(ProgramTest):
         old, new = header("non-ignorable", "identical"), compact_header("non-ignorable", "identical")
         key, compact = "1C6000000020000000020000000062", "080262"
         asked = fingerprint("non-ignorable", "identical")
-        self.expect(f"compact {options} --from {asked} --to {OTHER} k", old + key + "\n", out=new + compact + "\n")
-        self.expect(f"expand {options} --from {OTHER} --to {asked} k", new + compact + "\n", out=old + key + "\n")
+        self.expect(f"compact {options} --from {asked} k", old + key + "\n", out=new + compact + "\n")
+        self.expect(f"expand {options} --to {asked} k", new + compact + "\n", out=old + key + "\n")
 
     def test_what_keys_and_fingerprint_print(self):
-        """All three fingerprints belong together, and the way back is the whole way."""
+        """Three commands name the same compact keys, and the way back is the whole way."""
         made = self.run_uca("keys", "--header", "--lines", "t", "d", given="b\na\n\n").out
-        digits = self.run_uca("fingerprint", "--compact", "k", "t", "d").out.decode().strip()
-        ended = self.run_uca("compact", "--from", fingerprint(), "--to", digits, "k", given=made)
-        self.assertEqual((ended.status, ended.out.split(b"\n")[0]), (0, compact_header(digits=digits).rstrip("\n").encode()))
-        self.expect(f"expand --from {digits} --to {fingerprint()} k", ended.out, out=made)
+        self.expect("fingerprint --compact k t d", out=compact_fingerprint(fingerprint()) + "\n")
+        ended = self.run_uca("compact", *self.ask.split(), given=made)
+        self.assertEqual((ended.status, ended.out.split(b"\n")[0]), (0, compact_header().rstrip("\n").encode()))
+        self.expect("keys --header --lines --compact k t d", "b\na\n\n", out=ended.out)
+        self.expect(f"expand {self.back}", ended.out, out=made)
+
+    def test_other_books(self):
+        """Compact keys by one book never become keys by another one, which would be those of other texts."""
+        made = self.run_uca("keys", "--header", "--lines", "t", "d", given="b\n").out
+        compact = self.run_uca("compact", *self.ask.split(), given=made).out
+        self.expect(f"expand --to {fingerprint()} j", compact, status=1, err="input line 1: Header\n")
+        self.expect("expand j", COMPACT + "\tb\n", out=KEY.replace("1C60", "1C47").replace(" ", "") + "\tb\n")
 
     def test_other_headers(self):
         """Each is rejected at line 1, and nothing is written. A header of the other kind is one of them."""
         for lines in ["", "\n", KEY + "\n", header("non-ignorable"), header("shifted", "identical"), header(digits=OTHER), header().replace("keys 1", "keys 2"),
-                      header().replace("\n", " \n"), compact_header(digits=fingerprint())]:
+                      header().replace("\n", " \n"), compact_header(), compact_header(digits=fingerprint())]:
             self.expect(f"compact {self.ask}", lines + KEY + "\n" if lines else "", status=1, err="input line 1: Header\n")
-        for lines in [COMPACT + "\n", compact_header("non-ignorable"), compact_header(digits=fingerprint()), header(digits=OTHER)]:
+        for digits in fingerprint(), OTHER, compact_fingerprint(OTHER), compact_fingerprint(fingerprint(), OTHER_BOOK), compact_fingerprint(fingerprint(), ""):
+            self.expect(f"expand {self.back}", compact_header(digits=digits) + COMPACT + "\n", status=1, err="input line 1: Header\n")
+        for lines in [COMPACT + "\n", compact_header("non-ignorable"), header(), header(digits=compact_fingerprint(fingerprint()))]:
             self.expect(f"expand {self.back}", lines + COMPACT + "\n", status=1, err="input line 1: Header\n")
 
     def test_headers_that_are_not_asked_for(self):
@@ -199,13 +219,16 @@ class Compact(ProgramTest):
         self.expect(f"compact {self.ask}", header() + "1C60\n", out=compact_header(), status=1, err="input line 2: OtherKey\n")
         self.expect(f"expand {self.back}", compact_header() + "FF\n", out=header(), status=1, err="input line 2: NoCompactKey\n")
         self.write(x="?\n")
-        self.expect(f"compact --from {OTHER} --to {OTHER} x", header(), status=1, err="book line 1: Order\n")
+        self.expect(f"compact --from {OTHER} x", header(), status=1, err="book line 1: Order\n")
         with open("/dev/full", "wb") as full:
             ended = self.run_uca("compact", *self.ask.split(), given=header() + KEY + "\n", stdout=full)
             self.assertEqual((ended.status, ended.err), (3, b"output: Write\n"))
 
     def test_fingerprints(self):
-        """The arguments are judged before a file is opened."""
-        for command in "compact", "expand":
-            for options in f"--from {OTHER}", f"--to {OTHER}", f"--from {OTHER} --to {OTHER[1:]}":
-                self.expect(f"{command} {options} missing", "", status=2, err="fingerprint: unknown\n")
+        """The arguments are judged before a file is opened. The fingerprint of compact keys is no argument."""
+        for options in f"compact --from {OTHER[1:]}", f"compact --from {OTHER}0", f"expand --to {OTHER.upper()}", "expand --to=":
+            self.expect(f"{options} missing", "", status=2, err="fingerprint: unknown\n")
+        for command, other in ("compact", "--to"), ("expand", "--from"):
+            ended = self.run_uca(command, other, OTHER, "k", given=header())
+            self.assertEqual((ended.status, ended.out), (2, b""))
+            self.assertTrue(ended.err.startswith(f"error: unexpected argument '{other}' found\n".encode()), ended.err)

@@ -5,11 +5,15 @@ Lengths of texts and numbers of rows are also round, such as 70,000, and random.
 import random
 
 from program import A_ACUTE, ACUTE, DATA, DOT_BELOW, NO_WEIGHTS, TABLE, ProgramTest, key_of, many
+from test_numbers import NUMBER_TABLE
 
 BY_THREE = "--weighting non-ignorable t d"
 
 # The options of each weighting and depth.
 SETTINGS = [f"--weighting {weighting}{depth}" for weighting in ("non-ignorable", "shifted") for depth in ("", " --identical")]
+
+# Cells of one weight for `b` alone: 08 under non-ignorable, 0A under shifted. The end of a key of plain levels is 02 or 03.
+BOOK_OF_B = "@book 1\n1 1C60\n1 1C61\n"
 
 # What each certificate ends with, and what comes before it where level 1 moves no weight.
 OF_LEVEL_2, OF_LEVEL_3 = "2 0020 0020 0001\n", "3 0002 0002 0001\n"
@@ -72,7 +76,7 @@ def listed(lines):
 class Lines(ProgramTest):
     def setUp(self):
         super().setUp()
-        self.write(t=TABLE, d=DATA, r="&a < x", x=listed(["text 0078"]))
+        self.write(t=TABLE, d=DATA, k=BOOK_OF_B, r="&a < x", x=listed(["text 0078"]))
 
     def test_numbers_of_lines(self):
         for count in sizes(1_000_000):
@@ -93,6 +97,7 @@ class Lines(ProgramTest):
             empty = many("0000", key_in(setting, "1C47", 1, "a").count(" 0000 "))
             self.expect(f"keys {setting} t d", "\n" * 140_000, out=f"{empty}\n" * 140_000)
             self.expect(f"keys {setting} --lines t d", "\n" * 140_000, out=f"{empty.replace(' ', '')}\t\n" * 140_000)
+            self.expect(f"keys {setting} --compact k t d", "\n" * 140_000, out=("03\n" if "shifted" in setting else "02\n") * 140_000)
 
     def test_numbers_of_lines_that_are_affected(self):
         for files in "d r", "--changes d x":
@@ -117,6 +122,18 @@ class Lines(ProgramTest):
             keys = [key_of(*(many(weight, length) for weight in weights)) if weights else key_of("", "", "") for length in lengths]
             self.expect(f"keys {BY_THREE}", lines, out="".join(keys))
             self.expect(f"sort {BY_THREE}", lines, out=lines)
+
+    def test_many_lengths_of_numbers(self):
+        """By value. Before the digits comes how many they are, as 1 to 8, then as 91 to 98, 991 to 998 and so on."""
+        self.write(t=NUMBER_TABLE)
+        lengths = many_sizes(10_001, 200)
+        lines = ["7" * length + "\n" for length in lengths]
+        codes = ["9" * ((length - 1) // 8) + str((length - 1) % 8 + 1) for length in lengths]
+        counts = [len(code) + length for code, length in zip(codes, lengths)]
+        letters = [" ".join(f"{0x1C3D + int(digit):04X}" for digit in code) + " " + many("1C44", length) for code, length in zip(codes, lengths)]
+        keys = [key_of(letter, many("0020", count), many("0002", count)) for letter, count in zip(letters, counts)]
+        self.expect(f"keys --numeric {BY_THREE}", "".join(lines), out="".join(keys))
+        self.expect(f"sort --numeric {BY_THREE}", "".join(reversed(lines)), out="".join(lines))
 
     def test_letters_of_all_pages(self):
         """One of each 256 code points, from plane 3 on. What is known of code points is kept by such pages."""
@@ -402,6 +419,28 @@ class StoredKeys(ProgramTest):
         # the key has no weights at levels 2 and 3
         old, new = ("".join(f"{weight}00000000\t{'b' * (length - 13)}\n" for length in sizes(1_048_576) if length > 12) for weight in ("1C60", "7C60"))
         self.expect("rekey --weighting non-ignorable c", old, out=new)
+
+    def test_many_lengths_of_keys(self):
+        """Keys of so many letters. A letter has six bytes in a key, and one in its compact key. A mended key has the digits that it had, but for its letters."""
+        self.write(t=TABLE, d=DATA, k=BOOK_OF_B, c=certificate_of(1, "1 1C60 7C60 0001\n"))
+        lengths = sorted({-(-size // 6) for size in many_sizes(400_000, 200)})
+        old, new = ("".join("0000".join(weight * length for weight in (letter, "0020", "0002")) + "\n" for length in lengths) for letter in ("1C60", "7C60"))
+        compact = "".join("08" * length + "02\n" for length in lengths)
+        self.expect(f"keys --compact k {BY_THREE}", "".join("b" * length + "\n" for length in lengths), out=compact)
+        self.expect("compact --weighting non-ignorable k", old, out=compact)
+        self.expect("expand --weighting non-ignorable k", compact, out=old)
+        self.expect("rekey --weighting non-ignorable c", old, out=new)
+
+    def test_starts_of_books(self):
+        """Each weight begins a cell of one of these books, which have 1 to 245 starts side by side. The first start and the one after it have cells of one weight."""
+        first, number = 0x0002, 0
+        while first <= 0xFFFF:
+            last = min(first + number % 245, 0xFFFF)
+            starts = range(first, last + 1)
+            self.write(k="@book 1\n" + "".join(f"1 {it:04X}\n" for it in starts) + "".join(f"4 {it:04X}\n" for it in starts if it < 0xFFFF))
+            keys = "".join(f"{weight:04X}0000002000000002\n" for weight in starts[:-1])
+            self.expect("compact --weighting non-ignorable k", keys, out="".join(f"{8 + it:02X}02\n" for it in range(len(starts) - 1)))
+            first, number = last + 1, number + 1
 
     def test_numbers_of_runs(self):
         """So many weights of a level move up to its end. The first and the last are those of stored keys."""

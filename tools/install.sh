@@ -106,12 +106,13 @@ put 644 "$top/completions/_uca" share/zsh/site-functions/_uca
 put 644 "$top/completions/uca.fish" share/fish/vendor_completions.d/uca.fish
 put_documents 644 LICENSE LICENSE-MIT LICENSE-APACHE NOTICE
 put_documents 644 README.md CHANGELOG.md SECURITY.md bench/README.md bench/time.svg bench/key_bytes.svg
-for page in "$top"/docs/*.md "$top"/examples/* "$top"/examples/*/*; do
-    case $(basename "$page" .md) in
-        CONTRIBUTING | ARCHITECTURE | RECIPES | GATE) ;;
+# three scripts of examples/databases need tests/by_hand, which is not installed
+for page in "$top"/docs/* "$top"/examples/* "$top"/examples/*/*; do
+    case $(basename "$page") in
+        ARCHITECTURE.md | RECIPES.md | GATE.md | run_all.py | tries_from_keys.py | local_servers.py) ;;
         *) put_documents 644 "${page#"$top"/}" ;;
     esac
 done
 put_documents 755 tools/unicode_files.py tools/languages.py
 put_documents 644 tools/cldr_rules.py tools/profile_rules.py tools/language_tags.py tools/language_tables.py
-put_documents 644 tools/weight_lists.py tools/script_order.py tools/han_order.py tools/kept_changes.py
+put_documents 644 tools/weight_lists.py tools/script_order.py tools/han_order.py tools/kept_changes.py tools/index_labels.py

@@ -48,7 +48,7 @@ USED = {
 AS_ONE_PROCESSOR = "edits"
 
 # The line at which a function begins, and that at which a block of functions of a type does: with the trait, if it is one's, and the type.
-FUNCTION = re.compile(r"( *)(?:pub(?:\([a-z]+\))? )?(?:const |unsafe )*fn (\w+)")
+FUNCTION = re.compile(r"( *)(?:pub(?:\([a-z]+\))? )?(?:const |unsafe |extern \"C\" )*fn (\w+)")
 IMPL = re.compile(r"impl(?:<.*?>)? (?:(?:\w+::)*(\w+)(?:<[^{]*?>)? for )?&?(?:\w+::)*(\w+)")
 
 # The last line of a check of some functions: how many, and how many of them are proved.
@@ -129,9 +129,22 @@ def changed_function(folder, texts):
         at = next((number for number, (old, new) in enumerate(pairs) if old != new), None)
         if not file.startswith("src/") or at is None:
             return None
-        modules = [it for it in file[len("src/") : -len(".rt")].split("/") if it not in ("lib", "main")]
-        return "::".join([*modules, *named]) if (named := function_at(text.split("\n"), at)) else None
+        if not (named := function_at(text.split("\n"), at)):
+            return None
+        place = declaring(folder, file, named[0]) if len(named) > 1 else file
+        modules = [it for it in place[len("src/") : -len(".rt")].split("/") if it not in ("lib", "main")]
+        return "::".join([*modules, *named])
     return None
+
+
+def declaring(folder, file, name):
+    """The file that declares a type: a check knows its functions by the module of the type. It is the given one unless exactly one file declares it."""
+    found = []
+    for at, _, names in os.walk(f"{folder}/src"):
+        for path in (f"{at}/{it}" for it in names if it.endswith(".rt")):
+            with open(path, encoding="utf-8") as source:
+                found += [path] * len(re.findall(rf"^(?:pub(?:\([a-z]+\))? )?(?:struct|enum) {name}\b", source.read(), re.M))
+    return os.path.relpath(found[0], folder) if len(found) == 1 else file
 
 
 def function_at(lines, at):

@@ -1,14 +1,19 @@
 \echo Use "CREATE EXTENSION uca" to load this file. \quit
 
+-- The superuser who installs this may do so in a schema where another role makes functions and operators. So each function, operator and type
+-- of PostgreSQL is named with its schema, or is in a body whose search_path is pg_catalog; `integer`, `boolean` and `bigint` are key words.
+-- IN, CASE with a value, BETWEEN and LIKE would name an operator without one. The extension's own are named alone, since it can be moved to
+-- another schema. Each is called with exactly its types: PostgreSQL takes no other one then, and a second one of these types is an error.
+
 -- the fingerprint of the files and settings that the server has read when it started, as `uca fingerprint` prints it
-CREATE FUNCTION uca_fingerprint() RETURNS text AS 'MODULE_PATHNAME', 'uca_fingerprint_of_files' LANGUAGE C STABLE PARALLEL SAFE;
+CREATE FUNCTION uca_fingerprint() RETURNS pg_catalog.text AS 'MODULE_PATHNAME', 'uca_fingerprint_of_files' LANGUAGE C STABLE PARALLEL SAFE;
 
 -- the same of the next edition. It is an error where the server has none.
-CREATE FUNCTION uca_next_fingerprint() RETURNS text AS 'MODULE_PATHNAME', 'uca_fingerprint_of_next_files' LANGUAGE C STABLE PARALLEL SAFE;
+CREATE FUNCTION uca_next_fingerprint() RETURNS pg_catalog.text AS 'MODULE_PATHNAME', 'uca_fingerprint_of_next_files' LANGUAGE C STABLE PARALLEL SAFE;
 
 -- The fingerprints of the files and settings by which the keys of this database are made. Each row has to be that of the server, or else
 -- uca_key(text) is an error. A dump has these rows. So a restored database has a row of its server and the rows of the dump.
-CREATE TABLE uca_files (fingerprint text NOT NULL);
+CREATE TABLE uca_files (fingerprint pg_catalog.text NOT NULL);
 ALTER TABLE uca_files REPLICA IDENTITY FULL;
 INSERT INTO uca_files VALUES (uca_fingerprint());
 GRANT SELECT ON uca_files TO PUBLIC;
@@ -20,76 +25,85 @@ SELECT pg_catalog.pg_extension_config_dump('uca_files', '');
 SET LOCAL jit = off;
 INSERT INTO uca_files SELECT 'unknown, since columns of type bytea were here before the extension' WHERE EXISTS (
     WITH RECURSIVE holds(type) AS (
-        SELECT 'bytea'::regtype::oid
+        SELECT 'pg_catalog.bytea'::pg_catalog.regtype::pg_catalog.oid
         UNION
-        SELECT t.oid FROM holds h JOIN pg_type t ON h.type IN (t.typbasetype, t.typelem)
-            OR EXISTS (SELECT FROM pg_attribute a WHERE a.attrelid = t.typrelid AND a.atttypid = h.type)
-            OR EXISTS (SELECT FROM pg_range r WHERE t.oid IN (r.rngtypid, r.rngmultitypid) AND r.rngsubtype = h.type)
+        SELECT t.oid FROM holds h JOIN pg_catalog.pg_type t ON h.type OPERATOR(pg_catalog.=) t.typbasetype OR h.type OPERATOR(pg_catalog.=) t.typelem
+            OR EXISTS (SELECT FROM pg_catalog.pg_attribute a
+                WHERE a.attrelid OPERATOR(pg_catalog.=) t.typrelid AND a.atttypid OPERATOR(pg_catalog.=) h.type)
+            OR EXISTS (SELECT FROM pg_catalog.pg_range r
+                WHERE (t.oid OPERATOR(pg_catalog.=) r.rngtypid OR t.oid OPERATOR(pg_catalog.=) r.rngmultitypid)
+                    AND r.rngsubtype OPERATOR(pg_catalog.=) h.type)
     )
-    SELECT FROM pg_attribute a JOIN pg_class c ON c.oid = a.attrelid JOIN holds ON type = a.atttypid
-    WHERE c.oid >= 16384 AND c.relkind IN ('r', 'p', 'm', 'f') AND a.attnum > 0 AND NOT a.attisdropped);
+    SELECT FROM pg_catalog.pg_attribute a JOIN pg_catalog.pg_class c ON c.oid OPERATOR(pg_catalog.=) a.attrelid
+        JOIN holds h ON h.type OPERATOR(pg_catalog.=) a.atttypid
+    WHERE c.oid OPERATOR(pg_catalog.>=) 16384::pg_catalog.oid AND c.relkind OPERATOR(pg_catalog.=) ANY ('{r,p,m,f}'::pg_catalog."char"[])
+        AND a.attnum OPERATOR(pg_catalog.>) 0::smallint AND NOT a.attisdropped);
 
 -- The sort key of a text, whose byte order is the order of texts. It is compact where the server has a book. A text that is rejected is an
 -- error, which has the position: LongRun at 1.
-CREATE FUNCTION uca_key(text) RETURNS bytea AS 'MODULE_PATHNAME', 'uca_key_of_text' LANGUAGE C IMMUTABLE STRICT PARALLEL SAFE COST 20;
+CREATE FUNCTION uca_key(pg_catalog.text) RETURNS pg_catalog.bytea AS 'MODULE_PATHNAME', 'uca_key_of_text' LANGUAGE C IMMUTABLE STRICT PARALLEL SAFE COST 20;
 
 -- Why a text is rejected, and where: Utf8 at 0, LongRun at 1 or TooLong. It is NULL for a text that is accepted, and for NULL. So it finds
 -- the rows for which an index on uca_key is an error.
-CREATE FUNCTION uca_check(text) RETURNS text AS 'MODULE_PATHNAME', 'uca_check_of_text' LANGUAGE C IMMUTABLE STRICT PARALLEL SAFE COST 20;
+CREATE FUNCTION uca_check(pg_catalog.text) RETURNS pg_catalog.text AS 'MODULE_PATHNAME', 'uca_check_of_text'
+LANGUAGE C IMMUTABLE STRICT PARALLEL SAFE COST 20;
 
 -- The key for rejected texts too: a byte 0 and the key, or a byte 1 and the text. So rejected texts come after all others.
-CREATE FUNCTION uca_any_key(text) RETURNS bytea AS 'MODULE_PATHNAME', 'uca_any_key_of_text' LANGUAGE C IMMUTABLE STRICT PARALLEL SAFE COST 20;
+CREATE FUNCTION uca_any_key(pg_catalog.text) RETURNS pg_catalog.bytea AS 'MODULE_PATHNAME', 'uca_any_key_of_text'
+LANGUAGE C IMMUTABLE STRICT PARALLEL SAFE COST 20;
 
 -- The key through 1 or 2 levels. Two are equal exactly if the texts have the same letters, or the same letters and accents.
-CREATE FUNCTION uca_key(text, levels integer) RETURNS bytea AS 'MODULE_PATHNAME', 'uca_range_low_of_text'
+CREATE FUNCTION uca_key(pg_catalog.text, levels integer) RETURNS pg_catalog.bytea AS 'MODULE_PATHNAME', 'uca_range_low_of_text'
 LANGUAGE C IMMUTABLE STRICT PARALLEL SAFE COST 20;
 
 -- The range of the keys with the same letters, or the same letters and accents: from the low end up to, and without, the high end.
-CREATE FUNCTION uca_range_low(text, levels integer) RETURNS bytea AS 'MODULE_PATHNAME', 'uca_range_low_of_text'
+CREATE FUNCTION uca_range_low(pg_catalog.text, levels integer) RETURNS pg_catalog.bytea AS 'MODULE_PATHNAME', 'uca_range_low_of_text'
 LANGUAGE C IMMUTABLE STRICT PARALLEL SAFE COST 20;
-CREATE FUNCTION uca_range_high(text, levels integer) RETURNS bytea AS 'MODULE_PATHNAME', 'uca_range_high_of_text'
+CREATE FUNCTION uca_range_high(pg_catalog.text, levels integer) RETURNS pg_catalog.bytea AS 'MODULE_PATHNAME', 'uca_range_high_of_text'
 LANGUAGE C IMMUTABLE STRICT PARALLEL SAFE COST 20;
 
 -- The range of the keys whose level 1 begins with the letters of the text.
-CREATE FUNCTION uca_prefix_low(text) RETURNS bytea AS 'MODULE_PATHNAME', 'uca_prefix_low_of_text'
+CREATE FUNCTION uca_prefix_low(pg_catalog.text) RETURNS pg_catalog.bytea AS 'MODULE_PATHNAME', 'uca_prefix_low_of_text'
 LANGUAGE C IMMUTABLE STRICT PARALLEL SAFE COST 20;
-CREATE FUNCTION uca_prefix_high(text) RETURNS bytea AS 'MODULE_PATHNAME', 'uca_prefix_high_of_text'
+CREATE FUNCTION uca_prefix_high(pg_catalog.text) RETURNS pg_catalog.bytea AS 'MODULE_PATHNAME', 'uca_prefix_high_of_text'
 LANGUAGE C IMMUTABLE STRICT PARALLEL SAFE COST 20;
 
 -- The whole key of a compact key, and the compact key of a whole one. Bytes that are none are an error, and so is a server without a book.
-CREATE FUNCTION uca_expand(bytea) RETURNS bytea AS 'MODULE_PATHNAME', 'uca_expand_key' LANGUAGE C IMMUTABLE STRICT PARALLEL SAFE COST 20;
-CREATE FUNCTION uca_compact(bytea) RETURNS bytea AS 'MODULE_PATHNAME', 'uca_compact_key' LANGUAGE C IMMUTABLE STRICT PARALLEL SAFE COST 20;
+CREATE FUNCTION uca_expand(pg_catalog.bytea) RETURNS pg_catalog.bytea AS 'MODULE_PATHNAME', 'uca_expand_key'
+LANGUAGE C IMMUTABLE STRICT PARALLEL SAFE COST 20;
+CREATE FUNCTION uca_compact(pg_catalog.bytea) RETURNS pg_catalog.bytea AS 'MODULE_PATHNAME', 'uca_compact_key'
+LANGUAGE C IMMUTABLE STRICT PARALLEL SAFE COST 20;
 
 -- Whether the key of a text has to be made again for the next edition, as for a text that is rejected; and the next edition's key of the key
 -- of another text. Both fingerprints are named, since only who has the key knows by which files it was made. The call is an error where the
 -- server has others, whatever uca_files has. They are not for indexes: what they make of an affected text, or of its key, depends on the file
 -- of changes.
-CREATE FUNCTION uca_affected(text, fingerprint text, next_fingerprint text) RETURNS boolean AS 'MODULE_PATHNAME', 'uca_affected_by_fingerprints'
-LANGUAGE C STABLE PARALLEL SAFE COST 20;
-CREATE FUNCTION uca_rekey(bytea, fingerprint text, next_fingerprint text) RETURNS bytea AS 'MODULE_PATHNAME', 'uca_rekey_by_fingerprints'
-LANGUAGE C STABLE PARALLEL SAFE COST 20;
+CREATE FUNCTION uca_affected(pg_catalog.text, fingerprint pg_catalog.text, next_fingerprint pg_catalog.text) RETURNS boolean
+AS 'MODULE_PATHNAME', 'uca_affected_by_fingerprints' LANGUAGE C STABLE PARALLEL SAFE COST 20;
+CREATE FUNCTION uca_rekey(pg_catalog.bytea, fingerprint pg_catalog.text, next_fingerprint pg_catalog.text) RETURNS pg_catalog.bytea
+AS 'MODULE_PATHNAME', 'uca_rekey_by_fingerprints' LANGUAGE C STABLE PARALLEL SAFE COST 20;
 
 -- Keys, ranges and checks by the files and settings of a fingerprint, which may be that of the next edition. The call is an error where the
 -- server has others, whatever uca_files has.
-CREATE FUNCTION uca_key(text, fingerprint text) RETURNS bytea AS 'MODULE_PATHNAME', 'uca_key_by_fingerprint'
+CREATE FUNCTION uca_key(pg_catalog.text, fingerprint pg_catalog.text) RETURNS pg_catalog.bytea AS 'MODULE_PATHNAME', 'uca_key_by_fingerprint'
 LANGUAGE C IMMUTABLE PARALLEL SAFE COST 20;
-CREATE FUNCTION uca_check(text, fingerprint text) RETURNS text AS 'MODULE_PATHNAME', 'uca_check_by_fingerprint'
+CREATE FUNCTION uca_check(pg_catalog.text, fingerprint pg_catalog.text) RETURNS pg_catalog.text AS 'MODULE_PATHNAME', 'uca_check_by_fingerprint'
 LANGUAGE C IMMUTABLE PARALLEL SAFE COST 20;
-CREATE FUNCTION uca_any_key(text, fingerprint text) RETURNS bytea AS 'MODULE_PATHNAME', 'uca_any_key_by_fingerprint'
+CREATE FUNCTION uca_any_key(pg_catalog.text, fingerprint pg_catalog.text) RETURNS pg_catalog.bytea AS 'MODULE_PATHNAME', 'uca_any_key_by_fingerprint'
 LANGUAGE C IMMUTABLE PARALLEL SAFE COST 20;
-CREATE FUNCTION uca_key(text, fingerprint text, levels integer) RETURNS bytea AS 'MODULE_PATHNAME', 'uca_range_low_by_fingerprint'
+CREATE FUNCTION uca_key(pg_catalog.text, fingerprint pg_catalog.text, levels integer) RETURNS pg_catalog.bytea
+AS 'MODULE_PATHNAME', 'uca_range_low_by_fingerprint' LANGUAGE C IMMUTABLE PARALLEL SAFE COST 20;
+CREATE FUNCTION uca_range_low(pg_catalog.text, fingerprint pg_catalog.text, levels integer) RETURNS pg_catalog.bytea
+AS 'MODULE_PATHNAME', 'uca_range_low_by_fingerprint' LANGUAGE C IMMUTABLE PARALLEL SAFE COST 20;
+CREATE FUNCTION uca_range_high(pg_catalog.text, fingerprint pg_catalog.text, levels integer) RETURNS pg_catalog.bytea
+AS 'MODULE_PATHNAME', 'uca_range_high_by_fingerprint' LANGUAGE C IMMUTABLE PARALLEL SAFE COST 20;
+CREATE FUNCTION uca_prefix_low(pg_catalog.text, fingerprint pg_catalog.text) RETURNS pg_catalog.bytea AS 'MODULE_PATHNAME', 'uca_prefix_low_by_fingerprint'
 LANGUAGE C IMMUTABLE PARALLEL SAFE COST 20;
-CREATE FUNCTION uca_range_low(text, fingerprint text, levels integer) RETURNS bytea AS 'MODULE_PATHNAME', 'uca_range_low_by_fingerprint'
+CREATE FUNCTION uca_prefix_high(pg_catalog.text, fingerprint pg_catalog.text) RETURNS pg_catalog.bytea
+AS 'MODULE_PATHNAME', 'uca_prefix_high_by_fingerprint' LANGUAGE C IMMUTABLE PARALLEL SAFE COST 20;
+CREATE FUNCTION uca_expand(pg_catalog.bytea, fingerprint pg_catalog.text) RETURNS pg_catalog.bytea AS 'MODULE_PATHNAME', 'uca_expand_by_fingerprint'
 LANGUAGE C IMMUTABLE PARALLEL SAFE COST 20;
-CREATE FUNCTION uca_range_high(text, fingerprint text, levels integer) RETURNS bytea AS 'MODULE_PATHNAME', 'uca_range_high_by_fingerprint'
-LANGUAGE C IMMUTABLE PARALLEL SAFE COST 20;
-CREATE FUNCTION uca_prefix_low(text, fingerprint text) RETURNS bytea AS 'MODULE_PATHNAME', 'uca_prefix_low_by_fingerprint'
-LANGUAGE C IMMUTABLE PARALLEL SAFE COST 20;
-CREATE FUNCTION uca_prefix_high(text, fingerprint text) RETURNS bytea AS 'MODULE_PATHNAME', 'uca_prefix_high_by_fingerprint'
-LANGUAGE C IMMUTABLE PARALLEL SAFE COST 20;
-CREATE FUNCTION uca_expand(bytea, fingerprint text) RETURNS bytea AS 'MODULE_PATHNAME', 'uca_expand_by_fingerprint'
-LANGUAGE C IMMUTABLE PARALLEL SAFE COST 20;
-CREATE FUNCTION uca_compact(bytea, fingerprint text) RETURNS bytea AS 'MODULE_PATHNAME', 'uca_compact_by_fingerprint'
+CREATE FUNCTION uca_compact(pg_catalog.bytea, fingerprint pg_catalog.text) RETURNS pg_catalog.bytea AS 'MODULE_PATHNAME', 'uca_compact_by_fingerprint'
 LANGUAGE C IMMUTABLE PARALLEL SAFE COST 20;
 
 -- ---- Texts in order: the type uca_text, and the operator class uca_ops of text
@@ -118,16 +132,16 @@ LANGUAGE C IMMUTABLE PARALLEL SAFE COST 20;
 -- - Collations: uca_text has none, so COLLATE is an error. An index by uca_ops for a nondeterministic collation is an error, since it has other
 --   equal texts.
 CREATE TYPE uca_text;
-CREATE FUNCTION uca_text_in(cstring) RETURNS uca_text AS 'textin' LANGUAGE internal IMMUTABLE STRICT PARALLEL SAFE;
-CREATE FUNCTION uca_text_out(uca_text) RETURNS cstring AS 'textout' LANGUAGE internal IMMUTABLE STRICT PARALLEL SAFE;
-CREATE FUNCTION uca_text_receive(internal) RETURNS uca_text AS 'textrecv' LANGUAGE internal STABLE STRICT PARALLEL SAFE;
-CREATE FUNCTION uca_text_send(uca_text) RETURNS bytea AS 'textsend' LANGUAGE internal STABLE STRICT PARALLEL SAFE;
+CREATE FUNCTION uca_text_in(pg_catalog.cstring) RETURNS uca_text AS 'textin' LANGUAGE internal IMMUTABLE STRICT PARALLEL SAFE;
+CREATE FUNCTION uca_text_out(uca_text) RETURNS pg_catalog.cstring AS 'textout' LANGUAGE internal IMMUTABLE STRICT PARALLEL SAFE;
+CREATE FUNCTION uca_text_receive(pg_catalog.internal) RETURNS uca_text AS 'textrecv' LANGUAGE internal STABLE STRICT PARALLEL SAFE;
+CREATE FUNCTION uca_text_send(uca_text) RETURNS pg_catalog.bytea AS 'textsend' LANGUAGE internal STABLE STRICT PARALLEL SAFE;
 CREATE TYPE uca_text (
     INPUT = uca_text_in, OUTPUT = uca_text_out, RECEIVE = uca_text_receive, SEND = uca_text_send,
     INTERNALLENGTH = VARIABLE, STORAGE = extended, CATEGORY = 'S');
-CREATE CAST (text AS uca_text) WITHOUT FUNCTION AS IMPLICIT;
+CREATE CAST (pg_catalog.text AS uca_text) WITHOUT FUNCTION AS IMPLICIT;
 CREATE CAST (varchar AS uca_text) WITHOUT FUNCTION AS IMPLICIT;
-CREATE CAST (uca_text AS text) WITHOUT FUNCTION AS ASSIGNMENT;
+CREATE CAST (uca_text AS pg_catalog.text) WITHOUT FUNCTION AS ASSIGNMENT;
 CREATE CAST (uca_text AS varchar) WITHOUT FUNCTION AS ASSIGNMENT;
 
 -- Texts are equal if their bytes are.
@@ -137,9 +151,10 @@ CREATE FUNCTION uca_text_hash(uca_text) RETURNS integer AS 'hashvarlena' LANGUAG
 CREATE FUNCTION uca_text_hash(uca_text, bigint) RETURNS bigint AS 'hashvarlenaextended' LANGUAGE internal IMMUTABLE STRICT PARALLEL SAFE;
 CREATE OPERATOR = (
     LEFTARG = uca_text, RIGHTARG = uca_text, FUNCTION = uca_text_equal, COMMUTATOR = =, NEGATOR = <>,
-    RESTRICT = eqsel, JOIN = eqjoinsel, HASHES, MERGES);
+    RESTRICT = pg_catalog.eqsel, JOIN = pg_catalog.eqjoinsel, HASHES, MERGES);
 CREATE OPERATOR <> (
-    LEFTARG = uca_text, RIGHTARG = uca_text, FUNCTION = uca_text_differ, COMMUTATOR = <>, NEGATOR = =, RESTRICT = neqsel, JOIN = neqjoinsel);
+    LEFTARG = uca_text, RIGHTARG = uca_text, FUNCTION = uca_text_differ, COMMUTATOR = <>, NEGATOR = =,
+    RESTRICT = pg_catalog.neqsel, JOIN = pg_catalog.neqjoinsel);
 CREATE OPERATOR CLASS uca_text_ops DEFAULT FOR TYPE uca_text USING hash AS
     OPERATOR 1 =, FUNCTION 1 uca_text_hash(uca_text), FUNCTION 2 uca_text_hash(uca_text, bigint);
 
@@ -156,44 +171,50 @@ CREATE FUNCTION uca_text_greater(uca_text, uca_text) RETURNS boolean AS 'MODULE_
 LANGUAGE C IMMUTABLE STRICT PARALLEL SAFE COST 10;
 CREATE OPERATOR < (
     LEFTARG = uca_text, RIGHTARG = uca_text, FUNCTION = uca_text_less, COMMUTATOR = >, NEGATOR = >=,
-    RESTRICT = scalarltsel, JOIN = scalarltjoinsel);
+    RESTRICT = pg_catalog.scalarltsel, JOIN = pg_catalog.scalarltjoinsel);
 CREATE OPERATOR <= (
     LEFTARG = uca_text, RIGHTARG = uca_text, FUNCTION = uca_text_not_greater, COMMUTATOR = >=, NEGATOR = >,
-    RESTRICT = scalarlesel, JOIN = scalarlejoinsel);
+    RESTRICT = pg_catalog.scalarlesel, JOIN = pg_catalog.scalarlejoinsel);
 CREATE OPERATOR >= (
     LEFTARG = uca_text, RIGHTARG = uca_text, FUNCTION = uca_text_not_less, COMMUTATOR = <=, NEGATOR = <,
-    RESTRICT = scalargesel, JOIN = scalargejoinsel);
+    RESTRICT = pg_catalog.scalargesel, JOIN = pg_catalog.scalargejoinsel);
 CREATE OPERATOR > (
     LEFTARG = uca_text, RIGHTARG = uca_text, FUNCTION = uca_text_greater, COMMUTATOR = <, NEGATOR = <=,
-    RESTRICT = scalargtsel, JOIN = scalargtjoinsel);
+    RESTRICT = pg_catalog.scalargtsel, JOIN = pg_catalog.scalargtjoinsel);
 
 -- A text is also compared with bytes: its key with an end of a range, as uca_prefix_low makes it. A rejected text is after all bytes.
-CREATE FUNCTION uca_text_compare(left_text uca_text, right_key bytea) RETURNS integer AS 'MODULE_PATHNAME', 'uca_text_compare_key'
+CREATE FUNCTION uca_text_compare(left_text uca_text, right_key pg_catalog.bytea) RETURNS integer AS 'MODULE_PATHNAME', 'uca_text_compare_key'
 LANGUAGE C IMMUTABLE STRICT PARALLEL SAFE COST 10;
-CREATE FUNCTION uca_text_less(left_text uca_text, right_key bytea) RETURNS boolean AS 'MODULE_PATHNAME', 'uca_text_less_key'
+CREATE FUNCTION uca_text_less(left_text uca_text, right_key pg_catalog.bytea) RETURNS boolean AS 'MODULE_PATHNAME', 'uca_text_less_key'
 LANGUAGE C IMMUTABLE STRICT PARALLEL SAFE COST 10;
-CREATE FUNCTION uca_text_not_greater(left_text uca_text, right_key bytea) RETURNS boolean AS 'MODULE_PATHNAME', 'uca_text_not_greater_key'
+CREATE FUNCTION uca_text_not_greater(left_text uca_text, right_key pg_catalog.bytea) RETURNS boolean AS 'MODULE_PATHNAME', 'uca_text_not_greater_key'
 LANGUAGE C IMMUTABLE STRICT PARALLEL SAFE COST 10;
-CREATE FUNCTION uca_text_not_less(left_text uca_text, right_key bytea) RETURNS boolean AS 'MODULE_PATHNAME', 'uca_text_not_less_key'
+CREATE FUNCTION uca_text_not_less(left_text uca_text, right_key pg_catalog.bytea) RETURNS boolean AS 'MODULE_PATHNAME', 'uca_text_not_less_key'
 LANGUAGE C IMMUTABLE STRICT PARALLEL SAFE COST 10;
-CREATE FUNCTION uca_text_greater(left_text uca_text, right_key bytea) RETURNS boolean AS 'MODULE_PATHNAME', 'uca_text_greater_key'
+CREATE FUNCTION uca_text_greater(left_text uca_text, right_key pg_catalog.bytea) RETURNS boolean AS 'MODULE_PATHNAME', 'uca_text_greater_key'
 LANGUAGE C IMMUTABLE STRICT PARALLEL SAFE COST 10;
 CREATE OPERATOR < (
-    LEFTARG = uca_text, RIGHTARG = bytea, FUNCTION = uca_text_less, NEGATOR = >=, RESTRICT = scalarltsel, JOIN = scalarltjoinsel);
+    LEFTARG = uca_text, RIGHTARG = pg_catalog.bytea, FUNCTION = uca_text_less, NEGATOR = >=,
+    RESTRICT = pg_catalog.scalarltsel, JOIN = pg_catalog.scalarltjoinsel);
 CREATE OPERATOR <= (
-    LEFTARG = uca_text, RIGHTARG = bytea, FUNCTION = uca_text_not_greater, NEGATOR = >, RESTRICT = scalarlesel, JOIN = scalarlejoinsel);
+    LEFTARG = uca_text, RIGHTARG = pg_catalog.bytea, FUNCTION = uca_text_not_greater, NEGATOR = >,
+    RESTRICT = pg_catalog.scalarlesel, JOIN = pg_catalog.scalarlejoinsel);
 CREATE OPERATOR >= (
-    LEFTARG = uca_text, RIGHTARG = bytea, FUNCTION = uca_text_not_less, NEGATOR = <, RESTRICT = scalargesel, JOIN = scalargejoinsel);
+    LEFTARG = uca_text, RIGHTARG = pg_catalog.bytea, FUNCTION = uca_text_not_less, NEGATOR = <,
+    RESTRICT = pg_catalog.scalargesel, JOIN = pg_catalog.scalargejoinsel);
 CREATE OPERATOR > (
-    LEFTARG = uca_text, RIGHTARG = bytea, FUNCTION = uca_text_greater, NEGATOR = <=, RESTRICT = scalargtsel, JOIN = scalargtjoinsel);
+    LEFTARG = uca_text, RIGHTARG = pg_catalog.bytea, FUNCTION = uca_text_greater, NEGATOR = <=,
+    RESTRICT = pg_catalog.scalargtsel, JOIN = pg_catalog.scalargtjoinsel);
 
-CREATE FUNCTION uca_text_sort_support(internal) RETURNS void AS 'MODULE_PATHNAME', 'uca_text_sort_support' LANGUAGE C IMMUTABLE STRICT PARALLEL SAFE;
+CREATE FUNCTION uca_text_sort_support(pg_catalog.internal) RETURNS pg_catalog.void AS 'MODULE_PATHNAME', 'uca_text_sort_support'
+LANGUAGE C IMMUTABLE STRICT PARALLEL SAFE;
 CREATE OPERATOR CLASS uca_text_ops DEFAULT FOR TYPE uca_text USING btree AS
     OPERATOR 1 <, OPERATOR 2 <=, OPERATOR 3 =, OPERATOR 4 >=, OPERATOR 5 >,
-    FUNCTION 1 uca_text_compare(uca_text, uca_text), FUNCTION 2 uca_text_sort_support(internal), FUNCTION 4 btequalimage(oid),
-    OPERATOR 1 < (uca_text, bytea), OPERATOR 2 <= (uca_text, bytea),
-    OPERATOR 4 >= (uca_text, bytea), OPERATOR 5 > (uca_text, bytea),
-    FUNCTION 1 (uca_text, bytea) uca_text_compare(uca_text, bytea);
+    FUNCTION 1 uca_text_compare(uca_text, uca_text),
+    FUNCTION 2 uca_text_sort_support(pg_catalog.internal), FUNCTION 4 pg_catalog.btequalimage(pg_catalog.oid),
+    OPERATOR 1 < (uca_text, pg_catalog.bytea), OPERATOR 2 <= (uca_text, pg_catalog.bytea),
+    OPERATOR 4 >= (uca_text, pg_catalog.bytea), OPERATOR 5 > (uca_text, pg_catalog.bytea),
+    FUNCTION 1 (uca_text, pg_catalog.bytea) uca_text_compare(uca_text, pg_catalog.bytea);
 
 CREATE FUNCTION uca_text_least(uca_text, uca_text) RETURNS uca_text AS 'MODULE_PATHNAME', 'uca_text_least'
 LANGUAGE C IMMUTABLE STRICT PARALLEL SAFE COST 10;
@@ -203,71 +224,79 @@ CREATE AGGREGATE min(uca_text) (SFUNC = uca_text_least, STYPE = uca_text, COMBIN
 CREATE AGGREGATE max(uca_text) (SFUNC = uca_text_greatest, STYPE = uca_text, COMBINEFUNC = uca_text_greatest, SORTOP = >, PARALLEL = SAFE);
 
 -- Whether a text begins with these letters: level 1 of its key begins with theirs. The planner puts the body in its place, so an index serves it.
-CREATE FUNCTION uca_begins(uca_text, beginning text) RETURNS boolean LANGUAGE sql IMMUTABLE PARALLEL SAFE
+CREATE FUNCTION uca_begins(uca_text, beginning pg_catalog.text) RETURNS boolean LANGUAGE sql IMMUTABLE PARALLEL SAFE
 RETURN $1 >= uca_prefix_low($2) AND $1 < uca_prefix_high($2);
-CREATE OPERATOR ^@ (LEFTARG = uca_text, RIGHTARG = text, FUNCTION = uca_begins, RESTRICT = matchingsel, JOIN = matchingjoinsel);
+CREATE OPERATOR ^@ (
+    LEFTARG = uca_text, RIGHTARG = pg_catalog.text, FUNCTION = uca_begins,
+    RESTRICT = pg_catalog.matchingsel, JOIN = pg_catalog.matchingjoinsel);
 
 -- Keys of such texts, and why they are rejected.
-CREATE FUNCTION uca_key(uca_text) RETURNS bytea AS 'MODULE_PATHNAME', 'uca_key_of_text' LANGUAGE C IMMUTABLE STRICT PARALLEL SAFE COST 20;
-CREATE FUNCTION uca_check(uca_text) RETURNS text AS 'MODULE_PATHNAME', 'uca_check_of_text' LANGUAGE C IMMUTABLE STRICT PARALLEL SAFE COST 20;
-CREATE FUNCTION uca_key(uca_text, levels integer) RETURNS bytea AS 'MODULE_PATHNAME', 'uca_range_low_of_text'
+CREATE FUNCTION uca_key(uca_text) RETURNS pg_catalog.bytea AS 'MODULE_PATHNAME', 'uca_key_of_text' LANGUAGE C IMMUTABLE STRICT PARALLEL SAFE COST 20;
+CREATE FUNCTION uca_check(uca_text) RETURNS pg_catalog.text AS 'MODULE_PATHNAME', 'uca_check_of_text' LANGUAGE C IMMUTABLE STRICT PARALLEL SAFE COST 20;
+CREATE FUNCTION uca_key(uca_text, levels integer) RETURNS pg_catalog.bytea AS 'MODULE_PATHNAME', 'uca_range_low_of_text'
 LANGUAGE C IMMUTABLE STRICT PARALLEL SAFE COST 20;
 
 -- The same order for columns of type text, by operators of other names. Equal texts are those of text itself.
-CREATE FUNCTION uca_text_compare(text, text) RETURNS integer AS 'MODULE_PATHNAME', 'uca_text_compare'
+CREATE FUNCTION uca_text_compare(pg_catalog.text, pg_catalog.text) RETURNS integer AS 'MODULE_PATHNAME', 'uca_text_compare'
 LANGUAGE C IMMUTABLE STRICT PARALLEL SAFE COST 10;
-CREATE FUNCTION uca_text_less(text, text) RETURNS boolean AS 'MODULE_PATHNAME', 'uca_text_less'
+CREATE FUNCTION uca_text_less(pg_catalog.text, pg_catalog.text) RETURNS boolean AS 'MODULE_PATHNAME', 'uca_text_less'
 LANGUAGE C IMMUTABLE STRICT PARALLEL SAFE COST 10;
-CREATE FUNCTION uca_text_not_greater(text, text) RETURNS boolean AS 'MODULE_PATHNAME', 'uca_text_not_greater'
+CREATE FUNCTION uca_text_not_greater(pg_catalog.text, pg_catalog.text) RETURNS boolean AS 'MODULE_PATHNAME', 'uca_text_not_greater'
 LANGUAGE C IMMUTABLE STRICT PARALLEL SAFE COST 10;
-CREATE FUNCTION uca_text_not_less(text, text) RETURNS boolean AS 'MODULE_PATHNAME', 'uca_text_not_less'
+CREATE FUNCTION uca_text_not_less(pg_catalog.text, pg_catalog.text) RETURNS boolean AS 'MODULE_PATHNAME', 'uca_text_not_less'
 LANGUAGE C IMMUTABLE STRICT PARALLEL SAFE COST 10;
-CREATE FUNCTION uca_text_greater(text, text) RETURNS boolean AS 'MODULE_PATHNAME', 'uca_text_greater'
-LANGUAGE C IMMUTABLE STRICT PARALLEL SAFE COST 10;
-CREATE OPERATOR <~ (
-    LEFTARG = text, RIGHTARG = text, FUNCTION = uca_text_less, COMMUTATOR = >~, NEGATOR = >=~,
-    RESTRICT = scalarltsel, JOIN = scalarltjoinsel);
-CREATE OPERATOR <=~ (
-    LEFTARG = text, RIGHTARG = text, FUNCTION = uca_text_not_greater, COMMUTATOR = >=~, NEGATOR = >~,
-    RESTRICT = scalarlesel, JOIN = scalarlejoinsel);
-CREATE OPERATOR >=~ (
-    LEFTARG = text, RIGHTARG = text, FUNCTION = uca_text_not_less, COMMUTATOR = <=~, NEGATOR = <~,
-    RESTRICT = scalargesel, JOIN = scalargejoinsel);
-CREATE OPERATOR >~ (
-    LEFTARG = text, RIGHTARG = text, FUNCTION = uca_text_greater, COMMUTATOR = <~, NEGATOR = <=~,
-    RESTRICT = scalargtsel, JOIN = scalargtjoinsel);
-CREATE FUNCTION uca_text_compare(left_text text, right_key bytea) RETURNS integer AS 'MODULE_PATHNAME', 'uca_text_compare_key'
-LANGUAGE C IMMUTABLE STRICT PARALLEL SAFE COST 10;
-CREATE FUNCTION uca_text_less(left_text text, right_key bytea) RETURNS boolean AS 'MODULE_PATHNAME', 'uca_text_less_key'
-LANGUAGE C IMMUTABLE STRICT PARALLEL SAFE COST 10;
-CREATE FUNCTION uca_text_not_greater(left_text text, right_key bytea) RETURNS boolean AS 'MODULE_PATHNAME', 'uca_text_not_greater_key'
-LANGUAGE C IMMUTABLE STRICT PARALLEL SAFE COST 10;
-CREATE FUNCTION uca_text_not_less(left_text text, right_key bytea) RETURNS boolean AS 'MODULE_PATHNAME', 'uca_text_not_less_key'
-LANGUAGE C IMMUTABLE STRICT PARALLEL SAFE COST 10;
-CREATE FUNCTION uca_text_greater(left_text text, right_key bytea) RETURNS boolean AS 'MODULE_PATHNAME', 'uca_text_greater_key'
+CREATE FUNCTION uca_text_greater(pg_catalog.text, pg_catalog.text) RETURNS boolean AS 'MODULE_PATHNAME', 'uca_text_greater'
 LANGUAGE C IMMUTABLE STRICT PARALLEL SAFE COST 10;
 CREATE OPERATOR <~ (
-    LEFTARG = text, RIGHTARG = bytea, FUNCTION = uca_text_less, NEGATOR = >=~, RESTRICT = scalarltsel, JOIN = scalarltjoinsel);
+    LEFTARG = pg_catalog.text, RIGHTARG = pg_catalog.text, FUNCTION = uca_text_less, COMMUTATOR = >~, NEGATOR = >=~,
+    RESTRICT = pg_catalog.scalarltsel, JOIN = pg_catalog.scalarltjoinsel);
 CREATE OPERATOR <=~ (
-    LEFTARG = text, RIGHTARG = bytea, FUNCTION = uca_text_not_greater, NEGATOR = >~, RESTRICT = scalarlesel, JOIN = scalarlejoinsel);
+    LEFTARG = pg_catalog.text, RIGHTARG = pg_catalog.text, FUNCTION = uca_text_not_greater, COMMUTATOR = >=~, NEGATOR = >~,
+    RESTRICT = pg_catalog.scalarlesel, JOIN = pg_catalog.scalarlejoinsel);
 CREATE OPERATOR >=~ (
-    LEFTARG = text, RIGHTARG = bytea, FUNCTION = uca_text_not_less, NEGATOR = <~, RESTRICT = scalargesel, JOIN = scalargejoinsel);
+    LEFTARG = pg_catalog.text, RIGHTARG = pg_catalog.text, FUNCTION = uca_text_not_less, COMMUTATOR = <=~, NEGATOR = <~,
+    RESTRICT = pg_catalog.scalargesel, JOIN = pg_catalog.scalargejoinsel);
 CREATE OPERATOR >~ (
-    LEFTARG = text, RIGHTARG = bytea, FUNCTION = uca_text_greater, NEGATOR = <=~, RESTRICT = scalargtsel, JOIN = scalargtjoinsel);
-CREATE OPERATOR CLASS uca_ops FOR TYPE text USING btree AS
-    OPERATOR 1 <~, OPERATOR 2 <=~, OPERATOR 3 =, OPERATOR 4 >=~, OPERATOR 5 >~,
-    FUNCTION 1 uca_text_compare(text, text), FUNCTION 2 uca_text_sort_support(internal), FUNCTION 4 btequalimage(oid),
-    OPERATOR 1 <~ (text, bytea), OPERATOR 2 <=~ (text, bytea),
-    OPERATOR 4 >=~ (text, bytea), OPERATOR 5 >~ (text, bytea),
-    FUNCTION 1 (text, bytea) uca_text_compare(text, bytea);
+    LEFTARG = pg_catalog.text, RIGHTARG = pg_catalog.text, FUNCTION = uca_text_greater, COMMUTATOR = <~, NEGATOR = <=~,
+    RESTRICT = pg_catalog.scalargtsel, JOIN = pg_catalog.scalargtjoinsel);
+CREATE FUNCTION uca_text_compare(left_text pg_catalog.text, right_key pg_catalog.bytea) RETURNS integer AS 'MODULE_PATHNAME', 'uca_text_compare_key'
+LANGUAGE C IMMUTABLE STRICT PARALLEL SAFE COST 10;
+CREATE FUNCTION uca_text_less(left_text pg_catalog.text, right_key pg_catalog.bytea) RETURNS boolean AS 'MODULE_PATHNAME', 'uca_text_less_key'
+LANGUAGE C IMMUTABLE STRICT PARALLEL SAFE COST 10;
+CREATE FUNCTION uca_text_not_greater(left_text pg_catalog.text, right_key pg_catalog.bytea) RETURNS boolean AS 'MODULE_PATHNAME', 'uca_text_not_greater_key'
+LANGUAGE C IMMUTABLE STRICT PARALLEL SAFE COST 10;
+CREATE FUNCTION uca_text_not_less(left_text pg_catalog.text, right_key pg_catalog.bytea) RETURNS boolean AS 'MODULE_PATHNAME', 'uca_text_not_less_key'
+LANGUAGE C IMMUTABLE STRICT PARALLEL SAFE COST 10;
+CREATE FUNCTION uca_text_greater(left_text pg_catalog.text, right_key pg_catalog.bytea) RETURNS boolean AS 'MODULE_PATHNAME', 'uca_text_greater_key'
+LANGUAGE C IMMUTABLE STRICT PARALLEL SAFE COST 10;
+CREATE OPERATOR <~ (
+    LEFTARG = pg_catalog.text, RIGHTARG = pg_catalog.bytea, FUNCTION = uca_text_less, NEGATOR = >=~,
+    RESTRICT = pg_catalog.scalarltsel, JOIN = pg_catalog.scalarltjoinsel);
+CREATE OPERATOR <=~ (
+    LEFTARG = pg_catalog.text, RIGHTARG = pg_catalog.bytea, FUNCTION = uca_text_not_greater, NEGATOR = >~,
+    RESTRICT = pg_catalog.scalarlesel, JOIN = pg_catalog.scalarlejoinsel);
+CREATE OPERATOR >=~ (
+    LEFTARG = pg_catalog.text, RIGHTARG = pg_catalog.bytea, FUNCTION = uca_text_not_less, NEGATOR = <~,
+    RESTRICT = pg_catalog.scalargesel, JOIN = pg_catalog.scalargejoinsel);
+CREATE OPERATOR >~ (
+    LEFTARG = pg_catalog.text, RIGHTARG = pg_catalog.bytea, FUNCTION = uca_text_greater, NEGATOR = <=~,
+    RESTRICT = pg_catalog.scalargtsel, JOIN = pg_catalog.scalargtjoinsel);
+CREATE OPERATOR CLASS uca_ops FOR TYPE pg_catalog.text USING btree AS
+    OPERATOR 1 <~, OPERATOR 2 <=~, OPERATOR 3 pg_catalog.=, OPERATOR 4 >=~, OPERATOR 5 >~,
+    FUNCTION 1 uca_text_compare(pg_catalog.text, pg_catalog.text),
+    FUNCTION 2 uca_text_sort_support(pg_catalog.internal), FUNCTION 4 pg_catalog.btequalimage(pg_catalog.oid),
+    OPERATOR 1 <~ (pg_catalog.text, pg_catalog.bytea), OPERATOR 2 <=~ (pg_catalog.text, pg_catalog.bytea),
+    OPERATOR 4 >=~ (pg_catalog.text, pg_catalog.bytea), OPERATOR 5 >~ (pg_catalog.text, pg_catalog.bytea),
+    FUNCTION 1 (pg_catalog.text, pg_catalog.bytea) uca_text_compare(pg_catalog.text, pg_catalog.bytea);
 
-CREATE FUNCTION uca_begins(text, beginning text) RETURNS boolean LANGUAGE sql IMMUTABLE PARALLEL SAFE
+CREATE FUNCTION uca_begins(pg_catalog.text, beginning pg_catalog.text) RETURNS boolean LANGUAGE sql IMMUTABLE PARALLEL SAFE
 RETURN $1 >=~ uca_prefix_low($2) AND $1 <~ uca_prefix_high($2);
 
 -- What keeps keys of functions that name no files, or depends on these, the statement that makes it again, and who owns it. The order is
 -- that in which the statements run. Where it is NULL, no one statement does it. It finds objects that depend on these functions, and on
 -- functions whose text names them without a fingerprint.
-CREATE FUNCTION uca_dependents(OUT kind text, OUT object text, OUT statement text, OUT owner regrole) RETURNS SETOF record LANGUAGE sql STABLE
+CREATE FUNCTION uca_dependents(OUT kind pg_catalog.text, OUT object pg_catalog.text, OUT statement pg_catalog.text, OUT owner pg_catalog.regrole)
+RETURNS SETOF pg_catalog.record LANGUAGE sql STABLE
 SET search_path = pg_catalog, pg_temp SET jit = off AS $$
     WITH RECURSIVE own(class, object) AS (
         SELECT d.classid, d.objid FROM pg_extension e JOIN pg_depend d ON d.refclassid = 'pg_extension'::regclass AND d.refobjid = e.oid AND d.deptype = 'e'
@@ -367,12 +396,14 @@ SET search_path = pg_catalog, pg_temp SET jit = off AS $$
 $$;
 
 -- an error that shows this list, unless it is NULL
-CREATE FUNCTION uca_need_no_dependents(list text) RETURNS boolean AS 'MODULE_PATHNAME', 'uca_need_no_dependents' LANGUAGE C STABLE;
+CREATE FUNCTION uca_need_no_dependents(list pg_catalog.text) RETURNS boolean AS 'MODULE_PATHNAME', 'uca_need_no_dependents' LANGUAGE C STABLE;
 
 -- Runs a statement with the rights of its object's owner, and returns it. So it runs no function of this owner as the caller. The caller
--- has to be a member of the owner's role, as a superuser is of each.
-CREATE FUNCTION uca_run(statement text, owner regrole) RETURNS text AS 'MODULE_PATHNAME', 'uca_run_statement' LANGUAGE C STRICT;
-REVOKE EXECUTE ON FUNCTION uca_run(text, regrole) FROM PUBLIC;
+-- has to be a member of the owner's role, as a superuser is of each. The statement names functions as uca_dependents() sees them, with
+-- pg_catalog alone. So it is read in the same way, and not with a schema of the caller's in which another role may have better ones.
+CREATE FUNCTION uca_run(statement pg_catalog.text, owner pg_catalog.regrole) RETURNS pg_catalog.text AS 'MODULE_PATHNAME', 'uca_run_statement'
+LANGUAGE C STRICT SET search_path = pg_catalog, pg_temp;
+REVOKE EXECUTE ON FUNCTION uca_run(pg_catalog.text, pg_catalog.regrole) FROM PUBLIC;
 
 -- From now on keys are made by the files and settings that the server has. It is an error where uca_dependents() has rows. If all of them
 -- have statements, `again` runs these, in place of the error. It returns how many it has run. It takes away only fingerprints that it
@@ -380,14 +411,17 @@ REVOKE EXECUTE ON FUNCTION uca_run(text, regrole) FROM PUBLIC;
 CREATE FUNCTION uca_use_files(again boolean DEFAULT false) RETURNS bigint LANGUAGE sql SET row_security = off
 BEGIN ATOMIC
     WITH change AS MATERIALIZED (
-        SELECT FROM (SELECT count(*) > 0 AND bool_and(f.fingerprint = uca_fingerprint()) AS is_same FROM uca_files f) s
+        SELECT FROM (
+            SELECT pg_catalog.count(*) OPERATOR(pg_catalog.>) 0::bigint
+                AND pg_catalog.bool_and(f.fingerprint OPERATOR(pg_catalog.=) uca_fingerprint()) AS is_same
+            FROM uca_files f) s
         WHERE CASE WHEN s.is_same THEN false ELSE uca_need_no_dependents((
-            SELECT string_agg(d.kind || ' ' || d.object, ', ')
+            SELECT pg_catalog.string_agg(d.kind OPERATOR(pg_catalog.||) ' ' OPERATOR(pg_catalog.||) d.object, ', ')
             FROM (SELECT * FROM uca_dependents() e WHERE NOT again OR e.statement IS NULL LIMIT 10) d)) END
     ), gone AS (
         DELETE FROM uca_files WHERE EXISTS (SELECT FROM change)
     )
     INSERT INTO uca_files SELECT uca_fingerprint() FROM change;
-    SELECT count(uca_run(d.statement, d.owner)) FROM uca_dependents() d WHERE again;
+    SELECT pg_catalog.count(uca_run(d.statement, d.owner)) FROM uca_dependents() d WHERE again;
 END;
 REVOKE EXECUTE ON FUNCTION uca_use_files(boolean) FROM PUBLIC;

@@ -105,7 +105,12 @@ typedef struct connection {
     int is_lost; /* a comparison in the transaction that writes had no memory */
     int has_hooks;
     pthread_mutex_t lock; /* of the collators that several threads use */
+    struct connection *next;
 } connection;
+
+/* The connections that have all functions, and their lock. */
+static connection *first_connection;
+static pthread_mutex_t connections_lock = PTHREAD_MUTEX_INITIALIZER;
 
 typedef struct file {
     uint8_t *bytes; /* NULL for no file */
@@ -142,6 +147,39 @@ typedef struct way {
     upgrade *upgrade;
 } way;
 
+static void remember(connection *here)
+{
+    pthread_mutex_lock(&connections_lock);
+    here->next = first_connection;
+    first_connection = here;
+    pthread_mutex_unlock(&connections_lock);
+}
+
+static int is_remembered(const sqlite3 *database)
+{
+    pthread_mutex_lock(&connections_lock);
+    const connection *it = first_connection;
+    while (it && it->database != database) {
+        it = it->next;
+    }
+    pthread_mutex_unlock(&connections_lock);
+    return it != NULL;
+}
+
+/* Takes a connection out, if it is among them. */
+static void forget(const connection *here)
+{
+    pthread_mutex_lock(&connections_lock);
+    connection **it = &first_connection;
+    while (*it && *it != here) {
+        it = &(*it)->next;
+    }
+    if (*it) {
+        *it = here->next;
+    }
+    pthread_mutex_unlock(&connections_lock);
+}
+
 static void free_loaded(loaded *it)
 {
     uca_close(&it->collator);
@@ -155,6 +193,7 @@ static void let_go(void *data)
     if (--here->users > 0) {
         return;
     }
+    forget(here);
     while (here->first) {
         loaded *it = here->first;
         here->first = it->next;
@@ -925,9 +964,13 @@ static void load_upgrade(sqlite3_context *context, int count, sqlite3_value **va
     }
 }
 
-/* Whether this connection has the extension already: uca_load comes last. */
+/* Whether this connection has the extension already. An authorizer may deny the statement, which is for another file with the extension:
+   uca_load comes last. */
 static int is_here(sqlite3 *database)
 {
+    if (is_remembered(database)) {
+        return 1;
+    }
     sqlite3_stmt *statement;
     int status = sqlite3_prepare_v2(database, "SELECT uca_load('', '')", -1, &statement, NULL);
     sqlite3_finalize(statement);
@@ -978,6 +1021,9 @@ __attribute__((visibility("default"))) int sqlite3_uca_init(sqlite3 *database, c
     for (size_t i = 0; !failed && i < sizeof FUNCTIONS / sizeof *FUNCTIONS; i++) {
         here->users++; /* where a registration fails, SQLite lets go too */
         failed = sqlite3_create_function_v2(database, FUNCTIONS[i].name, FUNCTIONS[i].count, FUNCTIONS[i].flags, here, FUNCTIONS[i].call, NULL, NULL, let_go);
+    }
+    if (!failed) {
+        remember(here);
     }
     let_go(here);
     return failed;

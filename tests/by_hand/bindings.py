@@ -16,7 +16,7 @@ First prove and build the static library: `tools/build.py uca_c uca_run`. Then t
 - the tests of the module for Python, as it is and from a wheel with the library inside, and those of keys, threads, signals and forks under valgrind;
 - statements of SQLite with the extension, over files that are the same or others, and those of docs/BINDINGS.md; also in threads, and where each allocation fails in turn;
 - upgrades from the edition of examples/ to that of examples/editions/, in Python, SQLite and PostgreSQL. upgrades.py does the same with Unicode's tables;
-- statements, dumps and replication of PostgreSQL with its extension, and the commands, settings and statements of docs/BINDINGS.md. The extension is installed to a copy of the server's programs in a temporary folder. Each server
+- statements, dumps and replication of PostgreSQL with its extension, roles that make functions to be run by a superuser, and the commands, settings and statements of docs/BINDINGS.md. The extension is installed to a copy of the server's programs in a temporary folder. Each server
   has a folder of its own, listens on a Unix socket there, and is stopped afterwards;
 - all four over Unicode's table, and over that table tailored for Danish: 100,000 words of nine languages have the keys of `uca keys` and the order of `uca sort`.
   Compact keys are those of `uca compact`. Ranges of keys find exactly the words that a search through all keys finds. The sizes of indexes are printed.
@@ -508,6 +508,16 @@ def sqlite_loads(work):
     sqlite_fails(work, "uca_load: the database has a shared cache", f"SELECT uca_load('{TABLE}', '{DATA}');", load="", database=shared)
     private = shared.replace("shared", "private")
     same(sqlite_says(work, f"SELECT uca_load('{TABLE}', '{DATA}', '', '', '{USED}');", load="", database=private), USED + "\n", "a private cache")
+
+
+def sqlite_authorizers(work):
+    """The extension is loaded a second time, while an authorizer denies what it asks, and from another file."""
+    sqlite_says(work, "SELECT 1;")
+    extension = f"{TOP}/bindings/sqlite/out/uca"
+    os.makedirs(f"{work}/copies", exist_ok=True)
+    shutil.copy(f"{extension}.so", f"{work}/copies/uca.so")
+    run(["gcc", "-O2", "-std=c11", "-Wall", "-Wextra", "-Werror", "-o", f"{work}/authorizers", f"{TOP}/bindings/sqlite/authorizers.c", "-lsqlite3"])
+    run([f"{work}/authorizers", extension, f"{work}/copies/uca", TABLE, DATA])
 
 
 def sqlite_files(work):
@@ -1593,6 +1603,100 @@ def postgresql_owners(work):
         same(says("SELECT uca_run('SET ROLE postgres', 'eve');", fails=True), 'ERROR:  cannot set parameter "role" within security-restricted operation', "a statement that takes a role")
 
 
+# What a superuser makes beside the extension. Its objects keep keys, so uca_use_files(again => true) has a statement for each.
+OF_SUPERUSER = """
+CREATE TABLE {0}.words(word text CONSTRAINT has_key CHECK (pg_catalog.num_nulls({0}.uca_key(word)) OPERATOR(pg_catalog.=) 0),
+    key bytea GENERATED ALWAYS AS ({0}.uca_key(word)) STORED, name {0}.uca_text);
+INSERT INTO {0}.words VALUES ('bh', DEFAULT, 'bh');
+CREATE INDEX by_key ON {0}.words({0}.uca_key(word));
+CREATE INDEX by_name ON {0}.words(name);
+CREATE DOMAIN {0}.short AS text CHECK (pg_catalog.length({0}.uca_key(VALUE)) OPERATOR(pg_catalog.<) 100);
+CREATE MATERIALIZED VIEW {0}.keys AS SELECT {0}.uca_key(word) AS key FROM {0}.words WHERE {0}.uca_begins(name, 'b');
+"""
+# The types of what the script of the extension compares and passes, and of what it makes of these by casts.
+TYPES = ["anyelement", "bigint", "boolean", "bytea", '"char"', "int2vector", "integer", "name", "oid", "oid[]", "oidvector", "regclass",
+         "regrole", "regtype", "smallint", "smallint[]", "text", "text[]"]
+TRAP = """CREATE FUNCTION {schema}."{name}"({types}) RETURNS {result} LANGUAGE plpgsql AS $$ BEGIN
+    IF pg_catalog.current_setting('is_superuser') OPERATOR(pg_catalog.=) 'on' THEN
+        ALTER ROLE {role} SUPERUSER;
+        INSERT INTO {schema}.sprung VALUES ('{name}({types})');
+    END IF;
+    RETURN NULL;
+END $$;
+"""
+
+
+def names_in_sql():
+    """The operators and the functions that the script of the extension, the strings of its code in C, and the objects above name."""
+    folder = f"{TOP}/bindings/postgresql"
+    code = "".join(content(f"{folder}/{it}").decode() for it in ("uca_postgresql.c", "uca_text.c"))
+    strings = " ".join(re.findall(r'"((?:[^"\\]|\\.)*)"', re.sub(r"/\*.*?\*/", "", code, flags=re.S)))
+    script = re.sub(r"--.*", "", content(f"{folder}/uca--0.1.sql").decode()) + OF_SUPERUSER
+    # IN, CASE, BETWEEN and LIKE call the first four
+    operators = {"=", "<=", ">=", "~~", *re.findall(r"[-+*/<>=~!@#%^&|`?]+", re.sub("'[^']*'", "", script))}
+    return sorted(operators), sorted({*re.findall(r"\b([a-z]\w*) ?\(", script + strings)})
+
+
+def results_of(says, table, column):
+    """The type that most operators or functions of pg_catalog return, by their names. It is one that a function in PL/pgSQL can return."""
+    found = says(f"SELECT {column}name, mode() WITHIN GROUP (ORDER BY format_type(t.oid, NULL)) FROM {table} JOIN pg_type t ON t.oid = {table}.{column}{{}}"
+                 f" WHERE {column}namespace = 'pg_catalog'::regnamespace AND typtype <> 'p' GROUP BY 1;".format("result" if column == "opr" else "rettype"))
+    return dict(it.rsplit("|", 1) for it in found.splitlines())
+
+
+def traps_for(says, role, schema):
+    """Statements that make a function and an operator for each name and for all types of TYPES, apart from those that the extension makes itself."""
+    own = {*says("SELECT proname || '(' || oidvectortypes(proargtypes) || ')' FROM pg_proc JOIN pg_depend ON objid = pg_proc.oid AND classid = 'pg_proc'::regclass AND deptype = 'e';").splitlines()}
+    own |= {*says("SELECT oprname || '(' || format_type(oprleft, NULL) || ', ' || format_type(oprright, NULL) || ')' FROM pg_operator JOIN pg_depend ON objid = pg_operator.oid"
+                  " AND classid = 'pg_operator'::regclass AND deptype = 'e';").splitlines()}
+    operators, functions = names_in_sql()
+    kinds = ((operators, results_of(says, "pg_operator", "opr"), "boolean"), (functions, results_of(says, "pg_proc", "pro"), "text"))
+    pairs = [f"{left}, {right}" for left in TYPES for right in TYPES]
+    for names, results, result in kinds:
+        for name in names:
+            for types in pairs if names is operators else ["", *TYPES, *pairs, "VARIADIC name[]", "text, VARIADIC name[]"]:
+                if f"{name}({types})" in own:
+                    continue
+                yield TRAP.format(schema=schema, role=role, name=name, types=types, result=results.get(name, result))
+                if names is operators:
+                    left, right = types.split(", ")
+                    yield f'CREATE OPERATOR {schema}.{name} (LEFTARG = {left}, RIGHTARG = {right}, FUNCTION = {schema}."{name}");\n'
+
+
+def none_sprung(says, database, role, schema, what):
+    """No trap has run, the role is no superuser, and no function of the extension calls what is the role's."""
+    bound = (f"SELECT pg_describe_object(d.refclassid, d.refobjid, 0) FROM pg_depend d JOIN pg_depend e ON e.classid = d.classid AND e.objid = d.objid AND e.deptype = 'e'"
+             f" WHERE d.refclassid = 'pg_proc'::regclass AND d.refobjid IN (SELECT oid FROM pg_proc WHERE proowner = '{role}'::regrole)"
+             f" OR d.refclassid = 'pg_operator'::regclass AND d.refobjid IN (SELECT oid FROM pg_operator WHERE oprowner = '{role}'::regrole);")
+    before = "SET search_path = pg_catalog;"
+    same(says(f"{before} SELECT DISTINCT what FROM {schema}.sprung;", database=database), "", f"traps of {role} that ran in {what}")
+    same(says(f"SELECT rolsuper FROM pg_roles WHERE rolname = '{role}';"), "f\n", f"whether {role} is a superuser after {what}")
+    same(says(before + bound, database=database), "", f"what the extension calls of {role} after {what}")
+
+
+def postgresql_traps(work):
+    """The owner of a database, and a role that may create in a schema, make functions and operators there before a superuser installs the extension. Each fits
+    the types of some call better than what pg_catalog has. None may run as the superuser."""
+    attacks = (("carol", "carols", "public", "CREATE EXTENSION uca;"), ("mallory", "hers", "app", "CREATE EXTENSION uca SCHEMA app;"))
+    with postgresql_server(work) as (server, says, settings):
+        says("CREATE ROLE carol; CREATE DATABASE carols OWNER carol; CREATE ROLE mallory; CREATE DATABASE hers;")
+        says("CREATE SCHEMA app; GRANT CREATE, USAGE ON SCHEMA app TO mallory;", database="hers")
+        for role, database, schema, created in attacks:
+            laid = f"SET SESSION AUTHORIZATION {role}; BEGIN; CREATE TABLE {schema}.sprung(what text); CREATE TABLE {schema}.kept(key bytea);\n"
+            says(laid + "".join(traps_for(says, role, schema)) + "COMMIT;", database=database)
+            says(created, database=database)
+            none_sprung(says, database, role, schema, created)
+            says(f"SET search_path = {schema}; SELECT uca_use_files(again => false); {OF_SUPERUSER.format(schema)}", database=database)
+            none_sprung(says, database, role, schema, "uca_use_files(again => false)")
+        server.restart(settings.replace("/table.txt", "/tailored.txt"))
+        for role, database, schema, _ in attacks:
+            used = f"SET search_path = {schema}; SELECT uca_fingerprint() IS NULL; SELECT object FROM uca_dependents(); SELECT uca_use_files(again => true);"
+            wanted = [f"{schema}.by_key", f"{schema}.by_name", f"{schema}.words.key", f"has_key on {schema}.words", f"short_check on {schema}.short", f"{schema}.keys"]
+            same(says(used, database=database).splitlines(), ["f", *wanted, "6"], "what is made again")
+            says(f"SET search_path = {schema}; INSERT INTO words VALUES ('c'::{schema}.short, DEFAULT, 'c'); SELECT uca_use_files(again => false);", database=database)
+            none_sprung(says, database, role, schema, "uca_use_files(again => true)")
+
+
 # Thirty layers, where each view reads both of the layer before it. Then a materialized view that calls a function, and one that reads it.
 VIEWS = f"""
 CREATE TABLE words(word text);
@@ -2280,14 +2384,14 @@ def main():
         sys.exit(f"there is no {missing[0]}: run `tools/build.py uca_c uca_run` first")
     checks = [("make", make), ("valgrind", valgrind), ("sanitizers", sanitizers), ("header in C++", header), ("exported names", exports),
               ("installation", installed), ("stored run", stored_run), ("docs/BINDINGS.md", page), ("keys", keys_like(program)), ("Python", python), ("Python under valgrind", python_valgrind), ("wheel", wheel), ("sort", sorted_like(program)), ("SQLite", sqlite),
-              ("SQLite's loads", sqlite_loads), ("SQLite's files", sqlite_files), ("SQLite's compact keys", sqlite_compact), ("SQLite's numbers", sqlite_numbers), ("SQLite's arguments", sqlite_arguments), ("SQLite's checks", sqlite_checks),
+              ("SQLite's loads", sqlite_loads), ("SQLite's authorizers", sqlite_authorizers), ("SQLite's files", sqlite_files), ("SQLite's compact keys", sqlite_compact), ("SQLite's numbers", sqlite_numbers), ("SQLite's arguments", sqlite_arguments), ("SQLite's checks", sqlite_checks),
               ("SQLite's books", sqlite_books), ("SQLite's lookups", sqlite_lookups), ("SQLite's schemas", sqlite_schemas), ("SQLite's restores", sqlite_restore),
               ("SQLite's attached databases", sqlite_attached), ("SQLite's threads", sqlite_threads), ("SQLite's moves from thread to thread", sqlite_moved), ("SQLite's upgrades", sqlite_upgrades),
               ("SQLite's loads of upgrades", sqlite_upgrade_loads), ("SQLite's compact keys in upgrades", sqlite_compact_upgrades), ("SQLite's moves", sqlite_moves),
               ("SQLite's indexes of texts", sqlite_texts), ("SQLite's memory", sqlite_memory), ("SQLite on the page", sqlite_page), ("SQLite's orders", sqlite_like(program)),
               ("PostgreSQL", postgresql), ("PostgreSQL's settings", postgresql_settings), ("PostgreSQL's numbers", postgresql_numbers), ("PostgreSQL's dumps", postgresql_dumps),
               ("PostgreSQL's replication", postgresql_replication), ("PostgreSQL's changes", postgresql_changes), ("PostgreSQL's roles", postgresql_roles),
-              ("PostgreSQL's owners", postgresql_owners), ("PostgreSQL's dependents", postgresql_dependents), ("PostgreSQL's columns", postgresql_columns), ("PostgreSQL's compact keys", postgresql_compact),
+              ("PostgreSQL's owners", postgresql_owners), ("PostgreSQL's traps", postgresql_traps), ("PostgreSQL's dependents", postgresql_dependents), ("PostgreSQL's columns", postgresql_columns), ("PostgreSQL's compact keys", postgresql_compact),
               ("PostgreSQL's checks", postgresql_checks), ("PostgreSQL's books", postgresql_books), ("PostgreSQL's upgrades", postgresql_upgrades), ("PostgreSQL's files of upgrades", postgresql_upgrade_files),
               ("PostgreSQL on the page", postgresql_page), ("PostgreSQL's upgrade on the page", postgresql_upgrade_page),
               ("PostgreSQL's upgrade in one transaction", postgresql_one_transaction), ("PostgreSQL's orders", postgresql_like(program))]

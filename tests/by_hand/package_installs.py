@@ -30,6 +30,9 @@ import zipfile
 import packages
 
 TOP = os.path.dirname(os.path.dirname(os.path.dirname(os.path.realpath(__file__))))
+sys.path.append(f"{TOP}/tools")
+import pages  # noqa: E402
+
 EXAMPLES, TRIPLET = f"{TOP}/examples", "x86_64-linux-gnu"
 
 NEEDS = ["gcc", "make", "dpkg-dev", "libsqlite3-dev", "postgresql-server-dev-15", "cargo"]
@@ -39,7 +42,7 @@ LINES = ["lines.txt", "words_danish.txt", "words_spanish.txt", "words_swedish.tx
 PACKAGES = ["uca", "libuca1", "libuca-dev", "python3-uca", "libsqlite3-mod-uca", "postgresql-15-uca"]
 MIRROR, SUITE = "http://deb.debian.org/debian", "bookworm"
 # what the use of the packages needs beside what they depend on
-USERS = ["gcc", "libc6-dev", "pkg-config", "sqlite3", "man-db", "unicode-data"]
+USERS = ["gcc", "libc6-dev", "pkg-config", "sqlite3", "man-db", "unicode-data", "unicode-cldr-core"]
 
 # Tags of lintian that stay, and why.
 LINTIAN_KNOWN = {
@@ -320,10 +323,13 @@ def manual_in(system, _):
     holds(b"uca" in system.run("man -w uca") and b"NAME" in system.run("man uca"), "the manual page")
 
 
-def table_in(system, _):
-    """The scripts of the package make Unicode's table from Debian's package."""
-    system.run("cd /usr/share/doc/uca/tools && ./unicode_files.py table > /tmp/table.txt && ./unicode_files.py data > /tmp/data.txt")
-    same(system.run("uca check /tmp/table.txt /tmp/data.txt"), b"well-formed\n", "Unicode's table")
+def example_in(system, _):
+    """The first example of README, as it stands there: the scripts of the package make the tables, and the command sorts. Then Unicode's table is checked."""
+    commands = pages.commands_of("README.md", "console unicode")
+    script = "".join(f"{command}\n" for command, _ in commands)
+    said = system.run(f"mkdir /tmp/first && cd /tmp/first && ln -s /usr/share/doc/uca/tools tools\n{script}").decode()
+    same(said, "".join(f"{output}\n" for _, output in commands if output), "what README's first example prints")
+    same(system.run("cd /tmp/first && uca check table.txt data.txt"), b"well-formed\n", "Unicode's table")
 
 
 def debian(tests):
@@ -337,7 +343,7 @@ def debian(tests):
     tests.check("nothing is left of uca", lambda: same(system.files(), before, "files"))
     debs = " ".join(f"/test/debs/{it}_*.deb" for it in PACKAGES)
     tests.check("all are installed", lambda: system.run(f"{install} {debs} {' '.join(USERS)}", network=True))
-    rows = {"library for C": library_in, "Python": python_in, "SQLite": sqlite_in, "PostgreSQL": postgresql_in, "manual page": manual_in, "Unicode's table": table_in}
+    rows = {"library for C": library_in, "Python": python_in, "SQLite": sqlite_in, "PostgreSQL": postgresql_in, "manual page": manual_in, "README's example": example_in}
     for name, call in rows.items():
         tests.check(name, call, system, tests)
     tests.check("all are purged", lambda: system.run(f"apt-get purge -y -q {' '.join(PACKAGES)}"))

@@ -99,7 +99,7 @@ def stored_cases(fingerprint):
     other = "0" * 64
     for at_from in (["--from", fingerprint], ["--from", other]):
         yield Case(["rekey", *at_from, "--to", other, *certificate], certificate, "headed")
-        yield Case(["compact", *at_from, "--to", other, *book], book, "headed")
+        yield Case(["compact", *at_from, *book], book, "headed")
     for name in ("keys", "headed", "compacted", "noise", "empty"):
         yield Case(["rekey", *certificate], certificate, name)
         yield Case(["rekey", "--weighting", "non-ignorable", "--identical", *certificate], certificate, name)

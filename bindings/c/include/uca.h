@@ -52,7 +52,7 @@ typedef enum uca_status {
     UCA_OK = 0,           /* the call did what it says */
     UCA_CLOSED = 1,       /* the collator or the upgrade is closed */
     UCA_ALREADY_OPEN = 2, /* the collator or the upgrade is open, and stays as it is */
-    UCA_ARGUMENT = 3,     /* the weighting or the depth is none of those below */
+    UCA_ARGUMENT = 3,     /* the weighting, the depth, the range or the end is none of those below */
     UCA_TABLE = 4,        /* the table is rejected: the error has the line and why. At UCA_KIND_MEMORY memory ran out there */
     UCA_DATA = 5,         /* the table is read, and the data file is rejected in the same way */
     UCA_MEMORY = 6,       /* out of memory elsewhere; a call that ran out of memory may be tried again */

@@ -880,6 +880,13 @@ class Commands(unittest.TestCase):
         self.assertRaises(TypeError, uca.run, ["x"], {}, "text")
         self.assertRaises(TypeError, uca.run, "check", {})
 
+    def test_lone_surrogates(self):
+        # the e with an accent has two bytes, so the surrogate begins at byte 3
+        for arguments, given, position in ((["sort", "\ud800", "d"], {}, 0), (["check", "t\u00e9\udfff"], {}, 3), (["check"], {"t\ud800": b""}, 1)):
+            with self.assertRaises(uca.TextError) as caught:
+                uca.run(arguments, given)
+            self.assertEqual((caught.exception.kind, caught.exception.position, caught.exception.side), ("Utf8", position, ""))
+
     def test_threads(self):
         def sort(_):
             return uca.run(["sort", "t", "d"], {"t": TABLE, "d": DATA}, b"b\na\n" * 1000).output
@@ -1244,8 +1251,11 @@ class Settings(unittest.TestCase):
             self.assertEqual(collator.compare("\u0323\u0301", "\u0301\u0323"), (0, 0))
 
     def test_other_weighting(self):
-        with self.assertRaises(ValueError):
-            uca.Collator(TABLE, DATA, "blanked")
+        for weighting in ("blanked", "", 1, b"shifted", [], {}):
+            with self.assertRaisesRegex(ValueError, '^weighting is None, "non-ignorable" or "shifted"$'):
+                uca.Collator(TABLE, DATA, weighting)
+            with self.assertRaisesRegex(ValueError, '^weighting is None, "non-ignorable" or "shifted"$'):
+                uca.Upgrade(*EDITIONS, weighting)
 
 
 class Opening(unittest.TestCase):

@@ -506,7 +506,7 @@ def _check_files(status: int, error: _Error) -> None:
 
 def _checked_settings(weighting: Optional[str], identical: bool, numeric: bool, fingerprint: str) -> Tuple[int, int]:
     """The numbers of the weighting and of the depth."""
-    if weighting not in _WEIGHTINGS:
+    if not isinstance(weighting, (str, type(None))) or weighting not in _WEIGHTINGS:
         raise ValueError('weighting is None, "non-ignorable" or "shifted"')
     if not isinstance(identical, bool):
         raise TypeError("identical is True or False")
@@ -627,6 +627,14 @@ def compare_keys(left: Bytes, right: Bytes, levels: int) -> Comparison:
     return Comparison(found.order, found.level)
 
 
+def _argument(text: str) -> bytes:
+    """A text for a command. A lone surrogate is an error, at the byte where it would begin."""
+    try:
+        return str.encode(text)
+    except UnicodeEncodeError as error:
+        raise TextError("Utf8", len(str.encode(text[: error.start]))) from None
+
+
 def _list_of(texts: Sequence[str], what: str) -> bytes:
     """Texts with a NUL between two of them."""
     for it in texts:
@@ -634,7 +642,7 @@ def _list_of(texts: Sequence[str], what: str) -> bytes:
             raise TypeError(f"{what} are texts")
         if "\0" in it:
             raise ValueError(f"{what} have no NUL")
-    return "\0".join(texts).encode()
+    return b"\0".join(map(_argument, texts))
 
 
 def _ran(words: bytes, names: bytes, files: Sequence[bytes], lines: bytes, rooms: Tuple[int, int, int]) -> Tuple[int, _Lengths, List[Any]]:
@@ -654,7 +662,8 @@ def run(arguments: Sequence[str], files: Mapping[str, File], lines: Bytes = b"")
     file that it reads. Other threads run meanwhile. It takes up to 640 KB of the stack. Where the output has more bytes than a
     first guess, the command runs once more.
 
-    Raises MemoryError where memory runs out before the command begins. Afterwards that is a status.
+    Raises :class:`TextError` where an argument or a name of a file has a lone surrogate; MemoryError where memory runs out
+    before the command begins. Afterwards that is a status.
     """
     if isinstance(arguments, str):
         raise TypeError("arguments are a list of texts, and not one text")

@@ -90,10 +90,10 @@ audit-changes o d n e h c | AuditChanges(AuditChangesWords { editions: EditionNa
 rekey c | Rekey(RekeyWords { weighting: None, depth: Weights, fingerprints: None, certificate: "c" })
 rekey --identical c --weighting shifted | Rekey(RekeyWords { weighting: Some(Shifted), depth: Identical, fingerprints: None, certificate: "c" })
 rekey --weighting=non-ignorable -- --identical | Rekey(RekeyWords { weighting: Some(NonIgnorable), depth: Weights, fingerprints: None, certificate: "--identical" })
-compact b | Compact(BookWords { weighting: None, depth: Weights, fingerprints: None, book: "b" })
-compact --weighting=non-ignorable compact --identical | Compact(BookWords { weighting: Some(NonIgnorable), depth: Identical, fingerprints: None, book: "compact" })
-expand b | Expand(BookWords { weighting: None, depth: Weights, fingerprints: None, book: "b" })
-expand --weighting shifted -- --identical | Expand(BookWords { weighting: Some(Shifted), depth: Weights, fingerprints: None, book: "--identical" })
+compact b | Compact(BookWords { weighting: None, depth: Weights, keys: None, book: "b" })
+compact --weighting=non-ignorable compact --identical | Compact(BookWords { weighting: Some(NonIgnorable), depth: Identical, keys: None, book: "compact" })
+expand b | Expand(BookWords { weighting: None, depth: Weights, keys: None, book: "b" })
+expand --weighting shifted -- --identical | Expand(BookWords { weighting: Some(Shifted), depth: Weights, keys: None, book: "--identical" })
 book c b | Book(BookImageWords { certificate: "c", book: "b" })
 book book -- --identical | Book(BookImageWords { certificate: "book", book: "--identical" })
 fingerprint t d | Fingerprint(FingerprintWords { weighting: None, depth: Weights, numbers: AsText, book: None, table: "t", properties: "d" })
@@ -118,8 +118,11 @@ rekey --to 0123456789abcdef0123456789abcdef0123456789abcdef0123456789abcdef c | 
 rekey --from 0123456789abcdef0123456789abcdef0123456789abcdef0123456789abcdef --to 0123456789abcdef0123456789abcdef0123456789abcdef0123456789abcde c | Fingerprint
 rekey --from 0123456789abcdef0123456789abcdef0123456789abcdef0123456789abcdeF --to 0123456789abcdef0123456789abcdef0123456789abcdef0123456789abcdef c | Fingerprint
 rekey --from 0123456789abcdef0123456789abcdef0123456789abcdef0123456789abcdef --to 0123456789abcdef0123456789abcdef0123456789abcdef0123456789abcdef0 c | Fingerprint
-compact --from 0123456789abcdef0123456789abcdef0123456789abcdef0123456789abcdef b | Fingerprint
-expand --to 0123456789abcdef0123456789abcdef0123456789abcdef0123456789abcdef b | Fingerprint
+compact --from 123456789abcdef0123456789abcdef0123456789abcdef0123456789abcdef b | Fingerprint
+compact --to 0123456789abcdef0123456789abcdef0123456789abcdef0123456789abcdef b | UnknownArgument
+compact --from 0123456789abcdef0123456789abcdef0123456789abcdef0123456789abcdef --weighting x b | Weighting
+expand --to 0123456789ABCDEF0123456789ABCDEF0123456789ABCDEF0123456789ABCDEF b | Fingerprint
+expand --from 0123456789abcdef0123456789abcdef0123456789abcdef0123456789abcdef --to 0123456789abcdef0123456789abcdef0123456789abcdef0123456789abcdef b | UnknownArgument
 compact --weighting x b | Weighting
 expand --weighting Shifted b | Weighting
 fingerprint --weighting x t d | Weighting

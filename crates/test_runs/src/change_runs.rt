@@ -56,19 +56,17 @@ pub const COMPACT: &str = "0A02\n080A02\tab\n02\n";
 /// The lines with stored keys, without spaces.
 pub const EXPANDED: &str = "1C600000002000000002\n1C471C60000000200020000000020002\tab\n00000000\n";
 
-/// The fingerprints of the headers that come before the lines with stored keys, and before those with compact keys.
+/// The fingerprint of the header that comes before the lines with stored keys.
 const OF_KEYS: [u8; 32] = [0x1A; 32];
-
-const OF_COMPACT: [u8; 32] = [0x2B; 32];
 
 /// The lines with stored keys, after their header.
 const HEADED: &str =
     "#uca keys 1 non-ignorable weights 1a1a1a1a1a1a1a1a1a1a1a1a1a1a1a1a1a1a1a1a1a1a1a1a1a1a1a1a1a1a1a1a\n\
     1C60 0000 0020 0000 0002\n1C471C60000000200020000000020002\tab\n0000 0000\n";
 
-/// The lines with their compact keys, after their header.
+/// The lines with their compact keys, after their header. Its fingerprint was made by `sha256sum`.
 pub const HEADED_COMPACT: &str =
-    "#uca compact 1 non-ignorable weights 2b2b2b2b2b2b2b2b2b2b2b2b2b2b2b2b2b2b2b2b2b2b2b2b2b2b2b2b2b2b2b2b\n\
+    "#uca compact 1 non-ignorable weights 75754decdbe3f183dc2648501ec272574c9845544f69d78ed7a29b07ff2ac4da\n\
     0A02\n080A02\tab\n02\n";
 
 /// The lines with stored keys, without spaces, after their header.
@@ -192,7 +190,6 @@ fn headed_compact(tried: &Refusing, out: &mut Sink<Vec<u8>>) -> End {
         NonIgnorable,
         Weights,
         &OF_KEYS,
-        &OF_COMPACT,
     )
 }
 
@@ -204,7 +201,6 @@ fn headed_expand(tried: &Refusing, out: &mut Sink<Vec<u8>>) -> End {
         out,
         NonIgnorable,
         Weights,
-        &OF_COMPACT,
         &OF_KEYS,
     )
 }

@@ -52,15 +52,17 @@ module _ (maps : Maps) (rising : AreRisingMaps maps) (book : BookContent) (start
       → AllByRecursion (λ w. (x : ℕ) → Sends maps.primary w x → KeepsOffset 0xFFFF book.variables new_book.variables w x) ws
       → AllByRecursion (λ w. (x : ℕ) → Sends maps.primary w x → KeepsPlace (variables_form book 0) (variables_form new_book 0) w x) ws
   variables_keep [] are stay = tt
-  variables_keep (w ∷ ws) are stay =
-      ((λ x sent. elim (cases_lt w 0xFFFF) [
-        | inl less ↦ places.variables starts.variables 0 w x are.0.0 less sent (stay.0 x sent)
-        | inr most ↦
-            let high : w < 65536 = are.0.1 in
-            let last : w ≡ 0xFFFF = omega (arith, high, most) in
-            let own : Sends maps.primary 0xFFFF 0xFFFF = rising.primary.fixed.0 0xFFFF (omega arith) (omega arith) in
-            common_keeps w x last (sym (same_some 0xFFFF x (sym own ∙ ap maps.primary (sym last) ∙ sent)))
-      ]), variables_keep ws are.1 stay.1)
+  variables_keep (w ∷ ws) are stay = (
+    (λ x sent. elim (cases_lt w 0xFFFF) [
+      | inl less ↦ places.variables starts.variables 0 w x are.0.0 less sent (stay.0 x sent)
+      | inr most ↦
+          let high : w < 65536 = are.0.1 in
+          let last : w ≡ 0xFFFF = omega (arith, high, most) in
+          let own : Sends maps.primary 0xFFFF 0xFFFF = rising.primary.fixed.0 0xFFFF (omega arith) (omega arith) in
+          common_keeps w x last (sym (same_some 0xFFFF x (sym own ∙ ap maps.primary (sym last) ∙ sent)))
+    ]),
+    variables_keep ws are.1 stay.1,
+  )
 
   -- so the levels of a key keep their places
   levels_keep : (weighting : Weighting) (levels : List (List ℕ)) → AreLevels (level_count weighting) levels → WeightsStay maps book levels
@@ -76,8 +78,10 @@ module _ (maps : Maps) (rising : AreRisingMaps maps) (book : BookContent) (start
   levels_keep Shifted (a ∷ b ∷ c ∷ []) are stay = absurd (omega (arith, are.0))
   levels_keep Shifted (a ∷ b ∷ c ∷ d ∷ []) are stay = (
     letters_keep 3 a are.1.0 stay.0,
-    (each_stays (accents_form 2) maps.secondary b stay.1,
-    (each_stays (cases_form 1) maps.tertiary c stay.2, (variables_keep d are.1.1.1.1.0 stay.3.0, tt))),
+    (
+      each_stays (accents_form 2) maps.secondary b stay.1,
+      (each_stays (cases_form 1) maps.tertiary c stay.2, (variables_keep d are.1.1.1.1.0 stay.3.0, tt)),
+    ),
   )
   levels_keep Shifted (a ∷ b ∷ c ∷ d ∷ e ∷ more) are stay = absurd (omega (arith, are.0))
 

@@ -148,19 +148,13 @@ module _ (images : WeightImages) (rising : IsRisingMap One images) (w x : ℕ) (
       by (nat_lt w s) (nat_lt x (start_image images s)) (test_start images rising w x s some sent)
       (λ more. cell_sent (suc number) s (start_image images s) later end new_end more) h
     where
-      abbrev y : ℕ
-      y = start_image images s
-
-      abbrev new_later : List ℕ
-      new_later = map (start_image images) later
-
       by : (t u : Bool) → t ≡ u
-          → (HasOffset w x (cell_start s later w) (cell_end later end w) (cell_start y new_later x) (cell_end new_later new_end x)
-          → cell (suc number) s later end w ≡ cell (suc number) y new_later new_end x)
-          → HasOffset w x (cond t start (cell_start s later w)) (cond t s (cell_end later end w)) (cond u new_start (cell_start y new_later x)) (cond u y (cell_end new_later new_end x))
+          → (HasOffset w x (cell_start s later w) (cell_end later end w) (cell_start (start_image images s) (map (start_image images) later) x) (cell_end (map (start_image images) later) new_end x)
+          → cell (suc number) s later end w ≡ cell (suc number) (start_image images s) (map (start_image images) later) new_end x)
+          → HasOffset w x (cond t start (cell_start s later w)) (cond t s (cell_end later end w)) (cond u new_start (cell_start (start_image images s) (map (start_image images) later) x)) (cond u (start_image images s) (cell_end (map (start_image images) later) new_end x))
           → cond t (number ∷ offset_bytes (s - start) (w - start)) (cell (suc number) s later end w)
-          ≡ cond u (number ∷ offset_bytes (y - new_start) (x - new_start)) (cell (suc number) y new_later new_end x)
-      by true true same known h = here number start s new_start y h
+          ≡ cond u (number ∷ offset_bytes ((start_image images s) - new_start) (x - new_start)) (cell (suc number) (start_image images s) (map (start_image images) later) new_end x)
+      by true true same known h = here number start s new_start (start_image images s) h
       by true false same known h = absurd (cc)
       by false true same known h = absurd (cc)
       by false false same known h = known h

@@ -52,7 +52,7 @@ pub record KeepsStarts (images : WeightImages) (book : BookContent) : Type 0 whe
   pub letters : (book_image images book).letters ≡ map (start_image images) book.letters
   pub variables : (book_image images book).variables ≡ map (start_image images) book.variables
 
--- The weights of the levels of a key: those of levels 1 and 4 keep their offsets in the image of the book, and those of
+-- The weights of a key in its levels. Those of levels 1 and 4 keep their offsets in the image of the book, and those of
 -- levels 2 and 3 stay.
 abbrev pub WeightsStay : Maps → BookContent → List (List ℕ) → Type 0
 WeightsStay maps book (letters ∷ accents ∷ cases ∷ later) =

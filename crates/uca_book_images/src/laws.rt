@@ -22,7 +22,8 @@ pub fn rising_maps_keep_places()
 {}
 
 /// A key has the compact key that it had, under a new book, if each of its weights keeps its place. The weights may be
-/// others: it is enough that their cells have the numbers that they had, and that the offsets there are the old ones.
+/// others, as long as three things stay. Each cell has the number that it had, and the offset there is the old one, in as
+/// many bytes. A lead, FB00 to FBFF at level 1, stays one, and no other weight becomes one. The code points are the same.
 pub fn kept_keys_stay()
     ensures { KeptKeysStay }
 {}

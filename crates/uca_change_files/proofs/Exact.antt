@@ -142,7 +142,7 @@ barred s line kind t (inr (inr (inl c))) (inr h) =
     let same : h.2.0 ≡ c.2.0 = item_same line h.2.0 c.2.0 h.2.1 c.2.1 in
     c.2.2 (subst (λ (i : Item). MayFollow s.content i) same h.2.2.due)
 barred s line kind t (inr (inr (inr c))) (inl h) = let e : true ≡ false = sym c.1 ∙ h.0 in cc
-barred s line kind t (inr (inr (inr c))) (inr h) = omega (arith, c.2, h.2.2.few)
+barred s line kind t (inr (inr (inr c))) (inr h) = omega (arith, c.2.3, h.2.2.few)
 
 by_line : IsExactByLine Says Takes Cause
 by_line = record {

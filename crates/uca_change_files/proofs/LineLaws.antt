@@ -94,7 +94,8 @@ refuses_text text points content kind a (inl h) = inl (h.0, go)
     go (OfRange r) is fits = is
 refuses_text text points content kind a (inr (inl h)) =
     let P : Item → Type 0 = SpellsText text in inr (inl (h.0, (h.1.0, subst P h.1.1 a, h.1.2, h.1.3)))
-refuses_text text points content kind a (inr (inr h)) = inr (inr h)
+refuses_text text points content kind a (inr (inr h)) =
+    let P : Item → Type 0 = SpellsText text in inr (inr (h.0, (h.1.0, subst P h.1.1 a, h.1.2, h.1.3, h.1.4)))
 
 -- and a range
 pub refuses_range : (text : List ℕ) (r : CodePointRange) (content : ChangeContent) (kind : FaultKind) → AreEnds text r → Refuses (λ item. OfRange r ≡ item) content kind
@@ -106,7 +107,8 @@ refuses_range text r content kind a (inl h) = inl (h.0, go)
     go (OfRange s) is fits = h.1 (OfRange s) (ap OfRange (ends_same text r s a is)) fits
 refuses_range text r content kind a (inr (inl h)) =
     let P : Item → Type 0 = SpellsRange text in inr (inl (h.0, (h.1.0, subst P h.1.1 a, h.1.2, h.1.3)))
-refuses_range text r content kind a (inr (inr h)) = inr (inr h)
+refuses_range text r content kind a (inr (inr h)) =
+    let P : Item → Type 0 = SpellsRange text in inr (inr (h.0, (h.1.0, subst P h.1.1 a, h.1.2, h.1.3, h.1.4)))
 
 -- an error that is returned for the items `Is` is one for `Other`, where each error for `Is` is one for `Other`
 pub refuses_here : {X : Type 0} (Is Other : Item → Type 0) (content : ChangeContent) (r : Result X FaultKind)
@@ -207,4 +209,5 @@ line_refused Spells line rest started old (Err kind) is e (inr (inl h)) =
     inr (inr (inl (h.0, e, λ item line_is. h.1 item ((is item).1 line_is) line_is.fits)))
 line_refused Spells line rest started old (Err kind) is e (inr (inr (inl h))) =
     inr (inr (inr (inl (h.0, e, (h.1.0, (is h.1.0).0 h.1.1 h.1.2, h.1.3)))))
-line_refused Spells line rest started old (Err kind) is e (inr (inr (inr h))) = inr (inr (inr (inr (h.0, e, h.1))))
+line_refused Spells line rest started old (Err kind) is e (inr (inr (inr h))) =
+    inr (inr (inr (inr (h.0, e, (h.1.0, (is h.1.0).0 h.1.1 h.1.2, h.1.3, h.1.4)))))

@@ -86,14 +86,15 @@ pub record IsLine (line : List ℕ) (item : Item) : Type 0 where
   pub fits : IsItem item
   pub scalars : HasScalars item
 
--- Why a line is rejected. It is not the header where the header must come, or it lists nothing. Or what it lists does not
--- come after all that is listed before it, or is one too many.
+-- Why a line is rejected, the first of these. It is not the header where the header must come, or it lists nothing. Or
+-- what it lists does not come after all that is listed before it, or is one too many.
 abbrev pub Cause : Said → List ℕ → FaultKind → Type 0
 Cause said line kind =
     ((kind ≡ kinds.Order) × (said.started ≡ false) × (line ≢ header))
     ⊎ ((kind ≡ kinds.Line) × (said.started ≡ true) × ((item : Item) → ¬ (IsLine line item)))
     ⊎ ((kind ≡ kinds.Order) × (said.started ≡ true) × ((item : Item) × IsLine line item × ¬ (MayFollow said.content item)))
-    ⊎ ((kind ≡ kinds.Limit) × (said.started ≡ true) × (999999 ≤ length said.content.texts + length said.content.ranges))
+    ⊎ ((kind ≡ kinds.Limit) × (said.started ≡ true) × ((item : Item) × IsLine line item × MayFollow said.content item
+    × (999999 ≤ length said.content.texts + length said.content.ranges)))
 
 -- a file may not end before its header
 abbrev pub IsUnfinished : Said → Type 0

@@ -48,12 +48,13 @@ pub record Adds (old : ChangeContent) (item : Item) (new : ChangeContent) : Type
   pub few : length old.texts + length old.ranges < 999999
   pub adds : new ≡ put_last item old
 
--- why one of these items is not added: it is none, it may not follow, or it is one too many
+-- why one of these items is not added, the first of these: it is none, it may not follow, or it is one too many
 abbrev pub Refuses : (Item → Type 0) → ChangeContent → FaultKind → Type 0
 Refuses Is content kind =
     ((kind ≡ kinds.Line) × ((item : Item) → Is item → ¬ (IsItem item)))
     ⊎ ((kind ≡ kinds.Order) × ((item : Item) × Is item × IsItem item × ¬ (MayFollow content item)))
-    ⊎ ((kind ≡ kinds.Limit) × (999999 ≤ length content.texts + length content.ranges))
+    ⊎ ((kind ≡ kinds.Limit) × ((item : Item) × Is item × IsItem item × MayFollow content item
+    × (999999 ≤ length content.texts + length content.ranges)))
 
 -- the text spells the item
 abbrev pub SpellsText : List ℕ → Item → Type 0

@@ -352,22 +352,21 @@ DoesRekey files old new words start end result =
 
 -- ---- Compact keys
 
--- The run of `compact`. With fingerprints, the input begins with a header of keys that has the old one. The output begins with a header of
--- compact keys that has the new one.
-abbrev pub Compacts : Weighting → Depth → Option Fingerprints → List SourceState → List SourceState → SourceState → SourceState
+-- the run of `compact`: with the fingerprint of the keys, their header comes first, and that of compact keys is written in its place
+abbrev pub Compacts : Weighting → Depth → Option (List ℕ) → List SourceState → List SourceState → SourceState → SourceState
     → SinkState → SinkState → Result (Unit {0}) RunFault → Type 0
 Compacts weighting depth None olds news input input_new out out_new run =
     CompactsLines weighting depth olds news input input_new out out_new run
-Compacts weighting depth (Some given) olds news input input_new out out_new run =
-    CompactsHeaded weighting depth given.from given.to olds news input input_new out out_new run
+Compacts weighting depth (Some keys) olds news input input_new out out_new run =
+    CompactsHeaded weighting depth keys olds news input input_new out out_new run
 
--- the run of `expand`: with fingerprints, the header of compact keys comes first, and that of keys is written in its place
-abbrev pub Expands : Weighting → Depth → Option Fingerprints → List SourceState → List SourceState → SourceState → SourceState
+-- the run of `expand`: with that fingerprint, the header of compact keys comes first, and that of keys is written in its place
+abbrev pub Expands : Weighting → Depth → Option (List ℕ) → List SourceState → List SourceState → SourceState → SourceState
     → SinkState → SinkState → Result (Unit {0}) RunFault → Type 0
 Expands weighting depth None olds news input input_new out out_new run =
     ExpandsLines weighting depth olds news input input_new out out_new run
-Expands weighting depth (Some given) olds news input input_new out out_new run =
-    ExpandsHeaded weighting depth given.from given.to olds news input input_new out out_new run
+Expands weighting depth (Some keys) olds news input input_new out out_new run =
+    ExpandsHeaded weighting depth keys olds news input input_new out out_new run
 
 -- what `compact` does: the weighting is the one that is asked for, or else shifted
 abbrev pub DoesCompact : {O F M : Type 0} → FileSystem O F M → O → O → BookWords → Streams → Streams
@@ -375,7 +374,7 @@ abbrev pub DoesCompact : {O F M : Type 0} → FileSystem O F M → O → O → B
 DoesCompact files old new words start end result =
     OpensAndRuns files old new (file_for roles.Book words.book.now ∷ []) (end ≡ start)
     (λ olds news. Ran (done_result {A = Unit {0}})
-    (Compacts (unwrap_or words.weighting Shifted) words.depth words.fingerprints olds news start.input end.input start.out end.out) result) result
+    (Compacts (unwrap_or words.weighting Shifted) words.depth words.keys olds news start.input end.input start.out end.out) result) result
 
 -- what `expand` does: the weighting is the one that is asked for, or else shifted
 abbrev pub DoesExpand : {O F M : Type 0} → FileSystem O F M → O → O → BookWords → Streams → Streams
@@ -383,7 +382,7 @@ abbrev pub DoesExpand : {O F M : Type 0} → FileSystem O F M → O → O → Bo
 DoesExpand files old new words start end result =
     OpensAndRuns files old new (file_for roles.Book words.book.now ∷ []) (end ≡ start)
     (λ olds news. Ran (done_result {A = Unit {0}})
-    (Expands (unwrap_or words.weighting Shifted) words.depth words.fingerprints olds news start.input end.input start.out end.out) result) result
+    (Expands (unwrap_or words.weighting Shifted) words.depth words.keys olds news start.input end.input start.out end.out) result) result
 
 -- what `book` does
 abbrev pub DoesBook : {O F M : Type 0} → FileSystem O F M → O → O → BookImageWords → SinkState → SinkState

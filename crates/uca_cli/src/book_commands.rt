@@ -44,21 +44,12 @@ fn compact_lines<B: Read, I: Read, W: Write>(
     input: &mut Source<I>,
     out: &mut Sink<W>,
 ) -> Result<(), RunFault>
-    ensures { Compacts weighting words.now.depth words.now.fingerprints (book.old ∷ []) (book.new ∷ [])
+    ensures { Compacts weighting words.now.depth words.now.keys (book.old ∷ []) (book.new ∷ [])
         input.old input.new out.old out.new result }
 {
-    match &words.fingerprints {
+    match &words.keys {
         None => run_compact(alloc, book, input, out, weighting, words.depth),
-        Some(given) => run_headed_compact(
-            alloc,
-            book,
-            input,
-            out,
-            weighting,
-            words.depth,
-            &given.from,
-            &given.to,
-        ),
+        Some(keys) => run_headed_compact(alloc, book, input, out, weighting, words.depth, keys),
     }
 }
 
@@ -90,21 +81,12 @@ fn expand_lines<B: Read, I: Read, W: Write>(
     input: &mut Source<I>,
     out: &mut Sink<W>,
 ) -> Result<(), RunFault>
-    ensures { Expands weighting words.now.depth words.now.fingerprints (book.old ∷ []) (book.new ∷ [])
+    ensures { Expands weighting words.now.depth words.now.keys (book.old ∷ []) (book.new ∷ [])
         input.old input.new out.old out.new result }
 {
-    match &words.fingerprints {
+    match &words.keys {
         None => run_expand(alloc, book, input, out, weighting, words.depth),
-        Some(given) => run_headed_expand(
-            alloc,
-            book,
-            input,
-            out,
-            weighting,
-            words.depth,
-            &given.from,
-            &given.to,
-        ),
+        Some(keys) => run_headed_expand(alloc, book, input, out, weighting, words.depth, keys),
     }
 }
 

@@ -1,5 +1,5 @@
--- Compact keys: a shorter form of keys. Byte order of compact keys is that of the keys, and no compact key begins
--- another.
+-- Compact keys: a shorter form of keys. Byte order of compact keys is that of the keys. Without an identical level no
+-- compact key begins another.
 use Rattle.std.specs.Prelude.{◌≡◌, ℕ, zero, suc, ◌+◌, ◌*◌, ◌-◌, ◌/◌, ◌%◌, List, [], ◌∷◌, ◌++◌, true, length, nat_lt, nat_eq, if◌then◌else◌}
 use Rattle.std.specs.Str.{bytes_eq, encode_utf8_all, all_scalars}
 use Rattle.std.specs.Ordering.{nat_cmp}

@@ -41,8 +41,8 @@ pub fn compact_keys_compare_as_texts()
     ensures { CompactKeysCompareAsTexts }
 {}
 
-/// The same of all texts whose elements have weights of 16 bits: byte order of the compact keys is that of the keys, and
-/// compact keys are equal exactly if the keys are.
+/// Byte order of the compact keys of texts is that of their keys, if their elements have weights of 16 bits. Then compact
+/// keys are equal exactly if the keys are.
 pub fn compact_keys_keep_order()
     ensures { CompactKeysKeepOrder }
 {}

@@ -164,8 +164,8 @@ fn run_headed_in<A: Allocator + Copy, T: Read, D: Read, I: Read, W: Write>(
 /// #uca keys 1 shifted weights 64 lower-case hexadecimal digits
 /// ```
 ///
-/// The header has the weighting and the depth of the keys, and the fingerprint of both with the bytes of the two files, as
-/// [`fingerprint_of_sums`] makes it. The weighting is the one that is asked for, or else that of the table's `@variable`, or
+/// The header has the weighting and the depth of the keys, and the fingerprint of their settings with the bytes of the two
+/// files, as [`fingerprint_of_sums`] makes it. The weighting is the one that is asked for, or else that of the table's `@variable`, or
 /// else shifted (UTS #10, section 4).
 ///
 /// # Errors

@@ -14,7 +14,7 @@ pub record IsOrder (k : Keying) (left right : List ℕ) (order : Ordering) : Typ
   pub right_alone : ¬ (IsAcceptedBy k left) → IsAcceptedBy k right → order ≡ Greater
   pub neither : ¬ (IsAcceptedBy k left) → ¬ (IsAcceptedBy k right) → order ≡ lexicographic left right
 
--- Two byte strings have one order. The order of the same two the other way round is the reverse one. Less is transitive, and equal byte strings are in
+-- Two byte strings have one order at most. The order of the same two the other way round is the reverse one. Less is transitive, and equal byte strings are in
 -- the same order with any third.
 pub record OrdersAreTotal : Type 0 where
   pub one : (k : Keying) (left right : List ℕ) (o p : Ordering) → IsOrder k left right o → IsOrder k left right p → o ≡ p

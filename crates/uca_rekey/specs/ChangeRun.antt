@@ -8,6 +8,8 @@ use Rattle.uca_weights.specs.declared.Settings.{Settings}
 use Rattle.uca_weights.specs.declared.Weighting.{Weighting}
 use Rattle.uca_weights.specs.Streams.{SourceState, SinkState}
 use Rattle.uca_books.specs.Books.{BookContent}
+use Rattle.uca_books.specs.BookTexts.{book_text}
+use Rattle.uca_fingerprint.specs.Fingerprints.{compact_fingerprint}
 use Rattle.uca_fingerprint.specs.KeyHeaders.{compact_header, key_header}
 use Rattle.uca_lines.specs.Lines.{ended, lines_of}
 use Rattle.uca_run_parts.specs.declared.faults.Role.TheVariants as roles
@@ -79,40 +81,41 @@ RunsChange KeyBecomes headers none input input_new out out_new (Err Memory) = �
 RunsChange KeyBecomes headers none input input_new out out_new result =
     IfSome input.remaining (λ bytes. WritesNewLines KeyBecomes headers none bytes input_new.remaining out.contents out_new.contents result)
 
--- A run that changes the keys of lines by a book.
-abbrev pub ChangesByBook : {A : Type 0} → (BookContent → List ℕ → List ℕ → Type 0) → Option Headers → (none : StoredKeyKind) → List SourceState → List SourceState → SourceState → SourceState → SinkState → SinkState → Result A RunFault → Type 0
+-- A run that changes the keys of lines by a book. The headers, if there are some, depend on the book.
+abbrev pub ChangesByBook : {A : Type 0} → (BookContent → List ℕ → List ℕ → Type 0) → (BookContent → Option Headers) → (none : StoredKeyKind) → List SourceState → List SourceState → SourceState → SourceState → SinkState → SinkState → Result A RunFault → Type 0
 ChangesByBook becomes headers none olds news input input_new out out_new result =
-    PrintsEach book_file (roles.Book ∷ []) (λ book. RunsChange (becomes book) headers none input input_new out out_new result) olds news input input_new out out_new result
+    PrintsEach book_file (roles.Book ∷ []) (λ book. RunsChange (becomes book) (headers book) none input input_new out out_new result) olds news input input_new out out_new result
 
 -- ---- Compact keys
 
 -- A run that compacts the keys of lines by a book. `OtherKey` is its error at a key that is none of this weighting and
 -- depth.
 abbrev pub CompactsLines : {A : Type 0} → Weighting → Depth → List SourceState → List SourceState → SourceState → SourceState → SinkState → SinkState → Result A RunFault → Type 0
-CompactsLines weighting depth = ChangesByBook (compacts (record { weighting = weighting; depth = depth; numbers = AsText })) None kinds.OtherKey
+CompactsLines weighting depth = ChangesByBook (compacts (record { weighting = weighting; depth = depth; numbers = AsText })) (λ book. None) kinds.OtherKey
 
 -- A run that expands the compact keys of lines. `NoCompactKey` is its error at bytes that no key has.
 abbrev pub ExpandsLines : {A : Type 0} → Weighting → Depth → List SourceState → List SourceState → SourceState → SourceState → SinkState → SinkState → Result A RunFault → Type 0
-ExpandsLines weighting depth = ChangesByBook (expands (record { weighting = weighting; depth = depth; numbers = AsText })) None kinds.NoCompactKey
+ExpandsLines weighting depth = ChangesByBook (expands (record { weighting = weighting; depth = depth; numbers = AsText })) (λ book. None) kinds.NoCompactKey
 
 -- ---- Compact keys after a header
 
--- the header of keys with the fingerprint `from`, and in its place that of compact keys with the fingerprint `to`
-abbrev pub to_compact : Settings → List ℕ → List ℕ → Headers
-to_compact settings from to = record { old = key_header settings from; new = compact_header settings to }
+-- The header of keys with this fingerprint, and in its place that of their compact keys by a book. The fingerprint of
+-- these is made of the first one and of the bytes of the book.
+abbrev pub to_compact : Settings → List ℕ → BookContent → Headers
+to_compact settings keys book = record { old = key_header settings keys; new = compact_header settings (compact_fingerprint keys (book_text book)) }
 
--- the header of compact keys with the fingerprint `from`, and in its place that of keys with the fingerprint `to`
-abbrev pub from_compact : Settings → List ℕ → List ℕ → Headers
-from_compact settings from to = record { old = compact_header settings from; new = key_header settings to }
+-- the two headers the other way round
+abbrev pub swapped : Headers → Headers
+swapped headers = record { old = headers.new; new = headers.old }
 
 -- A run that compacts the keys of the lines after a header.
-abbrev pub CompactsHeaded : {A : Type 0} → Weighting → Depth → List ℕ → List ℕ → List SourceState → List SourceState → SourceState → SourceState → SinkState → SinkState → Result A RunFault → Type 0
-CompactsHeaded weighting depth from to =
+abbrev pub CompactsHeaded : {A : Type 0} → Weighting → Depth → (keys : List ℕ) → List SourceState → List SourceState → SourceState → SourceState → SinkState → SinkState → Result A RunFault → Type 0
+CompactsHeaded weighting depth keys =
     let settings : Settings = record { weighting = weighting; depth = depth; numbers = AsText } in
-    ChangesByBook (compacts settings) (Some (to_compact settings from to)) kinds.OtherKey
+    ChangesByBook (compacts settings) (λ book. Some (to_compact settings keys book)) kinds.OtherKey
 
 -- A run that expands the compact keys of the lines after a header.
-abbrev pub ExpandsHeaded : {A : Type 0} → Weighting → Depth → List ℕ → List ℕ → List SourceState → List SourceState → SourceState → SourceState → SinkState → SinkState → Result A RunFault → Type 0
-ExpandsHeaded weighting depth from to =
+abbrev pub ExpandsHeaded : {A : Type 0} → Weighting → Depth → (keys : List ℕ) → List SourceState → List SourceState → SourceState → SourceState → SinkState → SinkState → Result A RunFault → Type 0
+ExpandsHeaded weighting depth keys =
     let settings : Settings = record { weighting = weighting; depth = depth; numbers = AsText } in
-    ChangesByBook (expands settings) (Some (from_compact settings from to)) kinds.NoCompactKey
+    ChangesByBook (expands settings) (λ book. Some (swapped (to_compact settings keys book))) kinds.NoCompactKey

@@ -1,6 +1,6 @@
 //! The runs that compact the keys of lines, and that expand compact keys: with and without a header.
 
-ghost use Rattle.std.specs.Prelude.{◌≡◌, ◌∷◌, [], ◌||◌, true, false};
+ghost use Rattle.std.specs.Prelude.{◌≡◌, ◌∷◌, [], ◌||◌, true, false, option_map};
 ghost use Rattle.uca_run_parts.specs.EachLine.{ended_before_input};
 ghost use Rattle.uca_run_parts.specs.Files.{ended_by_file};
 ghost use Rattle.uca_run_parts.specs.Runs.{ended_by_output, is_input_read};
@@ -11,16 +11,19 @@ ghost use Rattle.uca_rekey.specs.ChangeRun.{
   ExpandsHeaded,
   ExpandsLines,
   RunsChange,
+  swapped,
 };
 ghost use Rattle.uca_rekey.specs.ChangedLines.{compacts, expands};
-ghost use Rattle.uca_rekey.specs.inside.ChangeSoFar.{headers_of};
+ghost use Rattle.uca_rekey.specs.inside.ChangeSoFar.{headers_by, headers_of};
 
 use crate::change_run::{HeaderLines, begin};
 use crate::changes::ChangesKeys;
 use std::alloc::Allocator;
 use std::io::{Read, Write};
+use uca_books::Book;
 use uca_compact::{KeyCompacter, KeyExpander};
-use uca_fingerprint::KeyHeader;
+use uca_fingerprint::{KeyHeader, compact_fingerprint_of_sums};
+use uca_fingerprint_runs::sum_of_book;
 use uca_run_parts::{RunFault, StoredKeyKind, read_book_file};
 use uca_weights::{Depth, Numbers, Settings, Sink, Source, Weighting};
 
@@ -48,19 +51,54 @@ fn run_changes<A: Allocator + Copy, C: ChangesKeys, I: Read, W: Write>(
     }
 }
 
-// Reads the book, and compacts by it the keys of the lines of an input.
+// The headers of keys with a fingerprint and of their compact keys by a book, if there is a fingerprint.
+fn headers_by<A: Allocator>(
+    settings: Settings,
+    keys: Option<&[u8; 32]>,
+    book: &Book<A>,
+) -> Option<HeaderLines>
+    ensures { headers_of result ≡ headers_by settings keys book.now }
+{
+    match keys {
+        Some(keys) => {
+            let book_sum = sum_of_book(book);
+            let compact_sum = compact_fingerprint_of_sums(keys, &book_sum);
+            let old_header = KeyHeader::new(settings, keys);
+            let new_header = KeyHeader::compact(settings, &compact_sum);
+            Some(HeaderLines {
+                from: old_header,
+                to: new_header,
+            })
+        }
+        None => None,
+    }
+}
+
+// These headers the other way round.
+fn swapped(headers: Option<HeaderLines>) -> Option<HeaderLines>
+    ensures { headers_of result ≡ option_map swapped (headers_of headers) }
+{
+    match headers {
+        Some(HeaderLines { from, to }) => Some(HeaderLines { from: to, to: from }),
+        None => None,
+    }
+}
+
+// Reads the book, and compacts by it the keys of the lines of an input. Where there is a fingerprint of keys, they come
+// after a header.
 fn compact_by_book<A: Allocator + Copy, B: Read, I: Read, W: Write>(
     alloc: A,
     book: &mut Source<B>,
     input: &mut Source<I>,
     out: &mut Sink<W>,
     settings: Settings,
-    headers: Option<HeaderLines>,
+    keys: Option<&[u8; 32]>,
 ) -> Result<(), RunFault>
-    ensures { ChangesByBook (compacts settings) (headers_of headers) StoredKeyKind.OtherKey (book.old ∷ []) (book.new ∷ []) input.old input.new out.old out.new result }
+    ensures { ChangesByBook (compacts settings) (headers_by settings keys) StoredKeyKind.OtherKey (book.old ∷ []) (book.new ∷ []) input.old input.new out.old out.new result }
 {
     match read_book_file(alloc, book) {
         Ok(book) => {
+            let headers = headers_by(settings, keys, &book);
             let change = KeyCompacter::new(alloc, book, settings);
             run_changes(alloc, change, input, out, headers)
         }
@@ -68,19 +106,20 @@ fn compact_by_book<A: Allocator + Copy, B: Read, I: Read, W: Write>(
     }
 }
 
-// Reads the book, and expands by it the compact keys of the lines of an input.
+// Reads the book, and expands by it the compact keys of the lines of an input, after a header as in `compact_by_book`.
 fn expand_by_book<A: Allocator + Copy, B: Read, I: Read, W: Write>(
     alloc: A,
     book: &mut Source<B>,
     input: &mut Source<I>,
     out: &mut Sink<W>,
     settings: Settings,
-    headers: Option<HeaderLines>,
+    keys: Option<&[u8; 32]>,
 ) -> Result<(), RunFault>
-    ensures { ChangesByBook (expands settings) (headers_of headers) StoredKeyKind.NoCompactKey (book.old ∷ []) (book.new ∷ []) input.old input.new out.old out.new result }
+    ensures { ChangesByBook (expands settings) (λ b. option_map swapped (headers_by settings keys b)) StoredKeyKind.NoCompactKey (book.old ∷ []) (book.new ∷ []) input.old input.new out.old out.new result }
 {
     match read_book_file(alloc, book) {
         Ok(book) => {
+            let headers = swapped(headers_by(settings, keys, &book));
             let change = KeyExpander::new(alloc, book, settings);
             run_changes(alloc, change, input, out, headers)
         }
@@ -126,8 +165,9 @@ pub fn run_compact<A: Allocator + Copy, B: Read, I: Read, W: Write>(
 }
 
 /// As [`run_compact`], for lines after a header. The first line of `input` has to be the header of keys that were made
-/// under this weighting, at this depth and with the fingerprint `from`. The output begins with the header of compact keys
-/// with the fingerprint `to` in its place, and LF.
+/// under this weighting, at this depth and with the fingerprint `keys`. The output begins with the header of their compact
+/// keys in its place, and LF. Its fingerprint is that of `keys` and of the book, as `compact_fingerprint` of the crate
+/// `uca_fingerprint` makes it.
 ///
 /// # Errors
 ///
@@ -140,29 +180,16 @@ pub fn run_headed_compact<A: Allocator + Copy, B: Read, I: Read, W: Write>(
     out: &mut Sink<W>,
     weighting: Weighting,
     depth: Depth,
-    from: &[u8; 32],
-    to: &[u8; 32],
+    keys: &[u8; 32],
 ) -> Result<(), RunFault>
-    ensures { CompactsHeaded weighting depth from.now to.now (book.old ∷ []) (book.new ∷ []) input.old input.new out.old out.new result }
+    ensures { CompactsHeaded weighting depth keys.now (book.old ∷ []) (book.new ∷ []) input.old input.new out.old out.new result }
 {
     let settings = Settings {
         weighting,
         depth,
         numbers: Numbers::AsText,
     };
-    let old_header = KeyHeader::new(settings, from);
-    let new_header = KeyHeader::compact(settings, to);
-    compact_by_book(
-        alloc,
-        book,
-        input,
-        out,
-        settings,
-        Some(HeaderLines {
-            from: old_header,
-            to: new_header,
-        }),
-    )
+    compact_by_book(alloc, book, input, out, settings, Some(keys))
 }
 
 /// As [`run_compact`] the other way round: puts the stored key of each compact key of the lines of `input` in its place,
@@ -190,12 +217,13 @@ pub fn run_expand<A: Allocator + Copy, B: Read, I: Read, W: Write>(
     expand_by_book(alloc, book, input, out, settings, None)
 }
 
-/// As [`run_headed_compact`] the other way round: the header of compact keys with the fingerprint `from` comes first, and
-/// that of keys with the fingerprint `to` is written in its place.
+/// As [`run_headed_compact`] the other way round. The first line of `input` has to be the header of compact keys that were
+/// made by this book, of keys with the fingerprint `keys`. The header of these keys is written in its place.
 ///
 /// # Errors
 ///
-/// - `StoredKey` with line 1 and `Header`, as there.
+/// - `StoredKey` with line 1 and `Header`: the first line is another one, such as the header of compact keys by another
+///   book. Or there is no line. Nothing was written.
 /// - Those of [`run_expand`]. The header is line 1, and it was written if an error is about a later line.
 pub fn run_headed_expand<A: Allocator + Copy, B: Read, I: Read, W: Write>(
     alloc: A,
@@ -204,27 +232,14 @@ pub fn run_headed_expand<A: Allocator + Copy, B: Read, I: Read, W: Write>(
     out: &mut Sink<W>,
     weighting: Weighting,
     depth: Depth,
-    from: &[u8; 32],
-    to: &[u8; 32],
+    keys: &[u8; 32],
 ) -> Result<(), RunFault>
-    ensures { ExpandsHeaded weighting depth from.now to.now (book.old ∷ []) (book.new ∷ []) input.old input.new out.old out.new result }
+    ensures { ExpandsHeaded weighting depth keys.now (book.old ∷ []) (book.new ∷ []) input.old input.new out.old out.new result }
 {
     let settings = Settings {
         weighting,
         depth,
         numbers: Numbers::AsText,
     };
-    let old_header = KeyHeader::compact(settings, from);
-    let new_header = KeyHeader::new(settings, to);
-    expand_by_book(
-        alloc,
-        book,
-        input,
-        out,
-        settings,
-        Some(HeaderLines {
-            from: old_header,
-            to: new_header,
-        }),
-    )
+    expand_by_book(alloc, book, input, out, settings, Some(keys))
 }

@@ -58,6 +58,6 @@ FollowCause earlier r kinds.Range = MayFollow earlier r → ⊥
 FollowCause earlier r kinds.Limit = MayFollow earlier r × (256 ≤ length earlier)
 FollowCause earlier r _ = ⊥
 
--- the same of both: what follows `@implicitweights`, and its place after these ranges
+-- the first cause of this text after `@implicitweights`, after these ranges
 abbrev pub RangeCause : List ImplicitRange → List ℕ → FaultKind → Type 0
 RangeCause earlier text kind = RangeTextCause text kind ⊎ ((r : ImplicitRange) × IsRangeText text r × FollowCause earlier r kind)

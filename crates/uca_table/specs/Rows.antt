@@ -21,8 +21,8 @@ pub record IsRow (text : List ℕ) (row : Entry) : Type 0 where
   pub key : IsKey (up_to is_semicolon text) row.key
   pub elements : AreElements rest row.elements
 
--- The first cause in the text of a key is of this kind: there is no word; after at most 16 code points comes another
--- word; or there are more than 16.
+-- The first cause in the text of a key is of this kind. There is no word, or after at most 16 code points comes another
+-- word, or there are more than 16.
 abbrev pub KeyCause : List ℕ → FaultKind → Type 0
 KeyCause text kinds.Line = skip_blanks text ≡ []
 KeyCause text kinds.CodePoint = (front : List ℕ) × (rest : List ℕ) × Leads BeginsCodePoint text front rest × (rest ≢ []) × (code_point_of (word_of rest) ≡ None)
@@ -42,6 +42,6 @@ RowTextCause text kind = KeyCause (up_to is_semicolon text) kind
     ⊎ ((from_first is_semicolon text ≡ []) × (kind ≡ kinds.Line) × ((key : List ℕ) × IsKey (up_to is_semicolon text) key))
     ⊎ ((rest : List ℕ) × (from_first is_semicolon text ≡ 59 ∷ rest) × ElementsCause rest kind × ((key : List ℕ) × IsKey (up_to is_semicolon text) key))
 
--- the same of both: the text of a row, and its place after these rows
+-- the first cause of a row with this text after these rows
 abbrev pub RowCause : List Entry → List ℕ → FaultKind → Type 0
 RowCause rows text kind = RowTextCause text kind ⊎ ((row : Entry) × IsRow text row × AddCause rows row kind)

@@ -1,6 +1,6 @@
 -- What a comparison knows of code points. Only contracts of the parts of comparisons cite this file.
 use lib.Utf8.{encode}
-use Rattle.std.specs.Prelude.{◌≡◌, ◌≢◌, ◌<◌, ℕ, suc, List, [], ◌∷◌, true, if◌then◌else◌, ⊤}
+use Rattle.std.specs.Prelude.{◌≡◌, ◌≢◌, ◌<◌, ◌≤◌, ℕ, suc, List, [], ◌∷◌, length, true, if◌then◌else◌, ⊤}
 use Rattle.std.specs.List.{AllByRecursion}
 use Rattle.uca_weights.specs.declared.Element.{Element}
 use Rattle.uca_weights.specs.declared.Weighting.{Weighting}
@@ -60,6 +60,12 @@ AreFirstsFrom c weighting = AreFrom (IsTrueFirst c weighting)
 pub record AreTrueHeads (c : Collation) (heads : Heads) : Type 0 where
   pub points : AreHeadsFrom c heads.weighting 0 heads.items.items
   pub firsts : AreFirstsFrom c heads.weighting 0 heads.firsts.items
+
+-- there is a head of each code point that UTF-8 writes in one or two bytes, and of each byte, under this weighting
+pub record HasHeads (weighting : Weighting) (heads : Heads) : Type 0 where
+  pub under : heads.weighting ≡ weighting
+  pub points : 2048 ≤ length heads.items.items
+  pub firsts : 256 ≤ length heads.firsts.items
 
 -- all that a comparison knows is true of this collation
 pub record Knows {A : Type 0} (c : Collation) (comparison : TextComparison A) : Type 0 where

@@ -11,7 +11,7 @@ ghost use Rattle.uca_order.specs.Depths.{written_text, texts_compared};
 ghost use Rattle.uca_order.specs.Fetched.{fetched_left, fetched_right};
 ghost use Rattle.uca_plain.specs.PointCache.{AreTrueEntries};
 ghost use Rattle.uca_text_comparer.specs.Causes.{IsPairCause};
-ghost use Rattle.uca_text_comparer.specs.Heads.{Knows};
+ghost use Rattle.uca_text_comparer.specs.Heads.{HasHeads, Knows};
 ghost use Rattle.uca_text_comparer.specs.inside.Beginnings.{AreReadAsText};
 ghost use Rattle.uca_text_comparer.specs.inside.Pairs.{ComparesPair, IsPairStop};
 
@@ -115,7 +115,7 @@ impl<A: Allocator> TextComparison<A> {
         }
     }
 
-    /// Finds out about the 2,048 code points that UTF-8 writes in one or two bytes. So
+    /// Finds out about each of the 2,048 code points that UTF-8 writes in one or two bytes, and about each byte. So
     /// [`order_beginnings`](TextComparison::order_beginnings) takes less time after it, under this weighting. That is worth
     /// its time where many texts are compared. Without it [`order_at_once`](TextComparison::order_at_once) has no result. What
     /// it found out under another weighting is forgotten.
@@ -129,7 +129,8 @@ impl<A: Allocator> TextComparison<A> {
         weighting: Weighting,
     ) -> Result<(), AllocError>
         requires { Knows (collation_of L.content collator.now) self.old }
-        ensures { Knows (collation_of L.content collator.now) self.new }
+        ensures known { Knows (collation_of L.content collator.now) self.new }
+        ensures learned { OnOk result (HasHeads weighting self.new.heads) }
     {
         self.heads.fill(collator, &mut self.plain.points, weighting)
     }

@@ -1,12 +1,12 @@
 //! `Heads`: what is known at level 1 of the first code points, in one array, and of the bytes of UTF-8, in another.
 
-ghost use Rattle.std.specs.Prelude.{◌≡◌, ◌⊎◌, ◌∷◌, ◌+◌, ◌<◌, ◌≤◌, ℕ, chars, drop, length, IfSome};
+ghost use Rattle.std.specs.Prelude.{◌≡◌, ◌⊎◌, ◌∷◌, ◌+◌, ◌<◌, ◌≤◌, ℕ, chars, drop, length, IfSome, OnOk};
 ghost use Rattle.std.specs.Bool.{OnTrue};
 ghost use Rattle.std.specs.Str.{IsCharBoundary};
 ghost use Rattle.uca_elements.specs.Collations.{Collation, collation_of};
 ghost use Rattle.uca_plain.specs.PointCache.{IsTrueEntry, AreTrueEntries};
 ghost use Rattle.uca_plain.specs.Plain.{IsPlain};
-ghost use Rattle.uca_text_comparer.specs.Heads.{IsTrueHead, IsTrueFirst, AreFirstsFrom, AreHeadsFrom, AreTrueHeads};
+ghost use Rattle.uca_text_comparer.specs.Heads.{IsTrueHead, IsTrueFirst, AreFirstsFrom, AreHeadsFrom, AreTrueHeads, HasHeads};
 ghost use Rattle.uca_text_comparer.specs.inside.LevelOne.{HasNext, Decides};
 ghost use Rattle.uca_text_comparer.specs.inside.Shared.{BeginsPlain};
 
@@ -157,6 +157,7 @@ impl Heads {
         requires heads { AreTrueHeads (collation_of L.content collator.now) self.old }
         ensures entries { AreTrueEntries (collation_of L.content collator.now) points.new.entries.items }
         ensures heads { AreTrueHeads (collation_of L.content collator.now) self.new }
+        ensures learned { OnOk result (HasHeads weighting self.new) }
     {
         if self.weighting != weighting {
             self.items.clear();
@@ -175,7 +176,9 @@ impl Heads {
 
     // Finds out about all bytes, by the heads of the code points.
     fn fill_firsts(&mut self) -> Result<(), AllocError>
-        ensures { (c : Collation) → AreTrueHeads c self.old → AreTrueHeads c self.new }
+        ensures heads { (c : Collation) → AreTrueHeads c self.old → AreTrueHeads c self.new }
+        ensures same { (self.new.weighting ≡ self.old.weighting) × (self.new.items.items ≡ self.old.items.items) }
+        ensures learned { OnOk result (256 ≤ length self.new.firsts.items) }
     {
         while self.firsts.len() < BYTES {
             let head = self.first_of(self.firsts.len());

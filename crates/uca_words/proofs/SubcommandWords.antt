@@ -77,7 +77,7 @@ pub reads : (words : List Text) (met : Met) (o : Result Words WordFault) → Mee
 reads words met (Ok said) meet says = (meet.passes, subst (λ p. SayWords p said) (sym meet.is) says)
 reads words met (Err fault) meet says = tt
 
-pub names_none : (words : List Text) (met : Met) (o : Result Words WordFault) → Meets words met → IfErr o (IsValueFault (rows_met met))
+pub names_none : (words : List Text) (met : Met) (o : Result Words WordFault) → Meets words met → IfErr o (IsValueFault met.0.now (rows_met met))
     → IfErr o (IsFaultOf words)
 names_none words met (Ok said) meet other = tt
 names_none words met (Err fault) meet (inl other) = subst (IsFaultOf words) (sym other.0) (meet.passes, subst AskForOtherWeighting (sym meet.is) other.1)

@@ -75,23 +75,23 @@ changes_app = with_rule (with_editions (new_app (codes "changes"))) (word_rule (
 abbrev pub audit_changes_app : App
 audit_changes_app = with_rule (with_rule (with_editions (new_app (codes "audit-changes"))) (word_rule (codes "changes"))) (word_rule (codes "certificate"))
 
--- `[--weighting W] [--identical] [--from FINGERPRINT] [--to FINGERPRINT]` come next
-abbrev pub with_fingerprints : App → App
-with_fingerprints app = with_rule (with_rule (with_settings app) (value_rule (codes "from"))) (value_rule (codes "to"))
-
 -- `rekey [--weighting W] [--identical] [--from FINGERPRINT] [--to FINGERPRINT] CERTIFICATE`
 abbrev pub rekey_app : App
-rekey_app = with_rule (with_fingerprints (new_app (codes "rekey"))) (word_rule (codes "certificate"))
+rekey_app =
+    with_rule (with_rule (with_rule (with_settings (new_app (codes "rekey"))) (value_rule (codes "from"))) (value_rule (codes "to")))
+    (word_rule (codes "certificate"))
 
--- `[--weighting W] [--identical] [--from FINGERPRINT] [--to FINGERPRINT] BOOK` come next
-abbrev pub with_book : App → App
-with_book app = with_rule (with_fingerprints app) (word_rule (codes "book"))
+-- `[--weighting W] [--identical] [--ID FINGERPRINT] BOOK` come next
+abbrev pub with_book : Text → App → App
+with_book id app = with_rule (with_rule (with_settings app) (value_rule id)) (word_rule (codes "book"))
 
+-- `compact [--weighting W] [--identical] [--from FINGERPRINT] BOOK`
 abbrev pub compact_app : App
-compact_app = with_book (new_app (codes "compact"))
+compact_app = with_book (codes "from") (new_app (codes "compact"))
 
+-- `expand [--weighting W] [--identical] [--to FINGERPRINT] BOOK`
 abbrev pub expand_app : App
-expand_app = with_book (new_app (codes "expand"))
+expand_app = with_book (codes "to") (new_app (codes "expand"))
 
 -- `book CERTIFICATE BOOK`
 abbrev pub book_app : App

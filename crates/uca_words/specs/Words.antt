@@ -1,5 +1,5 @@
 -- What the arguments of a subcommand say.
-use Rattle.std.specs.Prelude.{◌≡◌, ◌≢◌, ◌⊎◌, ⊤, ℕ, true, false, List, [], Option, Some, None, codes, length, option_map}
+use Rattle.std.specs.Prelude.{◌≡◌, ◌≢◌, ◌⊎◌, ⊤, ℕ, true, false, List, [], Option, Some, None, IsSomeAnd, codes, length, option_map}
 use Rattle.hex.specs.Hex.{IsBytes, encode_lower}
 use Rattle.std.specs.Borrow.{Bor}
 use Rattle.clap.specs.declared.error.Error.{Error}
@@ -42,6 +42,10 @@ HasFingerprints rows None = (first_of (codes "from") rows ≡ None) × (first_of
 HasFingerprints rows (Some given) =
     (first_of (codes "from") rows ≡ Some (encode_lower given.from)) × (first_of (codes "to") rows ≡ Some (encode_lower given.to))
 
+-- the option of this name is given the digits of this fingerprint, or is not given
+abbrev pub HasFingerprint : List Row → Text → Option (List ℕ) → Type 0
+HasFingerprint rows id fingerprint = first_of id rows ≡ option_map encode_lower fingerprint
+
 -- the argument of this name is this one
 abbrev pub HasWord : List Row → Text → Bor Text → Type 0
 HasWord rows id word = first_of id rows ≡ Some word.now
@@ -59,10 +63,10 @@ HasEditions rows names =
     HasWord rows (codes "old") names.old × HasWord rows (codes "old-data") names.old_data
     × HasWord rows (codes "new") names.new × HasWord rows (codes "new-data") names.new_data
 
--- the weighting, the depth and the fingerprints that are given, and a book
-abbrev pub HasBook : List Row → BookWords → Type 0
-HasBook rows words =
-    HasWeighting rows words.weighting × HasDepth rows words.depth × HasFingerprints rows words.fingerprints × HasWord rows (codes "book") words.book
+-- the weighting and the depth that are given, the fingerprint of keys that the option of this name is given, and a book
+abbrev pub HasBook : List Row → Text → BookWords → Type 0
+HasBook rows id words =
+    HasWeighting rows words.weighting × HasDepth rows words.depth × HasFingerprint rows id words.keys × HasWord rows (codes "book") words.book
 
 -- the subcommand of this name, with these rows of its arguments, says these `Words`
 abbrev pub Says : Text → List Row → Words → Type 0
@@ -93,8 +97,8 @@ Says name rows (words.AuditChanges words) =
 Says name rows (words.Rekey words) =
     (name ≡ codes "rekey") × HasWeighting rows words.weighting × HasDepth rows words.depth × HasFingerprints rows words.fingerprints
     × HasWord rows (codes "certificate") words.certificate
-Says name rows (words.Compact words) = (name ≡ codes "compact") × HasBook rows words
-Says name rows (words.Expand words) = (name ≡ codes "expand") × HasBook rows words
+Says name rows (words.Compact words) = (name ≡ codes "compact") × HasBook rows (codes "from") words
+Says name rows (words.Expand words) = (name ≡ codes "expand") × HasBook rows (codes "to") words
 Says name rows (words.Book words) =
     (name ≡ codes "book") × HasWord rows (codes "certificate") words.certificate × HasWord rows (codes "book") words.book
 Says name rows (words.Fingerprint words) =
@@ -125,14 +129,20 @@ AreOtherFingerprints None (Some to) = ⊤
 AreOtherFingerprints (Some from) None = ⊤
 AreOtherFingerprints (Some from) (Some to) = IsNoFingerprint from ⊎ IsNoFingerprint to
 
--- `--from` and `--to` are given such values
-abbrev pub HasOtherFingerprints : List Row → Type 0
-HasOtherFingerprints rows = AreOtherFingerprints (first_of (codes "from") rows) (first_of (codes "to") rows)
+-- the option of this name is given a value, and it is no fingerprint
+abbrev pub HasOtherFingerprint : List Row → Text → Type 0
+HasOtherFingerprint rows id = IsSomeAnd (first_of id rows) IsNoFingerprint
+
+-- Such values are given to `rekey` by `--from` and `--to`, to `compact` by `--from`, or to `expand` by `--to`.
+abbrev pub HasOtherFingerprints : Text → List Row → Type 0
+HasOtherFingerprints name rows =
+    ((name ≡ codes "rekey") × AreOtherFingerprints (first_of (codes "from") rows) (first_of (codes "to") rows))
+    ⊎ (((name ≡ codes "compact") × HasOtherFingerprint rows (codes "from")) ⊎ ((name ≡ codes "expand") × HasOtherFingerprint rows (codes "to")))
 
 -- so it is of the subcommand that was met
 abbrev pub AskForOtherFingerprints : Option (Text × List Row) → Type 0
 AskForOtherFingerprints None = ⊥
-AskForOtherFingerprints (Some met) = HasOtherFingerprints met.1
+AskForOtherFingerprints (Some met) = HasOtherFingerprints met.0 met.1
 
 abbrev pub AskForOtherWeighting : Option (Text × List Row) → Type 0
 AskForOtherWeighting None = ⊥
@@ -143,7 +153,7 @@ abbrev pub AreRead : List Text → Words → Type 0
 AreRead words said = (fault_of uca_app words ≡ []) × SayWords (subcommand_of uca_app words) said
 
 -- What an error says of the arguments. The command has this kind of error at them, and does not take
--- them. Or it has none, and they give a weighting with no known name, or what is no two fingerprints. Or an allocation failed.
+-- them. Or it has none, and they give a weighting with no known name, or what is no fingerprint. Or an allocation failed.
 abbrev pub IsFaultOf : List Text → WordFault → Type 0
 IsFaultOf words (Refused error) = IsAmong (kind_of error) (fault_of uca_app words) × (takes uca_app words ≢ true)
 IsFaultOf words Weighting = (fault_of uca_app words ≡ []) × AskForOtherWeighting (subcommand_of uca_app words)

@@ -8,18 +8,19 @@
 //! - `Refused` has an error of a kind that the specification gives for the arguments. It is never returned for arguments
 //!   that the command accepts.
 //! - `Weighting` is returned only for arguments that the command accepts and whose weighting has no known name. `Fingerprint` is
-//!   returned only for arguments that it accepts and whose values of `--from` and `--to` are not two fingerprints.
+//!   returned only for arguments that it accepts and whose `--from` or `--to` is no fingerprint, or for `rekey` with one
+//!   of the two.
 //! - No contract says when an allocation fails, or what the text of an error is. Tests compare the whole texts.
 #![tactic(auto)]
 
-ghost use Rattle.std.specs.Prelude.{◌≡◌, ◌⊎◌, Some, IfOk, IfErr, IfSome, IfNone, MatchOption, true, is_some, codes, option_map};
+ghost use Rattle.std.specs.Prelude.{◌≡◌, ◌⊎◌, Some, IfOk, IfErr, IfSome, IfNone, MatchOption, MatchResult, true, is_some, codes, option_map};
 ghost use Rattle.hex.specs.Hex.{encode_lower};
-ghost use Rattle.clap.specs.Words.{found_of, rows_of, first_of};
+ghost use Rattle.clap.specs.Words.{found_of, rows_of, first_of, Text};
 ghost use Rattle.clap.specs.Takes.{is_given};
 ghost use Rattle.clap.specs.Walk.{texts};
 ghost use Rattle.uca_words.specs.Command.{check_app, keys_app, sort_app, compare_app, tailor_app, audit_app, affected_app, changes_app, audit_changes_app, rekey_app, compact_app, expand_app, book_app, fingerprint_app};
 ghost use Rattle.uca_words.specs.inside.Met.{has_words, is_met, IsFingerprintFault, IsValueFault, IsWeightingFault};
-ghost use Rattle.uca_words.specs.Words.{HasBook, HasEditions, HasFiles, HasFingerprints, HasWord, HasWeighting, HasDepth, HasNumbers, IsNoFingerprint, Says, AreRead, IsFaultOf};
+ghost use Rattle.uca_words.specs.Words.{AreOtherFingerprints, HasBook, HasEditions, HasFiles, HasFingerprint, HasFingerprints, HasOtherFingerprint, HasOtherFingerprints, HasWord, HasWeighting, HasDepth, HasNumbers, IsNoFingerprint, Says, AreRead, IsFaultOf};
 
 mod builders;
 mod subcommands;
@@ -59,11 +60,11 @@ pub enum Words<'a> {
     /// `rekey [--weighting W] [--identical] [--from FINGERPRINT] [--to FINGERPRINT] CERTIFICATE`: put the key of each line of
     /// standard input through the maps of a certificate.
     Rekey(RekeyWords<'a>),
-    /// `compact [--weighting W] [--identical] [--from FINGERPRINT] [--to FINGERPRINT] BOOK`: put compact keys in place of the
-    /// keys of standard input.
+    /// `compact [--weighting W] [--identical] [--from FINGERPRINT] BOOK`: put compact keys in place of the keys of standard
+    /// input.
     Compact(BookWords<'a>),
-    /// `expand [--weighting W] [--identical] [--from FINGERPRINT] [--to FINGERPRINT] BOOK`: put keys in place of the compact
-    /// keys of standard input.
+    /// `expand [--weighting W] [--identical] [--to FINGERPRINT] BOOK`: put keys in place of the compact keys of standard
+    /// input.
     Expand(BookWords<'a>),
     /// `book CERTIFICATE BOOK`: print the image of a book under the map of level 1 of a certificate.
     Book(BookImageWords<'a>),
@@ -239,8 +240,8 @@ pub struct BookWords<'a> {
     pub weighting: Option<Weighting>,
     /// The depth that made the keys: `Identical` if `--identical` is given.
     pub depth: Depth,
-    /// The fingerprints of the old header and of the new one: `--from` and `--to` are given.
-    pub fingerprints: Option<Fingerprints>,
+    /// The fingerprint of the whole keys, as bytes: `--from` of `compact` is given, or `--to` of `expand`.
+    pub keys: Option<[u8; 32]>,
     /// The name of the file of the book.
     pub book: &'a str,
 }
@@ -280,7 +281,7 @@ pub enum WordFault {
     /// The value of `--weighting` is neither `non-ignorable` nor `shifted`.
     #[error("weighting: unknown")]
     Weighting,
-    /// A value of `--from` or `--to` is no fingerprint, or only one of the two is given.
+    /// A value of `--from` or `--to` is no fingerprint, or `rekey` is given only one of the two.
     #[error("fingerprint: unknown")]
     Fingerprint,
     /// An allocation failed.
@@ -342,10 +343,24 @@ fn given_weighting(found: &ArgMatches) -> Result<Option<Weighting>, WordFault>
     }
 }
 
-// The fingerprints that are given.
+// The fingerprint that is given by an option.
+fn given_fingerprint(found: &ArgMatches, id: &str) -> Result<Option<[u8; 32]>, WordFault>
+    ensures ok { IfOk result (HasFingerprint (rows_of (found_of found.now)) id.now) }
+    ensures err { IfErr result (IsFingerprintFault (HasOtherFingerprint (rows_of (found_of found.now)) id.now)) }
+{
+    let Some(digits) = value_of(found, id) else {
+        return Ok(None);
+    };
+    match fingerprint_of_digits(digits) {
+        Some(fingerprint) => Ok(Some(fingerprint)),
+        None => Err(WordFault::Fingerprint),
+    }
+}
+
+// The fingerprints that `rekey` is given: both or none.
 fn given_fingerprints(found: &ArgMatches) -> Result<Option<Fingerprints>, WordFault>
     ensures ok { IfOk result (HasFingerprints (rows_of (found_of found.now))) }
-    ensures err { IfErr result (IsFingerprintFault (rows_of (found_of found.now))) }
+    ensures err { IfErr result (IsFingerprintFault (AreOtherFingerprints (first_of (codes "from") (rows_of (found_of found.now))) (first_of (codes "to") (rows_of (found_of found.now))))) }
 {
     let Some(from) = value_of(found, "from") else {
         return match value_of(found, "to") {
@@ -547,34 +562,36 @@ fn audit_changes_words<'a>(found: &ArgMatches<'a>) -> Words<'a>
 fn rekey_words<'a>(
     found: &ArgMatches<'a>,
     weighting: Option<Weighting>,
-    fingerprints: Option<Fingerprints>,
-) -> Words<'a>
+) -> Result<Words<'a>, WordFault>
     requires { has_words rekey_app (rows_of (found_of found.now)) ≡ true }
-    ensures { HasWeighting (rows_of (found_of found.now)) weighting → HasFingerprints (rows_of (found_of found.now)) fingerprints →
-        Says (codes "rekey") (rows_of (found_of found.now)) result }
+    ensures { HasWeighting (rows_of (found_of found.now)) weighting →
+        MatchResult result (Says (codes "rekey") (rows_of (found_of found.now))) (IsFingerprintFault (HasOtherFingerprints (codes "rekey") (rows_of (found_of found.now)))) }
 {
-    Words::Rekey(RekeyWords {
-        weighting,
-        depth: given_depth(found),
-        fingerprints,
-        certificate: word_of(found, "certificate"),
-    })
+    match given_fingerprints(found) {
+        Ok(fingerprints) => Ok(Words::Rekey(RekeyWords {
+            weighting,
+            depth: given_depth(found),
+            fingerprints,
+            certificate: word_of(found, "certificate"),
+        })),
+        Err(fault) => Err(fault),
+    }
 }
 
-// The arguments of a subcommand over a book.
+// The arguments of a subcommand over a book, with the fingerprint of keys that an option gives.
 fn book_words<'a>(
     found: &ArgMatches<'a>,
     weighting: Option<Weighting>,
-    fingerprints: Option<Fingerprints>,
+    keys: Option<[u8; 32]>,
 ) -> BookWords<'a>
     requires { has_words compact_app (rows_of (found_of found.now)) ≡ true }
-    ensures { HasWeighting (rows_of (found_of found.now)) weighting → HasFingerprints (rows_of (found_of found.now)) fingerprints →
-        HasBook (rows_of (found_of found.now)) result }
+    ensures { (id : Text) → HasWeighting (rows_of (found_of found.now)) weighting → HasFingerprint (rows_of (found_of found.now)) id keys →
+        HasBook (rows_of (found_of found.now)) id result }
 {
     BookWords {
         weighting,
         depth: given_depth(found),
-        fingerprints,
+        keys,
         book: word_of(found, "book"),
     }
 }
@@ -582,25 +599,29 @@ fn book_words<'a>(
 fn compact_words<'a>(
     found: &ArgMatches<'a>,
     weighting: Option<Weighting>,
-    fingerprints: Option<Fingerprints>,
-) -> Words<'a>
+) -> Result<Words<'a>, WordFault>
     requires { has_words compact_app (rows_of (found_of found.now)) ≡ true }
-    ensures { HasWeighting (rows_of (found_of found.now)) weighting → HasFingerprints (rows_of (found_of found.now)) fingerprints →
-        Says (codes "compact") (rows_of (found_of found.now)) result }
+    ensures { HasWeighting (rows_of (found_of found.now)) weighting →
+        MatchResult result (Says (codes "compact") (rows_of (found_of found.now))) (IsFingerprintFault (HasOtherFingerprints (codes "compact") (rows_of (found_of found.now)))) }
 {
-    Words::Compact(book_words(found, weighting, fingerprints))
+    match given_fingerprint(found, "from") {
+        Ok(keys) => Ok(Words::Compact(book_words(found, weighting, keys))),
+        Err(fault) => Err(fault),
+    }
 }
 
 fn expand_words<'a>(
     found: &ArgMatches<'a>,
     weighting: Option<Weighting>,
-    fingerprints: Option<Fingerprints>,
-) -> Words<'a>
+) -> Result<Words<'a>, WordFault>
     requires { has_words expand_app (rows_of (found_of found.now)) ≡ true }
-    ensures { HasWeighting (rows_of (found_of found.now)) weighting → HasFingerprints (rows_of (found_of found.now)) fingerprints →
-        Says (codes "expand") (rows_of (found_of found.now)) result }
+    ensures { HasWeighting (rows_of (found_of found.now)) weighting →
+        MatchResult result (Says (codes "expand") (rows_of (found_of found.now))) (IsFingerprintFault (HasOtherFingerprints (codes "expand") (rows_of (found_of found.now)))) }
 {
-    Words::Expand(book_words(found, weighting, fingerprints))
+    match given_fingerprint(found, "to") {
+        Ok(keys) => Ok(Words::Expand(book_words(found, weighting, keys))),
+        Err(fault) => Err(fault),
+    }
 }
 
 fn book_image_words<'a>(found: &ArgMatches<'a>) -> Words<'a>
@@ -628,47 +649,43 @@ fn fingerprint_words<'a>(found: &ArgMatches<'a>, weighting: Option<Weighting>) -
     })
 }
 
-// The arguments of the subcommand of this name, with the weighting and the fingerprints that are given.
+// The arguments of the subcommand of this name, with the weighting that is given. Or the error of a fingerprint.
 fn subcommand_words<'a>(
     name: &str,
     found: &ArgMatches<'a>,
     weighting: Option<Weighting>,
-    fingerprints: Option<Fingerprints>,
-) -> Words<'a>
+) -> Result<Words<'a>, WordFault>
     requires { is_met name.now (rows_of (found_of found.now)) ≡ true }
-    ensures { HasWeighting (rows_of (found_of found.now)) weighting → HasFingerprints (rows_of (found_of found.now)) fingerprints →
-        Says name.now (rows_of (found_of found.now)) result }
+    ensures { HasWeighting (rows_of (found_of found.now)) weighting →
+        MatchResult result (Says name.now (rows_of (found_of found.now))) (IsFingerprintFault (HasOtherFingerprints name.now (rows_of (found_of found.now)))) }
 {
     match name {
-        "check" => check_words(found),
-        "keys" => keys_words(found, weighting),
-        "sort" => sort_words(found, weighting),
-        "compare" => compare_words(found, weighting),
-        "tailor" => tailor_words(found),
-        "audit" => audit_words(found),
-        "affected" => affected_words(found),
-        "changes" => changes_words(found),
-        "audit-changes" => audit_changes_words(found),
-        "rekey" => rekey_words(found, weighting, fingerprints),
-        "compact" => compact_words(found, weighting, fingerprints),
-        "expand" => expand_words(found, weighting, fingerprints),
-        "book" => book_image_words(found),
-        "fingerprint" => fingerprint_words(found, weighting),
+        "check" => Ok(check_words(found)),
+        "keys" => Ok(keys_words(found, weighting)),
+        "sort" => Ok(sort_words(found, weighting)),
+        "compare" => Ok(compare_words(found, weighting)),
+        "tailor" => Ok(tailor_words(found)),
+        "audit" => Ok(audit_words(found)),
+        "affected" => Ok(affected_words(found)),
+        "changes" => Ok(changes_words(found)),
+        "audit-changes" => Ok(audit_changes_words(found)),
+        "rekey" => rekey_words(found, weighting),
+        "compact" => compact_words(found, weighting),
+        "expand" => expand_words(found, weighting),
+        "book" => Ok(book_image_words(found)),
+        "fingerprint" => Ok(fingerprint_words(found, weighting)),
         _ => unreachable!(),
     }
 }
 
-// As `subcommand_words`, or the error of a value. The weighting and the fingerprints are none where no option gives them.
+// As `subcommand_words`, or the error of a value. The weighting is none where no option gives it.
 fn words_of<'a>(name: &str, found: &ArgMatches<'a>) -> Result<Words<'a>, WordFault>
     requires { is_met name.now (rows_of (found_of found.now)) ≡ true }
     ensures ok { IfOk result (Says name.now (rows_of (found_of found.now))) }
-    ensures err { IfErr result (IsValueFault (rows_of (found_of found.now))) }
+    ensures err { IfErr result (IsValueFault name.now (rows_of (found_of found.now))) }
 {
     match given_weighting(found) {
-        Ok(weighting) => match given_fingerprints(found) {
-            Ok(fingerprints) => Ok(subcommand_words(name, found, weighting, fingerprints)),
-            Err(fault) => Err(fault),
-        },
+        Ok(weighting) => subcommand_words(name, found, weighting),
         Err(fault) => Err(fault),
     }
 }
@@ -680,7 +697,8 @@ fn words_of<'a>(name: &str, found: &ArgMatches<'a>) -> Result<Words<'a>, WordFau
 ///
 /// - `Refused`: `clap` rejects the arguments, or help or the version is asked for. It has the error of `clap`.
 /// - `Weighting`: `clap` accepts the arguments, and the value of `--weighting` is not known.
-/// - `Fingerprint`: `clap` accepts the arguments, and the values of `--from` and `--to` are not two fingerprints.
+/// - `Fingerprint`: `clap` accepts the arguments, and the value of `--from` or `--to` is no fingerprint, or `rekey` has
+///   only one of the two.
 /// - `Memory`: an allocation failed.
 pub fn read_words<'a>(alloc: Global, words: &'a [&'a str]) -> Result<Words<'a>, WordFault>
     ensures ok { IfOk result (AreRead (texts words.entry.now)) }

@@ -99,12 +99,6 @@ const TO: Argument<'static> = Argument::Value {
     help: "Print a header with this fingerprint, that of the new table and data file",
 };
 
-const TO_COMPACT: Argument<'static> = Argument::Value {
-    id: "to",
-    name: "FINGERPRINT",
-    help: "Print a header of compact keys with this fingerprint",
-};
-
 const TO_KEYS: Argument<'static> = Argument::Value {
     id: "to",
     name: "FINGERPRINT",
@@ -375,12 +369,12 @@ const COMPACT_COMMAND: Subcommand<'static> = Subcommand {
            compact key by BOOK, without blanks. The rest of the line stays. Compact keys are in the order of the\n\
            keys, and `uca expand` makes the keys again. `--weighting` and `--identical` have to be those that made\n\
            the keys. Any book keeps the order, and a good one makes short keys. Keep it with the keys: compact keys\n\
-           of two books do not mix. `--from` and `--to` belong together: the input then begins with a header of\n\
-           keys of that weighting, depth and fingerprint, and the output with one of compact keys, with the other\n\
-           fingerprint, as `uca fingerprint --compact BOOK` prints it.",
+           of two books do not mix. With `--from` the input begins with a header of keys of that weighting, depth\n\
+           and fingerprint, and the output with one of compact keys. Its fingerprint is made of that one and BOOK,\n\
+           as `uca fingerprint --compact BOOK` prints it.",
     usage: Some("uca compact [OPTIONS] <BOOK> < LINES"),
     example: "Example: uca compact my.book < keyed.tsv > compact.tsv",
-    arguments: &[MADE_WEIGHTING, MADE_IDENTICAL, FROM, TO_COMPACT, BOOK],
+    arguments: &[MADE_WEIGHTING, MADE_IDENTICAL, FROM, BOOK],
 };
 
 const EXPAND_COMMAND: Subcommand<'static> = Subcommand {
@@ -388,11 +382,11 @@ const EXPAND_COMMAND: Subcommand<'static> = Subcommand {
     line: "Make the keys of the compact keys on standard input",
     text: "Reads lines as `uca compact` prints them. In place of the compact key of each it prints the key, without\n\
            blanks. The rest of the line stays. `--weighting`, `--identical` and BOOK have to be those that made the\n\
-           compact keys. `--from` and `--to` belong together: the input then begins with a header of compact keys\n\
-           of that weighting, depth and fingerprint, and the output with one of keys, with the other fingerprint.",
+           compact keys. With `--to` the output begins with a header of keys of that weighting, depth and\n\
+           fingerprint, and the input with that of their compact keys by BOOK.",
     usage: Some("uca expand [OPTIONS] <BOOK> < LINES"),
     example: "Example: uca expand my.book < compact.tsv > keyed.tsv",
-    arguments: &[MADE_WEIGHTING, MADE_IDENTICAL, FROM, TO_KEYS, BOOK],
+    arguments: &[MADE_WEIGHTING, MADE_IDENTICAL, TO_KEYS, BOOK],
 };
 
 const BOOK_COMMAND: Subcommand<'static> = Subcommand {

@@ -1,7 +1,10 @@
 -- A run that changes the keys of lines, after some of its lines.
 use Rattle.std.specs.Prelude.{◌≡◌, ℕ, Bool, MatchBool, List, [], ◌∷◌, ◌++◌, false, length, Option, option_map, Result, Ok, Err, IfSome, ⊤}
+use Rattle.std.specs.Borrow.{Bor}
 use Rattle.std.specs.List.{flat_map}
+use Rattle.uca_weights.specs.declared.Settings.{Settings}
 use Rattle.uca_weights.specs.Streams.{SourceState, SinkState}
+use Rattle.uca_books.specs.Books.{BookContent}
 use Rattle.uca_lines.specs.Lines.{ended, lines_of}
 use Rattle.uca_lines.specs.OutputBuffer.{BufferState, IsBuffered}
 use Rattle.uca_run_parts.specs.declared.faults.RunFault.{RunFault}
@@ -12,7 +15,7 @@ use Rattle.uca_run_parts.specs.Runs.{PartWentOut}
 use Rattle.uca_rekey.specs.declared.change_run.HeaderLines.{HeaderLines}
 use Rattle.uca_rekey.specs.RekeyRun.{IsLineFault}
 use Rattle.uca_rekey.specs.ChangedLines.{Headers, LineBecomes, LinesBecomeAfter}
-use Rattle.uca_rekey.specs.ChangeRun.{IsChangeCause}
+use Rattle.uca_rekey.specs.ChangeRun.{IsChangeCause, to_compact}
 use Rattle.uca_rekey.specs.inside.LinesInPlace.{LinesState, HasRead}
 use Rattle.uca_rekey.specs.inside.RekeySoFar.{WrittenState}
 
@@ -29,6 +32,10 @@ header_pair old new = record { old = old; new = new }
 -- the headers of a run, if it has some
 abbrev pub headers_of : Option HeaderLines → Option Headers
 headers_of lines = option_map (λ (h : HeaderLines). record { old = h.from; new = h.to }) lines
+
+-- the headers of a run that makes compact keys by a book, if there is a fingerprint of keys
+abbrev pub headers_by : Settings → Option (Bor (List ℕ)) → BookContent → Option Headers
+headers_by settings keys book = option_map (λ (k : Bor (List ℕ)). to_compact settings k.now book) keys
 
 -- nothing was read and nothing written
 pub record IsBegun (lines : LinesState) (written : WrittenState) : Type 0 where

@@ -1,9 +1,10 @@
 -- The subcommand that was met is one of those that the function knows, and has the arguments that it requires.
-use Rattle.std.proofs.Common.{◌≡◌, ◌||◌, Bool, List, true, false, refl, subst, sym, true≢false}
+use Rattle.std.proofs.Common.{◌≡◌, ◌||◌, Bool, List, MatchResult, Result, true, false, refl, subst, sym, true≢false}
 use Rattle.clap.specs.Words.{Row, Text, found_of, rows_of}
 use Rattle.uca_words.specs.Command.{check_app, keys_app, sort_app, compare_app, tailor_app, audit_app, affected_app, changes_app, audit_changes_app, rekey_app, compact_app, expand_app, book_app, fingerprint_app}
-use Rattle.uca_words.specs.inside.Met.{is_met}
-use Rattle.uca_words.specs.Words.{Says}
+use Rattle.uca_words.specs.inside.Met.{IsFingerprintFault, is_met}
+use Rattle.uca_words.specs.Words.{HasOtherFingerprints, Says}
+use Rattle.uca_words.specs.declared.WordFault.{WordFault}
 use Rattle.uca_words.specs.declared.Words.{Words}
 use Rattle.uca_words.proofs.SubcommandWords.{is_of_rest}
 use Rattle.uca_words.proofs.subcommand_words.Goals as goal
@@ -19,6 +20,13 @@ by_name false met = met
 -- the arguments that a subcommand says are those of its name
 of_name : (name known : Text) (rows : List Row) (words : Words) → name ≡ known → Says known rows words → Says name rows words
 of_name name known rows words is says = subst (λ (n : Text). Says n rows words) (sym is) says
+
+-- or the error is one of that name
+of_name_or : (name known : Text) (rows : List Row) (said : Result Words WordFault) → name ≡ known
+    → MatchResult said (Says known rows) (IsFingerprintFault (HasOtherFingerprints known rows))
+    → MatchResult said (Says name rows) (IsFingerprintFault (HasOtherFingerprints name rows))
+of_name_or name known rows said is says =
+    subst (λ (n : Text). MatchResult said (Says n rows) (IsFingerprintFault (HasOtherFingerprints n rows))) (sym is) says
 
 pub unreachable-requires : goal.unreachable-requires
 unreachable-requires c =
@@ -82,43 +90,43 @@ pub fingerprint_words-requires : goal.fingerprint_words-requires
 fingerprint_words-requires c = by_name _ (subst (IsMet (rows_of (found_of c.args.found.now))) c.in-fingerprint.is c.requires)
 
 pub returns-in-check : goal.returns-in-check
-returns-in-check c weighs prints = of_name _ _ (rows_of (found_of c.args.found.now)) _ c.in-check.is c.check_words.ensures
+returns-in-check c weighs = of_name _ _ (rows_of (found_of c.args.found.now)) _ c.in-check.is c.check_words.ensures
 
 pub returns-in-keys : goal.returns-in-keys
-returns-in-keys c weighs prints = of_name _ _ (rows_of (found_of c.args.found.now)) _ c.in-keys.is (c.keys_words.ensures weighs)
+returns-in-keys c weighs = of_name _ _ (rows_of (found_of c.args.found.now)) _ c.in-keys.is (c.keys_words.ensures weighs)
 
 pub returns-in-sort : goal.returns-in-sort
-returns-in-sort c weighs prints = of_name _ _ (rows_of (found_of c.args.found.now)) _ c.in-sort.is (c.sort_words.ensures weighs)
+returns-in-sort c weighs = of_name _ _ (rows_of (found_of c.args.found.now)) _ c.in-sort.is (c.sort_words.ensures weighs)
 
 pub returns-in-compare : goal.returns-in-compare
-returns-in-compare c weighs prints = of_name _ _ (rows_of (found_of c.args.found.now)) _ c.in-compare.is (c.compare_words.ensures weighs)
+returns-in-compare c weighs = of_name _ _ (rows_of (found_of c.args.found.now)) _ c.in-compare.is (c.compare_words.ensures weighs)
 
 pub returns-in-tailor : goal.returns-in-tailor
-returns-in-tailor c weighs prints = of_name _ _ (rows_of (found_of c.args.found.now)) _ c.in-tailor.is c.tailor_words.ensures
+returns-in-tailor c weighs = of_name _ _ (rows_of (found_of c.args.found.now)) _ c.in-tailor.is c.tailor_words.ensures
 
 pub returns-in-audit : goal.returns-in-audit
-returns-in-audit c weighs prints = of_name _ _ (rows_of (found_of c.args.found.now)) _ c.in-audit.is c.audit_words.ensures
+returns-in-audit c weighs = of_name _ _ (rows_of (found_of c.args.found.now)) _ c.in-audit.is c.audit_words.ensures
 
 pub returns-in-affected : goal.returns-in-affected
-returns-in-affected c weighs prints = of_name _ _ (rows_of (found_of c.args.found.now)) _ c.in-affected.is c.affected_words.ensures
+returns-in-affected c weighs = of_name _ _ (rows_of (found_of c.args.found.now)) _ c.in-affected.is c.affected_words.ensures
 
 pub returns-in-changes : goal.returns-in-changes
-returns-in-changes c weighs prints = of_name _ _ (rows_of (found_of c.args.found.now)) _ c.in-changes.is c.changes_words.ensures
+returns-in-changes c weighs = of_name _ _ (rows_of (found_of c.args.found.now)) _ c.in-changes.is c.changes_words.ensures
 
 pub returns-in-text : goal.returns-in-text
-returns-in-text c weighs prints = of_name _ _ (rows_of (found_of c.args.found.now)) _ c.in-text.is c.audit_changes_words.ensures
+returns-in-text c weighs = of_name _ _ (rows_of (found_of c.args.found.now)) _ c.in-text.is c.audit_changes_words.ensures
 
 pub returns-in-rekey : goal.returns-in-rekey
-returns-in-rekey c weighs prints = of_name _ _ (rows_of (found_of c.args.found.now)) _ c.in-rekey.is (c.rekey_words.ensures weighs prints)
+returns-in-rekey c weighs = of_name_or _ _ (rows_of (found_of c.args.found.now)) _ c.in-rekey.is (c.rekey_words.ensures weighs)
 
 pub returns-in-compact : goal.returns-in-compact
-returns-in-compact c weighs prints = of_name _ _ (rows_of (found_of c.args.found.now)) _ c.in-compact.is (c.compact_words.ensures weighs prints)
+returns-in-compact c weighs = of_name_or _ _ (rows_of (found_of c.args.found.now)) _ c.in-compact.is (c.compact_words.ensures weighs)
 
 pub returns-in-expand : goal.returns-in-expand
-returns-in-expand c weighs prints = of_name _ _ (rows_of (found_of c.args.found.now)) _ c.in-expand.is (c.expand_words.ensures weighs prints)
+returns-in-expand c weighs = of_name_or _ _ (rows_of (found_of c.args.found.now)) _ c.in-expand.is (c.expand_words.ensures weighs)
 
 pub returns-in-book : goal.returns-in-book
-returns-in-book c weighs prints = of_name _ _ (rows_of (found_of c.args.found.now)) _ c.in-book.is c.book_image_words.ensures
+returns-in-book c weighs = of_name _ _ (rows_of (found_of c.args.found.now)) _ c.in-book.is c.book_image_words.ensures
 
 pub returns-in-fingerprint : goal.returns-in-fingerprint
-returns-in-fingerprint c weighs prints = of_name _ _ (rows_of (found_of c.args.found.now)) _ c.in-fingerprint.is (c.fingerprint_words.ensures weighs)
+returns-in-fingerprint c weighs = of_name _ _ (rows_of (found_of c.args.found.now)) _ c.in-fingerprint.is (c.fingerprint_words.ensures weighs)

@@ -20,10 +20,10 @@ is_met name rows = list_any (λ app. bytes_eq app.top.name name && has_words app
 abbrev pub IsWeightingFault : List Row → WordFault → Type 0
 IsWeightingFault rows fault = (fault ≡ Weighting) × HasOtherWeighting rows
 
--- the error is that the fingerprints that are given are no two fingerprints
-abbrev pub IsFingerprintFault : List Row → WordFault → Type 0
-IsFingerprintFault rows fault = (fault ≡ Fingerprint) × HasOtherFingerprints rows
+-- the error is that of fingerprints, which is why
+abbrev pub IsFingerprintFault : Type 0 → WordFault → Type 0
+IsFingerprintFault HasOther fault = (fault ≡ Fingerprint) × HasOther
 
--- either of them
-abbrev pub IsValueFault : List Row → WordFault → Type 0
-IsValueFault rows fault = IsWeightingFault rows fault ⊎ IsFingerprintFault rows fault
+-- either of them, for the subcommand of this name
+abbrev pub IsValueFault : Text → List Row → WordFault → Type 0
+IsValueFault name rows fault = IsWeightingFault rows fault ⊎ IsFingerprintFault (HasOtherFingerprints name rows) fault

@@ -17,4 +17,6 @@ loop-self-preserved c = record {
             (heads_on (IsTrueFirst collation weighting) 0 firsts head all.firsts
             (subst (λ n. IsTrueFirst collation weighting n head) here (c.first_of-head.ensures collation all.points)));
       };
+  weighting = c.loop-self.invariant.weighting;
+  items = c.loop-self.invariant.items;
 }
