@@ -9,9 +9,9 @@ pub fn numbers_order_texts()
     ensures { NumbersOrderTexts }
 {}
 
-/// A number stands between what has less weight than the digit 0 and what has more than the digit 9: `7` comes after `-`
-/// and before `a`, and after the end of the text. Level 1 decides so, whatever digits the number has, and the bytes of keys
-/// agree. The table has to order numbers.
+/// Numbers stand together among other texts. Each comes after what ends in its place or has less weight than the digit 0,
+/// and before what has more weight than the digit 9: `7` comes after `-` and before `a`. Level 1 decides so, and the bytes of
+/// keys agree. The table has to order numbers.
 pub fn numbers_stand_together()
     ensures { NumbersStandTogether }
 {}

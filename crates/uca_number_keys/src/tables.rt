@@ -30,8 +30,8 @@ pub struct UnorderedDigits {
 ///
 /// # Errors
 ///
-/// If one of these is not so, the row to blame: of a key that has a digit and is not this digit alone, or else of the
-/// first digit that has a combining class, or no primary weight above that of the digit before.
+/// If one of these is not so, the row to blame. It is the first one whose key has a digit and is not this digit alone. Else
+/// it is that of the least digit that has a combining class, or no primary weight above that of the digit before.
 pub fn check_numbers<A: Allocator, B: Allocator>(
     table: &PackedTable<A>,
     properties: &Data<B>,
