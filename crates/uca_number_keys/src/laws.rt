@@ -9,9 +9,9 @@ pub fn numbers_order_texts()
     ensures { NumbersOrderTexts }
 {}
 
-/// Numbers stand together among other texts. Each comes after what ends in its place or has less weight than the digit 0,
-/// and before what has more weight than the digit 9: `7` comes after `-` and before `a`. Level 1 decides so, and the bytes of
-/// keys agree. The table has to order numbers.
+/// Numbers stand together among other texts: `7` comes after `-` and before `a`. Each comes after what ends in its place, or
+/// goes on with less weight than the digit 0. It comes before what goes on with more weight than the digit 9. Level 1 decides
+/// so, and the bytes of keys agree. The table has to order numbers.
 pub fn numbers_stand_together()
     ensures { NumbersStandTogether }
 {}
