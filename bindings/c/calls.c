@@ -452,20 +452,6 @@ static const char DIGITS[] = "@version 1\n"
                              "0062 ; [.1C60.0020.0002]\n"
                              "0301 ; [.0000.0024.0002]\n";
 
-/* With numbers by value the table has to order them. TABLE has no digits, and here 1 is in another key, in row 14. */
-static void check_unordered_digits(void)
-{
-    uca_collator it = UCA_CLOSED_COLLATOR;
-    uca_error error = {7, 7};
-    char table[1024];
-    strcat(strcpy(table, DIGITS), "0031 0301 ; [.1C50.0020.0002]\n");
-    CHECK(opened(&it, TABLE, DATA, UCA_SHIFTED, UCA_NUMERIC, &error) == UCA_DIGITS && error.line == 0 && error.kind == 0 && !it.is_open);
-    CHECK(opened(&it, table, DATA, UCA_SHIFTED, UCA_IDENTICAL | UCA_NUMERIC, &error) == UCA_DIGITS && error.line == 14 && error.kind == 0 && !it.is_open);
-    CHECK(opened_compact(&it, table, DATA, BOOK, UCA_SHIFTED, UCA_NUMERIC, &error) == UCA_DIGITS && error.line == 14 && error.kind == 0 && !it.is_open);
-    CHECK(opened(&it, table, DATA, UCA_SHIFTED, UCA_WEIGHTS, &error) == UCA_OK);
-    uca_close(&it);
-}
-
 static void check_digits_as_text(void)
 {
     uca_collator it = UCA_CLOSED_COLLATOR;
@@ -915,6 +901,20 @@ static void check_key_beginnings(void)
     CHECK(opened_compact(&it, TABLE, DATA, BOOK, UCA_NON_IGNORABLE, UCA_WEIGHTS, &error) == UCA_OK);
     CHECK(BEGINS(&it, "ab", 2, "\x08\x0A\x02") && BEGINS(&it, "ab", 3, "\x08\x0A\x02") && BEGINS(&it, "ab", 40, "\x08\x0A\x02"));
     CHECK(has_no_beginning(&it, BYTES("\xFF"), UCA_UTF8));
+    uca_close(&it);
+}
+
+/* With numbers by value the table has to order them. TABLE has no digits, and here 1 is in another key, in row 14. */
+static void check_unordered_digits(void)
+{
+    uca_collator it = UCA_CLOSED_COLLATOR;
+    uca_error error = {7, 7};
+    char table[1024];
+    strcat(strcpy(table, DIGITS), "0031 0301 ; [.1C50.0020.0002]\n");
+    CHECK(opened(&it, TABLE, DATA, UCA_SHIFTED, UCA_NUMERIC, &error) == UCA_DIGITS && error.line == 0 && error.kind == 0 && !it.is_open);
+    CHECK(opened(&it, table, DATA, UCA_SHIFTED, UCA_IDENTICAL | UCA_NUMERIC, &error) == UCA_DIGITS && error.line == 14 && error.kind == 0 && !it.is_open);
+    CHECK(opened_compact(&it, table, DATA, BOOK, UCA_SHIFTED, UCA_NUMERIC, &error) == UCA_DIGITS && error.line == 14 && error.kind == 0 && !it.is_open);
+    CHECK(opened(&it, table, DATA, UCA_SHIFTED, UCA_WEIGHTS, &error) == UCA_OK);
     uca_close(&it);
 }
 
