@@ -8,8 +8,7 @@ use Rattle.uca_order.specs.Keyings.{Keying}
 use Rattle.uca_books.specs.Books.{BookContent}
 use Rattle.uca_books.specs.BookTexts as books
 use Rattle.uca_number_keys.specs.Tables.{RefusesTable}
-use Rattle.uca_owned.specs.Opening.{HasFingerprint, MeanFiles, Opens, RejectsTable, RejectsData}
-use Rattle.uca_table.specs.TableLines as tables
+use Rattle.uca_owned.specs.Opening.{HasFingerprint, MeanFiles, Opens, RejectsTable, RejectsDataAfter}
 use Rattle.uca_owned.specs.declared.faults.OpenFault.{OpenFault}
 use Rattle.uca_owned.specs.declared.faults.OpenFault.TheVariants as faults
 use Rattle.uca_c.specs.Numbers.{asked_of, kind_number}
@@ -54,10 +53,6 @@ pub record Asks (weighting depth : ℕ) (table_bytes data_bytes : List ℕ) (ask
 abbrev pub AreRead : ℕ → ℕ → List ℕ → List ℕ → Type 0
 AreRead weighting depth table_bytes data_bytes =
     (asked : Asked) × (table : TableContent) × (properties : Properties) × Asks weighting depth table_bytes data_bytes asked table properties
-
--- the bytes are a table, and those of its data file are rejected
-abbrev pub RejectsDataAfter : List ℕ → List ℕ → TableFault → Type 0
-RejectsDataAfter table_bytes data_bytes fault = ((table : TableContent) × tables.Means table_bytes table) × RejectsData data_bytes fault
 
 -- why nothing was read: a number, the table or the data file; or an allocation failed after both were read
 abbrev pub IsReadStatus : ℕ → ℕ → List ℕ → List ℕ → ℕ → ℕ → ℕ → Type 0

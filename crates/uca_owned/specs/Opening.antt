@@ -50,11 +50,15 @@ pub record RejectsData (bytes : List ℕ) (fault : TableFault) : Type 0 where
   pub cause : data_files.Refuses bytes left fault
   pub not_read : fault.kind ≢ kinds.Read
 
+-- the bytes are a table, and those of its data file are rejected
+abbrev pub RejectsDataAfter : List ℕ → List ℕ → TableFault → Type 0
+RejectsDataAfter table_bytes data_bytes fault = ((table : TableContent) × tables.Means table_bytes table) × RejectsData data_bytes fault
+
 -- The bytes of a table are rejected. Or they mean a table, and those of a data file are rejected. Or they mean a data file too. Then the
 -- table is none for numbers that are compared so, or an allocation failed later.
 abbrev pub IsOpenCause : Numbers → List ℕ → List ℕ → OpenFault → Type 0
 IsOpenCause numbers table_bytes data_bytes (Table fault) = RejectsTable table_bytes fault
-IsOpenCause numbers table_bytes data_bytes (Data fault) = ((table : TableContent) × tables.Means table_bytes table) × RejectsData data_bytes fault
+IsOpenCause numbers table_bytes data_bytes (Data fault) = RejectsDataAfter table_bytes data_bytes fault
 IsOpenCause numbers table_bytes data_bytes (Digits row) =
     (table : TableContent) × (properties : Properties) × MeanFiles table_bytes data_bytes table properties × RefusesTable numbers table properties row
 IsOpenCause numbers table_bytes data_bytes Memory = (table : TableContent) × (properties : Properties) × MeanFiles table_bytes data_bytes table properties

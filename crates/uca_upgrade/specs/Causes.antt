@@ -13,8 +13,7 @@ use Rattle.uca_changes.specs.Changes.{Change}
 use Rattle.uca_changes.specs.declared.faults.ChangeFault.TheVariants as change_faults
 use Rattle.uca_editions.specs.ChangeRefusals.{IsFirstRefusal}
 use Rattle.uca_number_keys.specs.Tables.{TakesTable, RefusesTable}
-use Rattle.uca_owned.specs.Opening.{MeanFiles, RejectsTable, RejectsData}
-use Rattle.uca_table.specs.TableLines as tables
+use Rattle.uca_owned.specs.Opening.{MeanFiles, RejectsTable, RejectsDataAfter}
 use Rattle.uca_upgrade.specs.declared.faults.UpgradeFault.{UpgradeFault}
 use Rattle.uca_upgrade.specs.declared.faults.UpgradeFault.TheVariants.{OldTable, OldData, NewTable, NewData, Changes, Certificate, OldDigits, NewDigits, NotMet, Memory}
 use Rattle.uca_upgrade.specs.declared.files.UpgradeFiles.{UpgradeFiles}
@@ -39,10 +38,6 @@ pub record RejectsCertificate (bytes : List ℕ) (fault : CertificateFault) : Ty
   pub left : Option (List ℕ)
   pub cause : certificates.Refuses bytes left fault
   pub not_read : fault.kind ≢ certificate_kinds.Read
-
--- the bytes are a table, and those of its data file are rejected
-abbrev pub RejectsDataAfter : List ℕ → List ℕ → TableFault → Type 0
-RejectsDataAfter table_bytes data_bytes fault = ((table : TableContent) × tables.Means table_bytes table) × RejectsData data_bytes fault
 
 -- A file is rejected, and those before it are not. Or the files mean a change, and one of its tables is none for numbers that are
 -- compared so, the old one first. Or the change does not meet the condition, first at this place. Or an allocation failed later.
