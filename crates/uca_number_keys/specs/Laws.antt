@@ -63,13 +63,8 @@ pub record DifferFirst (c : Collation) (depth : Depth) (weighting : Weighting) (
   pub texts : compared_at depth weighting (read_by_value c left) (read_by_value c right) ≡ record { order = order; level = 1 }
   pub keys : lexicographic (key_at depth weighting (read_by_value c left)) (key_at depth weighting (read_by_value c right)) ≡ order
 
-<<<<<<< HEAD
 -- Under a table that orders numbers, a number is greater than what ends there or goes on below the digit 0. It is less
 -- than what goes on above the digit 9.
-=======
--- Under a table that orders numbers, a number is greater than what ends there or goes on below the digit 0. It is less than
--- what goes on above the digit 9.
->>>>>>> abbf65c3c331281b57ab5c28a2160f7ab0b26509
 pub record NumbersStandTogether : Type 0 where
   pub below : (c : Collation) (depth : Depth) (weighting : Weighting) (front number rest other tail : List ℕ) → OrdersNumbers c →
       StandsAgainst c weighting front number rest other tail → GoesOnBelow (digit_weight c.rows 0x30) tail →

@@ -9,15 +9,9 @@ pub fn numbers_order_texts()
     ensures { NumbersOrderTexts }
 {}
 
-<<<<<<< HEAD
 /// A number comes after what has less weight than the digit 0, and before what has more than the digit 9. So `7` comes
 /// after `-` and before `a`, and after the end of the text. Level 1 decides so, whatever digits the number has, and the
 /// bytes of keys agree. The table has to order numbers.
-=======
-/// Numbers stand together among other texts: `7` comes after `-` and before `a`. Each comes after what ends in its place, or
-/// goes on with less weight than the digit 0. It comes before what goes on with more weight than the digit 9. Level 1 decides
-/// so, and the bytes of keys agree. The table has to order numbers.
->>>>>>> abbf65c3c331281b57ab5c28a2160f7ab0b26509
 pub fn numbers_stand_together()
     ensures { NumbersStandTogether }
 {}
