@@ -246,8 +246,16 @@ fn orders_numbers_by_value(rt: HostRuntime) -> Result<(), Fail> {
 /// A part of the table, what comes in place of it, and the row to blame, or `None` if numbers are in order.
 const TABLES: [(&str, &str, Option<u32>); 9] = [
     ("0035 ; ", "0035 ; ", None),
-    ("0061 ; ", "0035 0301 ; [.1C50.0020.0002]\n0061 ; ", Some(11)),
-    ("0061 ; ", "0062 0061 0035 ; [.1C50.0020.0002]\n0061 ; ", Some(11)),
+    (
+        "0061 ; ",
+        "0035 0301 ; [.1C50.0020.0002]\n0061 ; ",
+        Some(11),
+    ),
+    (
+        "0061 ; ",
+        "0062 0061 0035 ; [.1C50.0020.0002]\n0061 ; ",
+        Some(11),
+    ),
     ("[.1C42.0020.0002]", "[.1C41.0020.0002]", Some(6)),
     ("[.1C42.0020.0002]", "[*1C42.0020.0002]", Some(6)),
     (
@@ -266,7 +274,10 @@ fn check_table(alloc: Global, file: &str, data: &str, wanted: Option<u32>) -> Re
     let data = data_of(alloc, &mut Source::new(data.as_bytes()))?;
     let found = check_numbers(&table, &data).err();
     holds(found == wanted.map(|row| UnorderedDigits { row }), file)?;
-    holds(check_table_for(Numbers::AsText, &table, &data).is_ok(), file)
+    holds(
+        check_table_for(Numbers::AsText, &table, &data).is_ok(),
+        file,
+    )
 }
 
 #[test]

@@ -32,7 +32,6 @@ module _ {A : Type 0} (asked : Asked) (files : TableAndData) where
   before_input (Err _) refused = absurd refused
 
 module _ {A : Type 0} where
-
   -- what is known of each outcome
   pub both_outcomes : (result : Result A RunFault) (P : A → Type 0) (Q : RunFault → Type 0) → IfOk result P → IfErr result Q → MatchResult result P Q
   both_outcomes (Ok x) P Q made refused = made
