@@ -24,6 +24,22 @@ class Numbers(ProgramTest):
         seven, ten = three_levels("1C47", "1C3E", "1C44"), three_levels("1C47", "1C3F", "1C3E", "1C3D")
         self.expect(["keys", *BY_VALUE, "t", "d"], "a7\na007\na10\n", out=seven + seven + ten)
 
+    def test_tables(self):
+        """A table has to order numbers. Here the digit 7 is in another key, then its weight is that of 6, and then it has no row.
+        As text each table is taken."""
+        row = "0037 ; [.1C44.0020.0002]\n"
+        rejected = [("0031 0037 ; [.1D00.0020.0002]\n" + row, "table row 9: Digits\n"), (row.replace("1C44", "1C43"), "table row 9: Digits\n"), ("", "table: Digits\n")]
+        commands = ["keys t d", "keys --lines --header t d", "keys --compact k t d", "sort t d", "compare t d a a"]
+        for rows, err in rejected:
+            self.write(t=NUMBER_TABLE.replace(row, rows), k="@book 1\n")
+            for command in commands:
+                name, rest = command.split(" ", 1)
+                self.expect(f"{name} --numeric {rest}", "7\n8\n", status=1, err=err)
+                self.assertEqual(self.run_uca(*command.split(), given="7\n8\n").status, 0)
+            self.assertEqual(self.run_uca("fingerprint", "--numeric", "t", "d").status, 0)
+        self.write(t=NUMBER_TABLE, d="@data 1\nccc 0037..0037 1\n")
+        self.expect("sort --numeric t d", "7\n", status=1, err="table row 9: Digits\n")
+
     def test_keys_without_digits(self):
         lines = "ab\n\nb a\n"
         self.assertEqual(self.run_uca("keys", "--numeric", "t", "d", given=lines), self.run_uca("keys", "t", "d", given=lines))

@@ -432,15 +432,12 @@ class StoredKeys(ProgramTest):
         self.expect("rekey --weighting non-ignorable c", old, out=new)
 
     def test_starts_of_books(self):
-        """Each weight begins a cell of one of these books, which have 1 to 245 starts side by side. The first start and the one after it have cells of one weight."""
-        first, number = 0x0002, 0
-        while first <= 0xFFFF:
-            last = min(first + number % 245, 0xFFFF)
-            starts = range(first, last + 1)
+        """Each weight begins a cell of one of these books, which have 245 starts side by side. All but the last have cells of one weight."""
+        for first in range(0x0002, 0x10000, 245):
+            starts = range(first, min(first + 245, 0x10000))
             self.write(k="@book 1\n" + "".join(f"1 {it:04X}\n" for it in starts) + "".join(f"4 {it:04X}\n" for it in starts if it < 0xFFFF))
             keys = "".join(f"{weight:04X}0000002000000002\n" for weight in starts[:-1])
             self.expect("compact --weighting non-ignorable k", keys, out="".join(f"{8 + it:02X}02\n" for it in range(len(starts) - 1)))
-            first, number = last + 1, number + 1
 
     def test_numbers_of_runs(self):
         """So many weights of a level move up to its end. The first and the last are those of stored keys."""

@@ -904,6 +904,20 @@ static void check_key_beginnings(void)
     uca_close(&it);
 }
 
+/* With numbers by value the table has to order them. TABLE has no digits, and here 1 is in another key, in row 14. */
+static void check_unordered_digits(void)
+{
+    uca_collator it = UCA_CLOSED_COLLATOR;
+    uca_error error = {7, 7};
+    char table[1024];
+    strcat(strcpy(table, DIGITS), "0031 0301 ; [.1C50.0020.0002]\n");
+    CHECK(opened(&it, TABLE, DATA, UCA_SHIFTED, UCA_NUMERIC, &error) == UCA_DIGITS && error.line == 0 && error.kind == 0 && !it.is_open);
+    CHECK(opened(&it, table, DATA, UCA_SHIFTED, UCA_IDENTICAL | UCA_NUMERIC, &error) == UCA_DIGITS && error.line == 14 && error.kind == 0 && !it.is_open);
+    CHECK(opened_compact(&it, table, DATA, BOOK, UCA_SHIFTED, UCA_NUMERIC, &error) == UCA_DIGITS && error.line == 14 && error.kind == 0 && !it.is_open);
+    CHECK(opened(&it, table, DATA, UCA_SHIFTED, UCA_WEIGHTS, &error) == UCA_OK);
+    uca_close(&it);
+}
+
 /* Whether the key of a text has at most as many bytes as the bound says, and is made with as much room. */
 static bool is_bounded(uca_collator *collator, const uint8_t *text, size_t length)
 {
@@ -938,17 +952,16 @@ static void add_long_row(char *table, const char *digit)
     strcat(table, "\n");
 }
 
-/* By value `9` is read as `19`. So its key has 512 bytes of weights, three separators, and one more with a code point. */
+/* The key of `9` has 256 bytes of weights, three separators, and one more with a code point. */
 static bool is_near(uca_collator *collator)
 {
     char table[2048] = "@version 1\n";
-    add_long_row(table, "0031 ; ");
     add_long_row(table, "0039 ; ");
     uca_error error;
     uint8_t out[526];
     size_t needed = 77, bound = 77;
-    bool is_made = opened(collator, table, DATA, UCA_SHIFTED, UCA_IDENTICAL | UCA_NUMERIC, &error) == UCA_OK
-                   && uca_key(collator, BYTES("9"), out, sizeof out, &needed) == UCA_OK && needed == 512 + 6 + 2 + 3;
+    bool is_made = opened(collator, table, DATA, UCA_SHIFTED, UCA_IDENTICAL, &error) == UCA_OK
+                   && uca_key(collator, BYTES("9"), out, sizeof out, &needed) == UCA_OK && needed == 256 + 6 + 2 + 3;
     is_made = is_made && uca_key_bound(collator, 1, &bound) == UCA_OK && bound == 526 && are_bounded(collator);
     uca_close(collator);
     return is_made;
@@ -969,9 +982,9 @@ static void check_bounds(void)
     CHECK(uca_key_bound(&it, SIZE_MAX, &bound) == UCA_OK && bound == SIZE_MAX && it.is_open);
     uca_close(&it);
     for (uint32_t depth = 0; depth < 4; depth++) {
-        CHECK(opened(&it, TABLE, DATA, UCA_SHIFTED, depth, &error) == UCA_OK && are_bounded(&it));
+        CHECK(opened(&it, DIGITS, DATA, UCA_SHIFTED, depth, &error) == UCA_OK && are_bounded(&it));
         uca_close(&it);
-        CHECK(opened_compact(&it, TABLE, DATA, BOOK, UCA_SHIFTED, depth, &error) == UCA_OK && are_bounded(&it));
+        CHECK(opened_compact(&it, DIGITS, DATA, BOOK, UCA_SHIFTED, depth, &error) == UCA_OK && are_bounded(&it));
         uca_close(&it);
     }
     CHECK(opened_compact(&it, TABLE, DATA, BOOK, UCA_NON_IGNORABLE, UCA_WEIGHTS, &error) == UCA_OK && are_bounded(&it));
@@ -1325,27 +1338,32 @@ static void check_upgrade(void)
     uca_close_upgrade(&moved);
 }
 
-/* The digit 2 has another weight in the new table, and so has 7, whose weight the certificate moves. */
-static const six NUMBERS = {{"@version 1\n0030 ; [.1C3D.0020.0002]\n0031 ; [.1C3E.0020.0002]\n"
-                             "0032 ; [.1C3F.0020.0002]\n0037 ; [.1C44.0020.0002]\n",
+/* The digit 2 has another weight in the new table, and so have those from 3 on, whose weights the certificate moves. */
+static const six NUMBERS = {{"@version 1\n"
+                             "0030 ; [.1C3D.0020.0002]\n0031 ; [.1C3E.0020.0002]\n"
+                             "0032 ; [.1C3F.0020.0002]\n0033 ; [.1C40.0020.0002]\n"
+                             "0034 ; [.1C41.0020.0002]\n0035 ; [.1C42.0020.0002]\n"
+                             "0036 ; [.1C43.0020.0002]\n0037 ; [.1C44.0020.0002]\n"
+                             "0038 ; [.1C45.0020.0002]\n0039 ; [.1C46.0020.0002]\n",
                              ACCENT,
-                             "@version 2\n0030 ; [.1C3D.0020.0002]\n0031 ; [.1C3E.0020.0002]\n"
-                             "0032 ; [.1C40.0020.0002]\n0037 ; [.1C45.0020.0002]\n",
+                             "@version 2\n"
+                             "0030 ; [.1C3D.0020.0002]\n0031 ; [.1C3E.0020.0002]\n"
+                             "0032 ; [.1C40.0020.0002]\n0033 ; [.1C41.0020.0002]\n"
+                             "0034 ; [.1C42.0020.0002]\n0035 ; [.1C43.0020.0002]\n"
+                             "0036 ; [.1C44.0020.0002]\n0037 ; [.1C45.0020.0002]\n"
+                             "0038 ; [.1C46.0020.0002]\n0039 ; [.1C47.0020.0002]\n",
                              ACCENT, "@changes 1\ntext 0032\n",
-                             "1 1C3D 1C3D 0002\n1 1C44 1C45 0001\n2 0020 0020 0001\n3 0002 0002 0001\n"}};
+                             "1 1C3D 1C3D 0002\n1 1C40 1C41 0007\n2 0020 0020 0001\n3 0002 0002 0001\n"}};
 
 /* What sha256sum prints of the text that uca.h states, with the line of numbers and those of the files. */
-static const char OLD_NUMBERS_SUM[] = "9406b6d01d7999c87c2ce6bdb00f377669bc11769f36eac06cb78fea09117ce4";
-static const char NEW_NUMBERS_SUM[] = "d45918e2b67ab7d758bcf25f0e4c025d13bc59b6fe50eb4d5291d64a74ce9985";
+static const char OLD_NUMBERS_SUM[] = "292db594960fa1500f6111f7c3705274e7e0fa4a49d62634c32c548a4a74b907";
+static const char NEW_NUMBERS_SUM[] = "2433e903ea6ec91a447e337cd1b5ac2b5b19c7ce8fc34d2089af78319a50d188";
 
 /* `10` is read as `210`, and `7` as `17`. */
 static void check_number_upgrade(void)
 {
     uca_upgrade it = UCA_CLOSED_UPGRADE;
-    uca_collator before = UCA_CLOSED_COLLATOR, after = UCA_CLOSED_COLLATOR;
     uca_upgrade_error error;
-    uca_error its;
-    uint32_t numbers = UCA_IDENTICAL | UCA_NUMERIC;
     CHECK(opened_upgrade(&it, &NUMBERS, UCA_NON_IGNORABLE, UCA_WEIGHTS, &error) == UCA_OK);
     CHECK(is_affected(&it, BYTES("10"), 0) && is_affected(&it, BYTES("7"), 0) && is_affected(&it, BYTES("002"), 1));
     uca_close_upgrade(&it);
@@ -1355,13 +1373,38 @@ static void check_number_upgrade(void)
                   "\x1C\x3E\x1C\x45\0\0\0\x20\0\x20\0\0\0\x02\0\x02"));
     CHECK(has_sums(&it, UCA_OK, OLD_NUMBERS_SUM, NEW_NUMBERS_SUM));
     uca_close_upgrade(&it);
-    CHECK(opened_upgrade(&it, &NUMBERS, UCA_SHIFTED, numbers, &error) == UCA_OK);
-    CHECK(opened(&before, NUMBERS.files[0], ACCENT, UCA_SHIFTED, numbers, &its) == UCA_OK);
-    CHECK(opened(&after, NUMBERS.files[2], ACCENT, UCA_SHIFTED, numbers, &its) == UCA_OK);
+}
+
+/* Keys by value that are put through the maps are the new ones. */
+static void check_renewed_numbers(uint32_t weighting, uint32_t depth)
+{
+    uca_upgrade it = UCA_CLOSED_UPGRADE;
+    uca_collator before = UCA_CLOSED_COLLATOR, after = UCA_CLOSED_COLLATOR;
+    uca_upgrade_error error;
+    uca_error its;
+    CHECK(opened_upgrade(&it, &NUMBERS, weighting, depth, &error) == UCA_OK && is_error(&error, 0, 0, 0, 0, 0, 0));
+    CHECK(opened(&before, NUMBERS.files[0], ACCENT, weighting, depth, &its) == UCA_OK && opened(&after, NUMBERS.files[2], ACCENT, weighting, depth, &its) == UCA_OK);
+    CHECK(is_renewed(&it, &before, &after, BYTES("")) && is_renewed(&it, &before, &after, BYTES("ab")));
     CHECK(is_renewed(&it, &before, &after, BYTES("007")) && is_renewed(&it, &before, &after, BYTES("0 7")));
     uca_close_upgrade(&it);
     uca_close(&before);
     uca_close(&after);
+}
+
+/* With numbers by value both tables have to order numbers. That of SIX has no digits, and the new one here has 5 below 4. */
+static void check_unordered_upgrade(void)
+{
+    uca_upgrade it = UCA_CLOSED_UPGRADE;
+    uca_upgrade_error error;
+    char line[128], table[1024];
+    six given = NUMBERS;
+    CHECK(opened_upgrade(&it, &SIX, UCA_SHIFTED, UCA_NUMERIC, &error) == UCA_DIGITS && is_error(&error, UCA_OLD_TABLE, 0, 0, 0, 0, 0) && !it.is_open);
+    CHECK(uca_upgrade_error_text(UCA_DIGITS, &error, line, sizeof line) == 17 && !strcmp(line, "old table: Digits"));
+    strcpy(table, NUMBERS.files[2]);
+    memcpy(strstr(table, "1C43"), "1C3F", 4);
+    given.files[2] = table;
+    CHECK(opened_upgrade(&it, &given, UCA_SHIFTED, UCA_NUMERIC, &error) == UCA_DIGITS && is_error(&error, UCA_NEW_TABLE, 6, 0, 0, 0, 0) && !it.is_open);
+    CHECK(uca_upgrade_error_text(UCA_DIGITS, &error, line, sizeof line) == 23 && !strcmp(line, "new table row 6: Digits"));
 }
 
 static void check_too_long(void)
@@ -1410,9 +1453,11 @@ static void check_upgrades(void)
     check_renewed(UCA_SHIFTED, UCA_WEIGHTS);
     check_renewed(UCA_BY_TABLE, UCA_IDENTICAL);
     check_renewed(UCA_NON_IGNORABLE, UCA_IDENTICAL);
-    check_renewed(UCA_SHIFTED, UCA_NUMERIC);
-    check_renewed(UCA_BY_TABLE, UCA_IDENTICAL | UCA_NUMERIC);
     check_number_upgrade();
+    check_renewed_numbers(UCA_SHIFTED, UCA_NUMERIC);
+    check_renewed_numbers(UCA_SHIFTED, UCA_IDENTICAL | UCA_NUMERIC);
+    check_renewed_numbers(UCA_BY_TABLE, UCA_IDENTICAL | UCA_NUMERIC);
+    check_unordered_upgrade();
     check_too_long();
     check_upgrade_threads();
 }
@@ -1766,8 +1811,8 @@ static void check_upgrade_texts(void)
     const uca_upgrade_error unknown = {7, UINT32_MAX, 14, 10, 4, UINT32_MAX}, greatest = {0, 0, 0, UCA_POINT_CHANGED, UCA_AT_CODE_POINT, 0x10FFFF};
     char line[128];
     CHECK(are_texts(uca_upgrade_file_text, files, UCA_CERTIFICATE + 1) && are_texts(uca_place_text, places, UCA_AT_CODE_POINT + 1));
-    for (uint32_t status = 0; status <= UCA_NO_IMAGE + 1; status++) {
-        CHECK(status == UCA_FILE || status == UCA_NOT_MET || is_status_line(status));
+    for (uint32_t status = 0; status <= UCA_DIGITS + 1; status++) {
+        CHECK(status == UCA_FILE || status == UCA_NOT_MET || status == UCA_DIGITS || is_status_line(status));
     }
     CHECK(uca_upgrade_error_text(UCA_FILE, &unknown, line, sizeof line) == 32 && !strcmp(line, "unknown line 4294967295: unknown"));
     CHECK(uca_upgrade_error_text(UCA_NOT_MET, &unknown, line, sizeof line) == 37 && !strcmp(line, "refused 10 unknown unknown 4294967295"));
@@ -1784,7 +1829,8 @@ static void check_texts(void)
     CHECK(!strcmp(uca_status_text(UCA_UTF8), "the text is not UTF-8"));
     CHECK(!strcmp(uca_status_text(UCA_NO_KEY), "the bytes are no such key"));
     CHECK(!strcmp(uca_status_text(UCA_NO_IMAGE), "a weight of the key has no image"));
-    CHECK(!strcmp(uca_status_text(UCA_NO_IMAGE + 1), "unknown"));
+    CHECK(!strcmp(uca_status_text(UCA_DIGITS), "the table does not order numbers"));
+    CHECK(!strcmp(uca_status_text(UCA_DIGITS + 1), "unknown"));
     CHECK(!strcmp(uca_kind_text(UCA_NO_ERROR), "no error"));
     CHECK(!strcmp(uca_kind_text(UCA_KIND_DUPLICATE_KEY), "DuplicateKey"));
     CHECK(!strcmp(uca_kind_text(UCA_KIND_MEMORY), "Memory"));
@@ -1816,6 +1862,7 @@ int main(void)
     check_share();
     check_shared_threads();
     check_identical();
+    check_unordered_digits();
     check_digits_as_text();
     check_beginnings(UCA_NON_IGNORABLE, UCA_WEIGHTS);
     check_beginnings(UCA_SHIFTED, UCA_IDENTICAL);

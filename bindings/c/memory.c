@@ -181,8 +181,14 @@ static bool use_shared(opened *opened)
     return is_made(status, same, needed, COMPACT_KEY, sizeof COMPACT_KEY) && is_key;
 }
 
-static const char DIGITS[] = "@version 1\n0030 ; [.1C3D.0020.0002]\n0031 ; [.1C3E.0020.0002]\n"
-                             "0037 ; [.1C44.0020.0002]\n";
+#define TEN_DIGITS \
+    "0030 ; [.1C3D.0020.0002]\n0031 ; [.1C3E.0020.0002]\n" \
+    "0032 ; [.1C3F.0020.0002]\n0033 ; [.1C40.0020.0002]\n" \
+    "0034 ; [.1C41.0020.0002]\n0035 ; [.1C42.0020.0002]\n" \
+    "0036 ; [.1C43.0020.0002]\n0037 ; [.1C44.0020.0002]\n" \
+    "0038 ; [.1C45.0020.0002]\n0039 ; [.1C46.0020.0002]\n"
+
+static const char DIGITS[] = "@version 1\n" TEN_DIGITS;
 static const uint8_t NUMBER_KEY[] = {0x1C, 0x3E, 0x1C, 0x44, 0, 0, 0,    0x20, 0, 0x20, 0, 0,
                                      0,    2,    0,    2,    0, 0, 0, 0, 0x30, 0, 0,    0x37};
 
@@ -215,11 +221,11 @@ static bool use_numbers(opened *opened)
 }
 
 /* In the new edition b has another weight, and c is there. */
-static const char NEW_TABLE[] = "@version 2\n0061 ; [.1C47.0020.0002]\n0062 ; [.1C70.0020.0002]\n0063 ; [.1C60.0020.0002]\n0301 ; [.0000.0024.0002]\n";
-static const char OLD_TABLE[] = "@version 1\n0061 ; [.1C47.0020.0002]\n0062 ; [.1C60.0020.0002]\n0301 ; [.0000.0024.0002]\n";
+static const char NEW_TABLE[] = "@version 2\n" TEN_DIGITS "0061 ; [.1C47.0020.0002]\n0062 ; [.1C70.0020.0002]\n0063 ; [.1C60.0020.0002]\n0301 ; [.0000.0024.0002]\n";
+static const char OLD_TABLE[] = "@version 1\n" TEN_DIGITS "0061 ; [.1C47.0020.0002]\n0062 ; [.1C60.0020.0002]\n0301 ; [.0000.0024.0002]\n";
 static const char ACCENT[] = "@data 1\nccc 0301..0301 230\n";
 static const char CHANGES[] = "@changes 1\ntext 0063\n";
-static const char MAPS[] = "1 1C47 1C47 0001\n1 1C60 1C70 0001\n2 0020 0020 0001\n2 0024 0024 0001\n3 0002 0002 0001\n";
+static const char MAPS[] = "1 1C3D 1C3D 000B\n1 1C60 1C70 0001\n2 0020 0020 0001\n2 0024 0024 0001\n3 0002 0002 0001\n";
 static const uint8_t OLD_KEY[] = {0x1C, 0x60, 0, 0, 0, 0x20, 0, 0, 0, 2};
 static const uint8_t NEW_KEY[] = {0x1C, 0x70, 0, 0, 0, 0x20, 0, 0, 0, 2};
 

@@ -177,6 +177,15 @@ static uint32 make_fingerprint(Edition *edition, Files *files, uint32 depth, uca
     return status;
 }
 
+/* Says that numbers are to be ordered by value, and the table of this role does not order them. The row is 0 if a digit has none. */
+static void tell_digits(char *reason, const char *role, uint32 row)
+{
+    if (row)
+        snprintf(reason, REASON, "uca: %s row %u: Digits", role, row);
+    else
+        snprintf(reason, REASON, "uca: %s: Digits", role);
+}
+
 /* Opens the collator of an edition by its files, or says why not. */
 static void open_files(Edition *edition, Files *files)
 {
@@ -193,6 +202,8 @@ static void open_files(Edition *edition, Files *files)
     if (status == UCA_TABLE || status == UCA_DATA || status == UCA_BOOK)
         snprintf(edition->reason, REASON, "uca: %s%s line %u: %s", edition == &next ? "next " : "",
                  status == UCA_TABLE ? "table" : status == UCA_DATA ? "data" : "book", error.line, error.kind < lengthof(KINDS) ? KINDS[error.kind] : "");
+    else if (status == UCA_DIGITS)
+        tell_digits(edition->reason, edition == &next ? "next table" : "table", error.line);
     else if (status != UCA_OK)
         strlcpy(edition->reason, "uca: out of memory", REASON);
 }
@@ -217,6 +228,8 @@ static void tell_upgrade_error(uint32 status, const uca_upgrade_error *error)
 
     if (status == UCA_FILE)
         snprintf(next.reason, REASON, "uca: %s line %u: %s", ROLES[error->file], error->line, error->kind < lengthof(KINDS) ? KINDS[error->kind] : "");
+    else if (status == UCA_DIGITS)
+        tell_digits(next.reason, ROLES[error->file], error->line);
     else if (status == UCA_NOT_MET) {
         length = snprintf(next.reason, REASON, "uca: the audit rejects the next edition: %s", CONDITIONS[error->condition]);
         snprintf(next.reason + length, REASON - length, PLACES[error->place], error->number);

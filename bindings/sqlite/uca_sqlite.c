@@ -692,11 +692,19 @@ static const char *const KINDS[] = {"", "Line", "Order", "CodePoint", "Weight", 
                                     "Map Empty", "Map NotRising", "Map OutOfRange", "Map Fixed"};
 static const char *const ROLES[] = {"", "old table", "old data file", "new table", "new data file", "file of changes", "certificate"};
 
+/* Numbers are to be ordered by value, and the table of this role does not order them. The row is 0 if a digit has none. */
+static void digits_error(sqlite3_context *context, const char *name, const char *role, uint32_t row)
+{
+    give_error(context, row ? sqlite3_mprintf("%s: the %s: row %u: Digits", name, role, row) : sqlite3_mprintf("%s: the %s: Digits", name, role));
+}
+
 static void open_error(sqlite3_context *context, uint32_t status, const uca_error *error)
 {
     const char *role = status == UCA_TABLE ? "table" : status == UCA_DATA ? "data file" : status == UCA_BOOK ? "book" : NULL;
     if (role && error->kind != UCA_KIND_MEMORY) {
         give_error(context, sqlite3_mprintf("uca_load: the %s: line %u: %s", role, error->line, KINDS[error->kind]));
+    } else if (status == UCA_DIGITS) {
+        digits_error(context, "uca_load", "table", error->line);
     } else {
         sqlite3_result_error_nomem(context);
     }
@@ -878,6 +886,8 @@ static void upgrade_error(sqlite3_context *context, uint32_t status, const uca_u
     static const char *const PLACES[] = {"", " old row %u", " new row %u", " code point %04X"};
     if (status == UCA_FILE && error->kind != UCA_KIND_MEMORY) {
         give_error(context, sqlite3_mprintf("uca_load_upgrade: the %s: line %u: %s", ROLES[error->file], error->line, KINDS[error->kind]));
+    } else if (status == UCA_DIGITS) {
+        digits_error(context, "uca_load_upgrade", ROLES[error->file], error->line);
     } else if (status == UCA_NOT_MET) {
         char *place = sqlite3_mprintf(PLACES[error->place], error->number);
         give_error(context, place ? sqlite3_mprintf("uca_load_upgrade: the audit rejects the files: %s%s", CONDITIONS[error->condition], place) : NULL);

@@ -16,7 +16,7 @@ First prove and build the static library: `tools/build.py uca_c uca_run`. Then t
 - the tests of the module for Python, as it is and from a wheel with the library inside, and those of keys, threads, signals and forks under valgrind;
 - statements of SQLite with the extension, over files that are the same or others, and those of docs/BINDINGS.md; also in threads, and where each allocation fails in turn;
 - upgrades from the edition of examples/ to that of examples/editions/, in Python, SQLite and PostgreSQL. upgrades.py does the same with Unicode's tables;
-- statements, dumps and replication of PostgreSQL with its extension, and the commands, settings and statements of docs/BINDINGS.md. The extension is installed to a copy of the server's programs in a temporary folder. Each server
+- statements, dumps and replication of PostgreSQL with its extension, roles that make functions to be run by a superuser, and the commands, settings and statements of docs/BINDINGS.md. The extension is installed to a copy of the server's programs in a temporary folder. Each server
   has a folder of its own, listens on a Unix socket there, and is stopped afterwards;
 - all four over Unicode's table, and over that table tailored for Danish: 100,000 words of nine languages have the keys of `uca keys` and the order of `uca sort`.
   Compact keys are those of `uca compact`. Ranges of keys find exactly the words that a search through all keys finds. The sizes of indexes are printed.
@@ -276,6 +276,16 @@ def numbered(lines):
     return content(f"{EXAMPLES}/{lines}") + NUMBERED
 
 
+def files_for(work, setting):
+    """The files of examples/. Where numbers are ordered by value, the table has the ten digits too."""
+    table = f"{EXAMPLES}/table.txt"
+    if "numeric" in " ".join(setting):
+        table = f"{work}/with_digits.txt"
+        with open(table, "wb") as it:
+            it.write(content(f"{EXAMPLES}/table.txt") + DIGITS.encode())
+    return [table, f"{EXAMPLES}/data.txt"]
+
+
 def keys_like(program):
     """The keys of the program `keys` are those of `uca keys`."""
 
@@ -284,7 +294,7 @@ def keys_like(program):
             raise NotHere(f"there is no {program}")
         for lines in LINES:
             for setting in SETTINGS:
-                files = [f"{EXAMPLES}/table.txt", f"{EXAMPLES}/data.txt"]
+                files = files_for(work, setting)
                 wanted = run([program, "keys", *options(setting), *files], input=numbered(lines))
                 found = run([f"{C}/out/keys", *files, *" ".join(setting).split()], input=numbered(lines))
                 same(found, wanted, f"keys of {lines}, {setting}")
@@ -300,7 +310,7 @@ def sorted_like(program):
             raise NotHere(f"there is no {program}")
         for lines in LINES:
             for setting in SETTINGS:
-                files = [f"{EXAMPLES}/table.txt", f"{EXAMPLES}/data.txt"]
+                files = files_for(work, setting)
                 wanted = run([program, "sort", *options(setting), *files], input=numbered(lines))
                 weighting, depth = (*setting, "weights")[:2] if setting else ("", "weights")
                 for book in (None, BOOK):
@@ -464,8 +474,9 @@ def sqlite(work):
 def sqlite_loads(work):
     """uca_load returns the fingerprint, adds to what is loaded, and says what is wrong with its arguments."""
     for setting in SETTINGS[1:]:
-        arguments = ", ".join(f"'{it}'" for it in (TABLE, DATA, *setting))
-        same(sqlite_says(work, f"SELECT uca_load({arguments});"), fingerprint_of(TABLE, DATA, *setting) + "\n", f"fingerprint of {setting}")
+        files = files_for(work, setting)
+        arguments = ", ".join(f"'{it}'" for it in (*files, *setting))
+        same(sqlite_says(work, f"SELECT uca_load({arguments});"), fingerprint_of(*files, *setting) + "\n", f"fingerprint of {setting}")
     same(sqlite_says(work, f"SELECT uca_load('{TABLE}', '{DATA}', NULL, '', '{USED}');", load=""), USED + "\n", "no weighting")
     with open(f"{work}/variable.txt", "wb") as it:
         it.write(content(TABLE).replace(b"\n", b"\n@variable non-ignorable\n", 1))
@@ -486,6 +497,7 @@ def sqlite_loads(work):
         (f"'{TABLE}', '{DATA}', 'SHIFTED'", "uca_load: the weighting is 'SHIFTED', not 'shifted' or 'non-ignorable'"),
         (f"'{TABLE}', '{DATA}', '', 'deep'", f"uca_load: the depth is 'deep', {NO_DEPTH}"),
         (f"'{TABLE}', '{DATA}', '', 'numeric identical'", f"uca_load: the depth is 'numeric identical', {NO_DEPTH}"),
+        (f"'{TABLE}', '{DATA}', '', 'numeric'", "uca_load: the table: Digits"),
         (f"'{TABLE}', '{DATA}', 'shifted', '', ''", f"uca_load: the fifth argument {NO_FINGERPRINT}"),
         (f"'{TABLE}', '{DATA}', 'shifted', '', NULL", f"uca_load: the fifth argument {NO_FINGERPRINT}"),
         (f"'{TABLE}', '{DATA}', 'shifted', '', '{USED[:32]}'", f"uca_load: the fifth argument {NO_FINGERPRINT}"),
@@ -868,9 +880,12 @@ def sqlite_upgrade_loads(work):
         same(sqlite_says(work, f"SELECT uca_load_upgrade({quoted_list(EDITIONS, more)});", load=""), f"{NEXT}\n", f"an upgrade by {more}")
     for setting in SETTINGS[1:]:
         weighting, depth = (*setting, "weights")[:2]
-        old, new = (fingerprint_of(*it, weighting, depth) for it in ((TABLE, DATA), (NEW_TABLE, NEW_DATA)))
+        files = digit_files(work) if "numeric" in depth else EDITIONS
+        old, new = (fingerprint_of(*files[at : at + 2], weighting, depth) for at in (0, 2))
         more = [quoted(it) for it in (weighting, depth, old)]
-        same(sqlite_says(work, f"SELECT uca_load_upgrade({quoted_list(EDITIONS, more)});", load=""), f"{new}\n", f"an upgrade by {setting}")
+        same(sqlite_says(work, f"SELECT uca_load_upgrade({quoted_list(files, more)});", load=""), f"{new}\n", f"an upgrade by {setting}")
+    by_value = f"SELECT uca_load_upgrade({quoted_list(EDITIONS, [quoted('shifted'), quoted('numeric')])});"
+    sqlite_fails(work, "uca_load_upgrade: the old table: Digits", by_value, load="")
     altered = f"{work}/altered.txt"
     for at, old, new, error in (
         (0, b"0061 ; [.1C47", b"0061 ; [.1C4", "the old table: line 7: Weight"),
@@ -1310,8 +1325,10 @@ def postgresql(work):
 
 def postgresql_settings(work):
     """The settings and their files, and the fingerprint of each."""
-    table, data = f"{EXAMPLES}/table.txt", f"{EXAMPLES}/data.txt"
-    with postgresql_server(work) as (server, says, settings):
+    table, data = files_for(work, ["numeric"])
+    with postgresql_server(work, more="uca.numeric = on\n") as (server, says, settings):
+        same(says("SELECT uca_key('a');", fails=True), "ERROR:  uca: table: Digits", "a table without digits, by value")
+    with postgresql_server(work, table) as (server, says, settings):
         depths = (("shifted", "identical"), ("shifted", "numeric"), ("table", "identical numeric"))
         for weighting, depth in (*depths, ("non-ignorable", "weights"), ("table", "weights")):
             its = "".join(f"uca.{it} = on\n" for it in depth.split() if it != "weights")
@@ -1632,7 +1649,8 @@ def names_in_sql():
     code = "".join(content(f"{folder}/{it}").decode() for it in ("uca_postgresql.c", "uca_text.c"))
     strings = " ".join(re.findall(r'"((?:[^"\\]|\\.)*)"', re.sub(r"/\*.*?\*/", "", code, flags=re.S)))
     script = re.sub(r"--.*", "", content(f"{folder}/uca--0.1.sql").decode()) + OF_SUPERUSER
-    operators = {*re.findall(r"[-+*/<>=~!@#%^&|`?]+", re.sub("'[^']*'", "", script))}
+    # IN, CASE, BETWEEN and LIKE call the first four
+    operators = {"=", "<=", ">=", "~~", *re.findall(r"[-+*/<>=~!@#%^&|`?]+", re.sub("'[^']*'", "", script))}
     return sorted(operators), sorted({*re.findall(r"\b([a-z]\w*) ?\(", script + strings)})
 
 

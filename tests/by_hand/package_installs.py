@@ -8,7 +8,8 @@ First prove and build the program and the library: `tools/build.py uca uca_c uca
 - `release`: packaging/release.py makes the same bytes twice: here, and in a copy of the repository at another place, with other times, another umask and another user's
   settings. All versions are one. Debian's lintian finds nothing but what LINTIAN_KNOWN says.
 - `debian`: the packages in a fresh Debian system, which mmdebstrap makes in a temporary folder. The program alone comes first, without a network. Then the others come
-  with what they need: C by pkg-config, Python with all tests of the module, SQLite, and a server of PostgreSQL. Each makes the keys of `uca keys`. After purging no file is left.
+  with what they need: C by pkg-config, Python with all tests of the module, SQLite, and a server of PostgreSQL. Each makes the keys of `uca keys`. README's first
+  example prints what README shows. After purging no file is left.
 - `wheel`: the wheel in a virtual environment, without a network: all tests of the module, its licenses, its version and its tag.
 - `crate`: the crate for Rust, without a network: its tests, `cargo clippy`, the documentation, the programs of docs/BINDINGS.md, and two programs that use it.
 

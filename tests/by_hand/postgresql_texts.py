@@ -331,13 +331,14 @@ def other_settings(work):
         others_fail(says, wanted, "after ALTER SYSTEM")
         dumped = run([f"{server.programs}/pg_dump", "-h", server.folder, "-U", "postgres", "postgres"]).decode()
         same(dumped.count("\nCOPY public."), int(says("SELECT count(*) FROM pg_class WHERE relkind = 'r' AND relnamespace = 'public'::regnamespace;")), "tables of a dump")
-        for other in (settings.replace("weighting = shifted", "weighting = 'non-ignorable'"), settings + "uca.identical = on\n", settings + "uca.numeric = on\n", settings + f"uca.book_file = '{room}/book.txt'\n"):
+        for other in (settings.replace("weighting = shifted", "weighting = 'non-ignorable'"), settings + "uca.identical = on\n", settings + f"uca.book_file = '{room}/book.txt'\n"):
             server.restart(other)
             others_fail(says, wanted, other, ordered=ORDERED[:8])
-        server.restart(settings.replace("/table.txt", "/none.txt"))
-        error = "ERROR:  uca: the file of uca.table_file cannot be read: No such file or directory"
-        for it in ORDERED[:8]:
-            same(says(f"{WAYS['by indexes']} {it};", fails=True), error, f"{it} without a table")
+        none = "ERROR:  uca: the file of uca.table_file cannot be read: No such file or directory"
+        for other, error in ((settings.replace("/table.txt", "/none.txt"), none), (settings + "uca.numeric = on\n", "ERROR:  uca: table: Digits")):
+            server.restart(other)
+            for it in ORDERED[:8]:
+                same(says(f"{WAYS['by indexes']} {it};", fails=True), error, f"{it} without such a table")
         server.restart(settings)
         same(says("SELECT name FROM words ORDER BY name;") + says(f"{BY_INDEX} SELECT name FROM words ORDER BY name;"), 2 * in_order, "the first files again")
         server.restart(settings.replace("/table.txt", "/tailored.txt"))
@@ -479,7 +480,8 @@ def orders_like(program):
     def check(work):
         if not os.path.exists(program):
             raise NotHere(f"there is no {program}")
-        with bindings.postgresql_server(work) as (server, says, settings):
+        table = bindings.files_for(work, ["numeric"])[0]
+        with bindings.postgresql_server(work, table) as (server, says, settings):
             depths = (("shifted", "identical"), ("shifted", "numeric"), ("non-ignorable", "identical", "numeric"))
             for weighting, *depth in (("shifted",), ("non-ignorable",), *depths):
                 its = "".join(f"uca.{it} = on\n" for it in depth)
@@ -489,7 +491,7 @@ def orders_like(program):
                     text = bindings.numbered(lines)
                     values = ", ".join(f"({quoted(it)})" for it in text.decode().removesuffix("\n").split("\n"))
                     says(f"CREATE TABLE lines(line uca_text); INSERT INTO lines VALUES {values}; CREATE INDEX by_line ON lines(line);")
-                    wanted = run([program, "sort", *(f"--{it}" for it in depth), "--weighting", weighting, TABLE, DATA], input=by_bytes(text)).decode()
+                    wanted = run([program, "sort", *(f"--{it}" for it in depth), "--weighting", weighting, table, DATA], input=by_bytes(text)).decode()
                     for before in ("", BY_INDEX):
                         same(says(f"{before} SELECT line FROM lines ORDER BY line;"), wanted, f"order of {lines}, {weighting}, {depth}")
                     says("DROP TABLE lines;")

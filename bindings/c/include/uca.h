@@ -65,7 +65,8 @@ typedef enum uca_status {
     UCA_NO_KEY = 13,      /* the bytes are no key of the collator's settings, or no compact key of its book */
     UCA_FILE = 14,        /* a file of an upgrade is rejected: the error has which one, the line and why */
     UCA_NOT_MET = 15,     /* the files of an upgrade are read, and the audit rejects them: the error has the condition and the position */
-    UCA_NO_IMAGE = 16     /* a weight of the key has no image under the upgrade */
+    UCA_NO_IMAGE = 16,    /* a weight of the key has no image under the upgrade */
+    UCA_DIGITS = 17       /* UCA_NUMERIC is asked for, and a table does not order numbers: the line of the error is the row to blame */
 } uca_status;
 
 /* How variable elements, such as spaces and punctuation, are weighted (UTS #10, section 4). */
@@ -83,8 +84,11 @@ typedef enum uca_weighting {
    is. These counts are written as 1 to 8, then as 91 to 98, 991 to 998 and so on.
 
    Keys, ranges, comparisons and limits are those of what is read. At UCA_IDENTICAL the last level has the code points
-   of the text itself, so `7` and `007` differ there alone. Numbers come in the order of their values where the weights
-   of the ten digits rise at level 1 in the table, as in Unicode's. No call tests this. */
+   of the text itself, so `7` and `007` differ there alone. Other digits are no numbers: `2` comes before `²` at level 1.
+
+   Numbers come in the order of their values under a table that orders them, as Unicode's does. Each of the ten digits has a
+   row of one element, which is not variable, and the primary weights rise from 0 to 9. No other key has a digit, and digits
+   have no combining class. The calls that open tell UCA_DIGITS of any other table. */
 typedef enum uca_depth {
     UCA_WEIGHTS = 0,   /* by the levels of weights */
     UCA_IDENTICAL = 1, /* by one more level, that of the code points: only canonically equivalent texts are equal */
@@ -134,7 +138,8 @@ typedef struct uca_collator {
 
 #define UCA_CLOSED_COLLATOR {{0, 0}, 0}
 
-/* Where a file is rejected, and why: a line from 1 on and a uca_kind, or 0 and 0 if no file is. */
+/* Where a file is rejected, and why: a line from 1 on and a uca_kind, or 0 and 0 if no file is. At UCA_DIGITS the line is the row
+   of the table to blame, from 1 on, or 0 if a digit has no row. */
 typedef struct uca_error {
     uint32_t line;
     uint32_t kind;
@@ -189,10 +194,10 @@ typedef enum uca_place {
     UCA_AT_CODE_POINT = 3 /* it is a code point */
 } uca_place;
 
-/* Why an upgrade is not opened. All members are 0 unless the status is UCA_FILE or UCA_NOT_MET. */
+/* Why an upgrade is not opened. All members are 0 unless the status is UCA_FILE, UCA_DIGITS or UCA_NOT_MET. */
 typedef struct uca_upgrade_error {
-    uint32_t file;      /* UCA_FILE: a uca_upgrade_file, the first that is rejected */
-    uint32_t line;      /* UCA_FILE: its line, from 1 on */
+    uint32_t file;      /* UCA_FILE: a uca_upgrade_file, the first that is rejected. UCA_DIGITS: UCA_OLD_TABLE or UCA_NEW_TABLE */
+    uint32_t line;      /* UCA_FILE: its line, from 1 on. UCA_DIGITS: its row to blame, from 1 on, or 0 if a digit has no row */
     uint32_t kind;      /* UCA_FILE: a uca_kind */
     uint32_t condition; /* UCA_NOT_MET: a uca_condition, the first that is not met */
     uint32_t place;     /* UCA_NOT_MET: a uca_place, what the number below is */
@@ -380,7 +385,7 @@ size_t uca_upgrade_size(void);
 
    UCA_OK: the audit accepts the change. Take any text of UTF-8 that the change does not affect, by uca_affected. uca_rekey makes
    of its key by the old files its key by the new files. Two such texts compare by the new files as by the old ones.
-   UCA_ALREADY_OPEN, UCA_ARGUMENT, UCA_FILE, UCA_NOT_MET, UCA_MEMORY: the upgrade is as before. */
+   UCA_ALREADY_OPEN, UCA_ARGUMENT, UCA_FILE, UCA_DIGITS, UCA_NOT_MET, UCA_MEMORY: the upgrade is as before. */
 uint32_t uca_open_upgrade(uca_upgrade *upgrade, const uint8_t *old_table, size_t old_table_length, const uint8_t *old_data,
                           size_t old_data_length, const uint8_t *new_table, size_t new_table_length, const uint8_t *new_data,
                           size_t new_data_length, const uint8_t *changes, size_t changes_length, const uint8_t *certificate,
@@ -628,6 +633,7 @@ static inline const char *uca_status_text(uint32_t status)
         "a file of the upgrade is rejected",
         "the audit rejects the upgrade",
         "a weight of the key has no image",
+        "the table does not order numbers",
     };
     return status < sizeof texts / sizeof *texts ? texts[status] : "unknown";
 }
@@ -674,17 +680,25 @@ static inline const char *uca_place_text(uint32_t place)
      refused 8 PointChanged code point 0301
      refused 9 SettingChanged
      old table line 2: Weight
+     new table row 9: Digits
      out of memory
 
-   At UCA_NOT_MET it is the verdict that `uca audit-changes` prints. At UCA_FILE it names the file, the line and the kind. At any
-   other status it is the text of the status. It writes as snprintf does: at most `room` bytes, a 0 at the end, and no line feed. It
-   returns how many bytes the line has without the 0, also where there is less room. 128 bytes are enough for each line. */
+   At UCA_NOT_MET it is the verdict that `uca audit-changes` prints. At UCA_FILE it names the file, the line and the kind, and at
+   UCA_DIGITS the table and the row, if there is one. At any other status it is the text of the status. It writes as snprintf
+   does: at most `room` bytes, a 0 at the end, and no line feed. It returns how many bytes the line has without the 0, also where
+   there is less room. 128 bytes are enough for each line. */
 static inline int uca_upgrade_error_text(uint32_t status, const uca_upgrade_error *error, char *out, size_t room)
 {
     const char *condition = uca_condition_text(error->condition), *place = uca_place_text(error->place);
     unsigned number = (unsigned)error->number, met = (unsigned)error->condition;
     if (status == UCA_FILE) {
         return snprintf(out, room, "%s line %u: %s", uca_upgrade_file_text(error->file), (unsigned)error->line, uca_kind_text(error->kind));
+    }
+    if (status == UCA_DIGITS && error->line) {
+        return snprintf(out, room, "%s row %u: Digits", uca_upgrade_file_text(error->file), (unsigned)error->line);
+    }
+    if (status == UCA_DIGITS) {
+        return snprintf(out, room, "%s: Digits", uca_upgrade_file_text(error->file));
     }
     if (status != UCA_NOT_MET) {
         return snprintf(out, room, "%s", uca_status_text(status));

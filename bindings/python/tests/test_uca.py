@@ -945,6 +945,20 @@ class Positions(unittest.TestCase):
             collator.close()
             self.assertRaises(uca.ClosedError, collator.check, "a")
 
+    def test_tables_that_do_not_order_numbers(self):
+        shared = NUMBERS + b"0031 0301 ; [.1C50.0020.0002]\n"
+        row = shared.count(b" ; ")
+        for table, book, found in [(TABLE, None, 0), (shared, None, row), (shared, BOOK, row)]:
+            with self.assertRaises(uca.DigitsError) as raised:
+                uca.Collator(table, DATA, numeric=True, book=book)
+            self.assertEqual((raised.exception.role, raised.exception.row), ("table", found))
+            self.assertEqual(str(raised.exception), f"table: row {found}: Digits" if found else "table: Digits")
+            uca.Collator(table, DATA, book=book).close()
+        for files, role, found in [(EDITIONS, "old table", 0), ((NUMBERS, DATA, shared, *NUMBER_EDITIONS[3:]), "new table", row)]:
+            with self.assertRaises(uca.DigitsError) as raised:
+                uca.Upgrade(*files, numeric=True)
+            self.assertEqual((raised.exception.role, raised.exception.row), (role, found))
+
     def test_check_of_numbers(self):
         # "9" is read as "19", so the run begins one code point later
         with uca.Collator(NUMBERS, DATA, numeric=True) as collator:

@@ -31,6 +31,7 @@ __all__ = [
     "CommandError",
     "Comparison",
     "ClosedError",
+    "DigitsError",
     "FileError",
     "FingerprintError",
     "KeyRange",
@@ -57,7 +58,7 @@ __version__ = "0.1.0"
 _ABI = 1
 
 _OK, _CLOSED, _ARGUMENT, _TABLE, _DATA, _MEMORY, _SMALL, _BOOK, _NO_BOOK, _NO_KEY = 0, 1, 3, 4, 5, 6, 10, 11, 12, 13
-_TOO_LONG, _FILE, _NO_IMAGE = 8, 14, 16
+_TOO_LONG, _FILE, _NO_IMAGE, _DIGITS = 8, 14, 16, 17
 #: the status of uca_run where memory ran out before the command began
 _RUN_MEMORY = 257
 _ROLES = {_TABLE: "table", _DATA: "data", _BOOK: "book"}
@@ -107,6 +108,21 @@ class FileError(UcaError, ValueError):
 
     def __str__(self) -> str:
         return f"{self.role}: line {self.line}: {self.kind}"
+
+
+class DigitsError(UcaError, ValueError):
+    """Numbers are to be ordered by value, and a table does not order them. Each of the digits 0 to 9 needs a row of one element
+    that is not variable. Their primary weights rise, and no other key has a digit."""
+
+    def __init__(self, role: str, row: int) -> None:
+        #: "table"; of an upgrade "old table" or "new table"
+        self.role = role
+        #: the row to blame, counted from 1; 0 if a digit has no row
+        self.row = row
+        super().__init__(role, row)
+
+    def __str__(self) -> str:
+        return f"{self.role}: row {self.row}: Digits" if self.row else f"{self.role}: Digits"
 
 
 class FingerprintError(UcaError, ValueError):
@@ -482,6 +498,8 @@ def _check_files(status: int, error: _Error) -> None:
     """Raises the error of a status of a call with files."""
     if status == _MEMORY or error.kind == _MEMORY_KIND:
         raise MemoryError
+    if status == _DIGITS:
+        raise DigitsError("table", error.line)
     if status != _OK:
         raise FileError(_ROLES[status], error.line, _KINDS[error.kind])
 
@@ -530,6 +548,8 @@ def _opened_upgrade(files: List[bytes], settings: Tuple[int, int]) -> _Upgrade:
         raise MemoryError
     if status == _FILE:
         raise FileError(_UPGRADE_ROLES[error.file], error.line, _KINDS[error.kind])
+    if status == _DIGITS:
+        raise DigitsError(_UPGRADE_ROLES[error.file], error.line)
     if status != _OK:
         raise AuditError(_CONDITIONS[error.condition], _PLACES[error.place], error.number)
     old, new = (ctypes.c_char * 32)(), (ctypes.c_char * 32)()
@@ -744,8 +764,8 @@ class Collator:
         alone. By a ``book``, keys are compact; None is no book. ``fingerprint`` is that of stored keys, or "unchecked"
         if there are none.
 
-        Raises :class:`FileError` if the table, or else the data file, or else the book, is rejected; :class:`FingerprintError` if
-        the fingerprint is another one; MemoryError.
+        Raises :class:`FileError` if the table, or else the data file, or else the book, is rejected; :class:`DigitsError` if
+        the table does not order numbers that are to be; :class:`FingerprintError` if the fingerprint is another one; MemoryError.
         """
         self._open(table, data, weighting, identical, fingerprint, book, numeric)
 
@@ -986,7 +1006,8 @@ class Upgrade:
         The weighting, ``identical`` and ``numeric`` are those that the stored keys were made with. ``fingerprint`` is
         that of these keys, or "unchecked". It has to be :attr:`old_fingerprint`.
 
-        Raises :class:`FileError` for the first file that is rejected; :class:`AuditError` if the audit rejects the step;
+        Raises :class:`FileError` for the first file that is rejected; :class:`DigitsError` if a table does not order numbers
+        that are to be; :class:`AuditError` if the audit rejects the step;
         :class:`FingerprintError` if the stored keys were made by other files or settings; MemoryError.
         """
         settings = _checked_settings(weighting, identical, numeric, fingerprint)

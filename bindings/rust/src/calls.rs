@@ -21,6 +21,7 @@ pub const NO_KEY: u32 = 13;
 pub const FILE: u32 = 14;
 pub const NOT_MET: u32 = 15;
 pub const NO_IMAGE: u32 = 16;
+pub const DIGITS: u32 = 17;
 pub const RUN_ARGUMENT: u32 = 256;
 pub const RUN_MEMORY: u32 = 257;
 

@@ -110,6 +110,12 @@ pub enum OpenError {
         /// Why.
         kind: FileErrorKind,
     },
+    /// Numbers are to be ordered by value, and the table does not order them. Each of the digits 0 to 9 needs a row of one
+    /// element that is not variable. Their primary weights rise, and no other key has a digit.
+    Digits {
+        /// The row to blame, from 1 on; 0 if a digit has no row.
+        row: u32,
+    },
     /// The files and settings have another fingerprint than the one that was wanted.
     OtherFiles {
         /// The fingerprint of [`crate::Options::fingerprint`].
@@ -127,6 +133,8 @@ impl fmt::Display for OpenError {
     fn fmt(&self, out: &mut fmt::Formatter<'_>) -> fmt::Result {
         match self {
             Self::Rejected { file, line, kind } => write!(out, "{file}, line {line}: {kind}"),
+            Self::Digits { row: 0 } => out.write_str("table: Digits"),
+            Self::Digits { row } => write!(out, "table, row {row}: Digits"),
             Self::OtherFiles { wanted, found } => {
                 write!(out, "the files and settings have the fingerprint {found}, and not {wanted}")
             }

@@ -173,6 +173,7 @@ fn check(status: u32, error: calls::Error) -> Result<(), OpenError> {
         calls::DATA => File::Data,
         calls::BOOK => File::Book,
         calls::MEMORY => return Err(OpenError::Memory),
+        calls::DIGITS => return Err(OpenError::Digits { row: error.line }),
         // an earlier library, which has no numbers by value
         calls::ARGUMENT => return Err(OpenError::Interface),
         other => unreachable!("uca.h has no status {other} for files of these settings"),

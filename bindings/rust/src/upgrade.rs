@@ -128,6 +128,7 @@ fn check(status: u32, error: &calls::UpgradeError) -> Result<(), UpgradeError> {
             line: error.line,
             kind: FileErrorKind::of(error.kind),
         }),
+        calls::DIGITS => Err(UpgradeError::Digits { file: UpgradeFile::of(error.file), row: error.line }),
         calls::NOT_MET => Err(UpgradeError::NotMet {
             condition: Condition::of(error.condition),
             place: Place::of(error.place, error.number),

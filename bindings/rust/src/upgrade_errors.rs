@@ -157,6 +157,13 @@ pub enum UpgradeError {
         /// Why.
         kind: FileErrorKind,
     },
+    /// The files are read. Numbers are to be ordered by value, and a table does not order them.
+    Digits {
+        /// [`UpgradeFile::OldTable`] or [`UpgradeFile::NewTable`].
+        file: UpgradeFile,
+        /// The row to blame, from 1 on; 0 if a digit has no row.
+        row: u32,
+    },
     /// The files are read, and the audit rejects them.
     NotMet {
         /// The first condition that is not met.
@@ -181,6 +188,8 @@ impl fmt::Display for UpgradeError {
     fn fmt(&self, out: &mut fmt::Formatter<'_>) -> fmt::Result {
         match self {
             Self::Rejected { file, line, kind } => write!(out, "{file}, line {line}: {kind}"),
+            Self::Digits { file, row: 0 } => write!(out, "{file}: Digits"),
+            Self::Digits { file, row } => write!(out, "{file}, row {row}: Digits"),
             Self::NotMet { condition, place: None } => write!(out, "the audit rejects the upgrade: {condition}"),
             Self::NotMet { condition, place: Some(place) } => {
                 write!(out, "the audit rejects the upgrade: {condition} {place}")

@@ -82,6 +82,16 @@ fn by_value(depth: Depth) -> Collator {
 }
 
 #[test]
+fn tables_that_do_not_order_numbers() {
+    let options = Collator::options().numbers(Numbers::ByValue);
+    assert_eq!(options.open(TABLE, DATA).err(), Some(OpenError::Digits { row: 0 }));
+    let table = [DIGITS, b"0031 0301 ; [.1C50.0020.0002]\n"].concat();
+    let error = options.book(BOOK).open(&table, DATA).unwrap_err();
+    assert_eq!((&error, error.to_string()), (&OpenError::Digits { row: 14 }, "table, row 14: Digits".to_string()));
+    assert!(Collator::options().open(&table, DATA).is_ok());
+}
+
+#[test]
 fn keys_of_numbers() {
     // a10 is read as a210, and 007 as 17
     let rows: [(&str, &[u16]); 4] = [
@@ -342,7 +352,7 @@ fn other_files_and_settings_are_an_error() {
     let others = [
         options.weighting(Weighting::NonIgnorable).open(TABLE, DATA),
         options.depth(Depth::Identical).open(TABLE, DATA),
-        options.numbers(Numbers::ByValue).open(TABLE, DATA),
+        options.numbers(Numbers::ByValue).open(DIGITS, DATA),
         options.book(BOOK).open(TABLE, DATA),
         options.open(&comment, DATA),
         options.open(TABLE, b"@data 1\n"),
@@ -362,8 +372,8 @@ fn fingerprints_without_a_collator() {
             let options = Collator::options().weighting(weighting).depth(depth);
             let numbers = options.numbers(Numbers::ByValue);
             for options in [options, options.book(BOOK), numbers, numbers.book(BOOK)] {
-                let found = options.fingerprint_of(TABLE, DATA).unwrap();
-                assert_eq!(options.open(TABLE, DATA).unwrap().fingerprint(), found);
+                let found = options.fingerprint_of(DIGITS, DATA).unwrap();
+                assert_eq!(options.open(DIGITS, DATA).unwrap().fingerprint(), found);
             }
         }
     }

@@ -158,25 +158,47 @@ fn affected_texts() {
     }
 }
 
-/// The digit 2 has another weight in the new table, and so has 7, whose weight the certificate moves.
+/// The digit 2 has another weight in the new table, and so have those from 3 on, whose weights the certificate moves.
 const NUMBERS: UpgradeFiles = UpgradeFiles {
     old_table: b"@version 1
 0030 ; [.1C3D.0020.0002]
 0031 ; [.1C3E.0020.0002]
 0032 ; [.1C3F.0020.0002]
+0033 ; [.1C40.0020.0002]
+0034 ; [.1C41.0020.0002]
+0035 ; [.1C42.0020.0002]
+0036 ; [.1C43.0020.0002]
 0037 ; [.1C44.0020.0002]
+0038 ; [.1C45.0020.0002]
+0039 ; [.1C46.0020.0002]
 ",
     old_data: b"@data 1\n",
     new_table: b"@version 2
 0030 ; [.1C3D.0020.0002]
 0031 ; [.1C3E.0020.0002]
 0032 ; [.1C40.0020.0002]
+0033 ; [.1C41.0020.0002]
+0034 ; [.1C42.0020.0002]
+0035 ; [.1C43.0020.0002]
+0036 ; [.1C44.0020.0002]
 0037 ; [.1C45.0020.0002]
+0038 ; [.1C46.0020.0002]
+0039 ; [.1C47.0020.0002]
 ",
     new_data: b"@data 1\n",
     changes: b"@changes 1\ntext 0032\n",
-    certificate: b"1 1C3D 1C3D 0002\n1 1C44 1C45 0001\n2 0020 0020 0001\n3 0002 0002 0001\n",
+    certificate: b"1 1C3D 1C3D 0002\n1 1C40 1C41 0007\n2 0020 0020 0001\n3 0002 0002 0001\n",
 };
+
+#[test]
+fn tables_that_do_not_order_numbers() {
+    let options = Upgrade::options().numbers(Numbers::ByValue);
+    assert_eq!(options.open(FILES).err(), Some(UpgradeError::Digits { file: UpgradeFile::OldTable, row: 0 }));
+    let table = String::from_utf8(NUMBERS.new_table.to_vec()).unwrap().replace("1C43", "1C3F");
+    let error = options.open(UpgradeFiles { new_table: table.as_bytes(), ..NUMBERS }).unwrap_err();
+    assert_eq!(error, UpgradeError::Digits { file: UpgradeFile::NewTable, row: 6 });
+    assert_eq!(error.to_string(), "new table, row 6: Digits");
+}
 
 #[test]
 fn numbers() {

@@ -10,7 +10,7 @@ use std::test::Fail;
 use test_kit::{DATA, NUMBER_TABLE, data_of, holds, repeated, same_bytes, table_of};
 use uca_key_writer::KeyMemory;
 use uca_match::{Collator, Lookup, Trie};
-use uca_number_keys::orders_numbers;
+use uca_number_keys::{UnorderedDigits, check_numbers, check_table_for};
 use uca_table::read_packed_table;
 use uca_text::TextFault;
 use uca_text_comparer::{PairFault, TextComparison};
@@ -243,18 +243,50 @@ fn orders_numbers_by_value(rt: HostRuntime) -> Result<(), Fail> {
     check_all(alloc, &Collator::new(&trie, &table.header, &data))
 }
 
-/// Whether numbers are ordered by value under a table file.
-fn check_table(alloc: Global, file: &str, wanted: bool) -> Result<(), Fail> {
+/// A part of the table, what comes in place of it, and the row to blame, or `None` if numbers are in order.
+const TABLES: [(&str, &str, Option<u32>); 9] = [
+    ("0035 ; ", "0035 ; ", None),
+    (
+        "0061 ; ",
+        "0035 0301 ; [.1C50.0020.0002]\n0061 ; ",
+        Some(11),
+    ),
+    (
+        "0061 ; ",
+        "0062 0061 0035 ; [.1C50.0020.0002]\n0061 ; ",
+        Some(11),
+    ),
+    ("[.1C42.0020.0002]", "[.1C41.0020.0002]", Some(6)),
+    ("[.1C42.0020.0002]", "[*1C42.0020.0002]", Some(6)),
+    (
+        "[.1C42.0020.0002]",
+        "[.1C42.0020.0002][.0000.0024.0002]",
+        Some(6),
+    ),
+    ("[.1C3D.0020.0002]", "[.0000.0020.0002]", Some(1)),
+    ("[.1C46.0020.0002]", "[.1C3D.0020.0002]", Some(10)),
+    ("0035 ; [.1C42.0020.0002]\n", "", Some(0)),
+];
+
+/// By which row numbers are not ordered under a table file and a data file. As text each table is taken.
+fn check_table(alloc: Global, file: &str, data: &str, wanted: Option<u32>) -> Result<(), Fail> {
     let table = read_packed_table(alloc, &mut Source::new(file.as_bytes()))?;
-    let data = data_of(alloc, &mut Source::new(DATA.as_bytes()))?;
-    holds(orders_numbers(&table, &data) == wanted, file)
+    let data = data_of(alloc, &mut Source::new(data.as_bytes()))?;
+    let found = check_numbers(&table, &data).err();
+    holds(found == wanted.map(|row| UnorderedDigits { row }), file)?;
+    holds(
+        check_table_for(Numbers::AsText, &table, &data).is_ok(),
+        file,
+    )
 }
 
 #[test]
 fn finds_tables_that_order_numbers(rt: HostRuntime) -> Result<(), Fail> {
     let alloc = rt.alloc();
-    check_table(alloc, NUMBER_TABLE, true)?;
-    // a row of a digit with an accent, so the digit has a part in another key
-    let file = format!(in alloc; "{NUMBER_TABLE}0031 0301 ; [.1C50.0020.0002]\n")?;
-    check_table(alloc, &file, false)
+    for (old, new, wanted) in TABLES {
+        let (front, back) = NUMBER_TABLE.split_once(old).ok_or("no such part")?;
+        let file = format!(in alloc; "{front}{new}{back}")?;
+        check_table(alloc, &file, DATA, wanted)?;
+    }
+    check_table(alloc, NUMBER_TABLE, "@data 1\nccc 0037..0037 9\n", Some(8))
 }

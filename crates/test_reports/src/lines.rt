@@ -494,6 +494,9 @@ fn faults_of_texts(rt: HostRuntime) -> Result<(), Fail> {
 #[test]
 fn other_faults(rt: HostRuntime) -> Result<(), Fail> {
     let alloc = rt.alloc();
+    check(alloc, &RunFault::Digits { row: 0 }, "table: Digits\n", 1)?;
+    let digits = RunFault::Digits { row: 34_200 };
+    check(alloc, &digits, "table row 34200: Digits\n", 1)?;
     let write = RunFault::Write { written: 7 };
     check(alloc, &write, "output: Write\n", 3)?;
     let certificate = RunFault::CertificateWrite { written: 7 };

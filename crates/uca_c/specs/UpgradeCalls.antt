@@ -44,7 +44,7 @@ pub record AsksUpgrade (weighting depth : ℕ) (files : UpgradeFiles) (asked : A
 abbrev pub IsUpgradeOpenStatus : ℕ → ℕ → UpgradeFiles → UpgradeError → ℕ → Type 0
 IsUpgradeOpenStatus weighting depth files error status =
     ((status ≡ ARGUMENT) × (asked_of weighting depth ≡ None) × (error ≡ no_error))
-    ⊎ TellsUpgrade (IsUpgradeCause files) error status
+    ⊎ ((asked : Asked) × (asked_of weighting depth ≡ Some asked) × TellsUpgrade (IsUpgradeCause asked.numbers files) error status)
 
 -- ---- Calls
 

@@ -8,7 +8,7 @@ use Rattle.uca_changes.specs.Changes.{number_of}
 use Rattle.uca_changes.specs.declared.faults.ChangePlace.{ChangePlace}
 use Rattle.uca_changes.specs.declared.faults.ChangePlace.TheVariants.{OldRow, NewRow, CodePoint, Nowhere}
 use Rattle.uca_upgrade.specs.declared.faults.UpgradeFault.{UpgradeFault}
-use Rattle.uca_upgrade.specs.declared.faults.UpgradeFault.TheVariants.{OldTable, OldData, NewTable, NewData, Changes, Certificate, NotMet, Memory}
+use Rattle.uca_upgrade.specs.declared.faults.UpgradeFault.TheVariants.{OldTable, OldData, NewTable, NewData, Changes, Certificate, OldDigits, NewDigits, NotMet, Memory}
 use Rattle.uca_c.specs.Numbers.{kind_number}
 use Rattle.uca_c.specs.Statuses.{IsErrorStatus}
 use Rattle.uca_c.specs.declared.statuses.TheConstants as statuses
@@ -49,7 +49,7 @@ place_number (CodePoint point) = point
 abbrev pub no_error : UpgradeError
 no_error = record { file = 0; line = 0; kind = 0; condition = 0; place = 0; number = 0 }
 
--- in a file, counted from 1
+-- in a file, counted from 1: a line and a kind, or a row of a table and 0
 abbrev pub error_in : (file line kind : ℕ) → UpgradeError
 error_in file line kind = record { file = file; line = line; kind = kind; condition = 0; place = 0; number = 0 }
 
@@ -60,11 +60,15 @@ upgrade_error (NewTable fault) = error_in 3 fault.line (kind_number fault.kind)
 upgrade_error (NewData fault) = error_in 4 fault.line (kind_number fault.kind)
 upgrade_error (Changes fault) = error_in 5 fault.line (kind_number fault.kind)
 upgrade_error (Certificate fault) = error_in 6 fault.line (certificate_kind_number fault.kind)
+upgrade_error (OldDigits row) = error_in 1 row 0
+upgrade_error (NewDigits row) = error_in 3 row 0
 upgrade_error (NotMet condition place) =
     record { file = 0; line = 0; kind = 0; condition = number_of condition; place = place_kind place; number = place_number place }
 upgrade_error Memory = no_error
 
 abbrev pub upgrade_status : UpgradeFault → ℕ
+upgrade_status (OldDigits row) = statuses.DIGITS
+upgrade_status (NewDigits row) = statuses.DIGITS
 upgrade_status (NotMet condition place) = statuses.NOT_MET
 upgrade_status Memory = statuses.MEMORY
 upgrade_status _ = statuses.FILE

@@ -40,7 +40,7 @@ pub extern "C" fn uca_open_compact(
     ensures only { (asked : Asked) (meant : TableContent) (properties : Properties) (content : BookContent) →
         collator.old.full ≡ false → Asks weighting depth table.now data_file.now asked meant properties → books.Means book.now content →
         ((result ≡ OK) × (keying_at collator.new.handle.kept ≡ keying asked meant properties) × (collator.new.handle.kept.book ≡ Some content))
-        ⊎ IsCompactStopStatus result error.new.kind }
+        ⊎ IsCompactStopStatus asked meant properties error.new.line error.new.kind result }
     ensures no_error { (result ≡ OK) ⊎ (result ≡ ALREADY_OPEN) → IsNoFileError error.new.line error.new.kind }
     ensures rejected { result ≢ OK → result ≢ ALREADY_OPEN →
         IsCompactOpenStatus weighting depth table.now data_file.now book.now error.new.line error.new.kind result }

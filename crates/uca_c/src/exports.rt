@@ -9,7 +9,7 @@ ghost use Rattle.uca_order.specs.Keyings.{keying, bytes_compared};
 ghost use Rattle.uca_owned.specs.Opening.{fingerprint_by};
 ghost use Rattle.uca_c.specs.Numbers.{order_number};
 ghost use Rattle.uca_c.specs.OpenCollators.{keying_at, key_by};
-ghost use Rattle.uca_c.specs.Opened.{Asks, FingerprintsBy, OpensBy, IsNoFileError, IsOpenStatus, IsStopStatus};
+ghost use Rattle.uca_c.specs.Opened.{Asks, FingerprintsBy, OpensBy, IsNoFileError, IsReadStatus, IsOpenStatus, IsStopStatus, IsOpenStopStatus};
 ghost use Rattle.uca_c.specs.Results.{WritesKey, IsTooSmall, IsComparison, IsOrderNumber};
 ghost use Rattle.uca_c.specs.Statuses.{IsKeyStatus, IsCompareStatus};
 
@@ -67,7 +67,8 @@ pub extern "C" fn uca_open(
     ensures same { result ≢ OK → collator.new ≡ collator.old }
     ensures only { (asked : Asked) (meant : TableContent) (properties : Properties) → collator.old.full ≡ false →
         Asks weighting depth table.now data_file.now asked meant properties →
-        ((result ≡ OK) × (keying_at collator.new.handle.kept ≡ keying asked meant properties)) ⊎ IsStopStatus result error.new.kind }
+        ((result ≡ OK) × (keying_at collator.new.handle.kept ≡ keying asked meant properties))
+        ⊎ IsOpenStopStatus asked meant properties error.new.line error.new.kind result }
     ensures no_error { (result ≡ OK) ⊎ (result ≡ ALREADY_OPEN) → IsNoFileError error.new.line error.new.kind }
     ensures rejected { result ≢ OK → result ≢ ALREADY_OPEN →
         IsOpenStatus weighting depth table.now data_file.now error.new.line error.new.kind result }
@@ -405,7 +406,7 @@ pub extern "C" fn uca_fingerprint(
         ((result ≡ OK) × (out.new ≡ fingerprint_by (keying asked meant properties) table.now data_file.now)) ⊎ IsStopStatus result error.new.kind }
     ensures unwritten { result ≢ OK → out.new ≡ out.old }
     ensures no_error { result ≡ OK → IsNoFileError error.new.line error.new.kind }
-    ensures rejected { result ≢ OK → IsOpenStatus weighting depth table.now data_file.now error.new.line error.new.kind result }
+    ensures rejected { result ≢ OK → IsReadStatus weighting depth table.now data_file.now error.new.line error.new.kind result }
 {
     match opening::fingerprint(alloc, table, data_file, weighting, depth, error) {
         Ok(sum) => {

@@ -11,13 +11,13 @@ ghost use Rattle.uca_owned.specs.Opening.{fingerprint_by};
 ghost use Rattle.uca_owned.specs.Owned.{keying_in};
 ghost use Rattle.uca_c.specs.Numbers.{kind_number};
 ghost use Rattle.uca_c.specs.OpenCollators.{keying_at};
-ghost use Rattle.uca_c.specs.Opened.{Asks, FingerprintsBy, OpensBy, IsNoFileError, IsOpenStatus, IsStopStatus, TellsFault};
+ghost use Rattle.uca_c.specs.Opened.{Asks, FingerprintsBy, OpensBy, IsNoFileError, IsReadStatus, IsOpenStatus, IsStopStatus, IsOpenStopStatus, TellsFault};
 ghost use Rattle.uca_c.specs.Opened.{HasBook, RejectsBook, IsCompactOpenStatus, IsCompactStopStatus};
 
 use crate::kept::keep;
 use crate::numbers::{asked_settings, number_of_kind};
 use crate::open_collator::OpenCollator;
-use crate::statuses::{ARGUMENT, BOOK, DATA, MEMORY, TABLE};
+use crate::statuses::{ARGUMENT, BOOK, DATA, DIGITS, MEMORY, TABLE};
 use crate::structs::FileError;
 use std::alloc::Global;
 use uca_books::{Book, read_book};
@@ -48,6 +48,10 @@ fn tell(fault: OpenFault, error: &mut FileError) -> u32
             *error = file_error(fault);
             DATA
         }
+        OpenFault::Digits { row } => {
+            *error = FileError { line: row, kind: 0 };
+            DIGITS
+        }
         OpenFault::Memory => {
             *error = FileError { line: 0, kind: 0 };
             MEMORY
@@ -67,7 +71,7 @@ fn open_texts(
     ensures found { IfOk result (λ collator. OpensBy weighting depth table.now data_file.now (keying_in collator)) }
     ensures only { (asked : Asked) (meant : TableContent) (properties : Properties) →
         Asks weighting depth table.now data_file.now asked meant properties →
-        MatchResult result (λ collator. keying_in collator ≡ keying asked meant properties) (λ status. IsStopStatus status error.new.kind) }
+        MatchResult result (λ collator. keying_in collator ≡ keying asked meant properties) (IsOpenStopStatus asked meant properties error.new.line error.new.kind) }
     ensures no_error { OnOk result (IsNoFileError error.new.line error.new.kind) }
     ensures rejected { IfErr result (IsOpenStatus weighting depth table.now data_file.now error.new.line error.new.kind) }
 {
@@ -106,7 +110,7 @@ pub fn open(
     ensures book { IfOk result (λ kept. kept.value.book ≡ None) }
     ensures only { (asked : Asked) (meant : TableContent) (properties : Properties) →
         Asks weighting depth table.now data_file.now asked meant properties →
-        MatchResult result (λ kept. keying_at kept.value ≡ keying asked meant properties) (λ status. IsStopStatus status error.new.kind) }
+        MatchResult result (λ kept. keying_at kept.value ≡ keying asked meant properties) (IsOpenStopStatus asked meant properties error.new.line error.new.kind) }
     ensures no_error { OnOk result (IsNoFileError error.new.line error.new.kind) }
     ensures rejected { IfErr result (IsOpenStatus weighting depth table.now data_file.now error.new.line error.new.kind) }
 {
@@ -131,7 +135,7 @@ pub fn open_compact(
     ensures only { (asked : Asked) (meant : TableContent) (properties : Properties) (content : BookContent) →
         Asks weighting depth table.now data_file.now asked meant properties → books.Means book.now content →
         MatchResult result (λ kept. (keying_at kept.value ≡ keying asked meant properties) × (kept.value.book ≡ Some content))
-        (λ status. IsCompactStopStatus status error.new.kind) }
+        (IsCompactStopStatus asked meant properties error.new.line error.new.kind) }
     ensures no_error { OnOk result (IsNoFileError error.new.line error.new.kind) }
     ensures rejected { IfErr result (IsCompactOpenStatus weighting depth table.now data_file.now book.now error.new.line error.new.kind) }
 {
@@ -175,7 +179,7 @@ pub fn fingerprint(
         MatchResult result (λ sum. sum ≡ fingerprint_by (keying asked meant properties) table.now data_file.now)
         (λ status. IsStopStatus status error.new.kind) }
     ensures no_error { OnOk result (IsNoFileError error.new.line error.new.kind) }
-    ensures rejected { IfErr result (IsOpenStatus weighting depth table.now data_file.now error.new.line error.new.kind) }
+    ensures rejected { IfErr result (IsReadStatus weighting depth table.now data_file.now error.new.line error.new.kind) }
 {
     *error = FileError { line: 0, kind: 0 };
     let Some(asked) = asked_settings(weighting, depth) else {

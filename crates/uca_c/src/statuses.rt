@@ -57,6 +57,9 @@ pub const NOT_MET: u32 = 15;
 /// A weight of a key has no image under an upgrade.
 pub const NO_IMAGE: u32 = 16;
 
+/// Numbers are to be ordered by value, and a table does not order them.
+pub const DIGITS: u32 = 17;
+
 // The status of a text that is rejected.
 pub fn status_of_text(fault: KeyFault) -> u32
     ensures { result ≡ key_status fault }

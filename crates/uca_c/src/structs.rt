@@ -10,7 +10,8 @@ use std::cmp::Ordering;
 #[repr(C)]
 #[derive(Clone, Copy, Debug, Drop)]
 pub struct FileError {
-    /// The line, counted from 1, or 0 if no file is rejected.
+    /// The line, counted from 1, or 0 if no file is rejected. With the status `DIGITS` it is the row of the table to blame,
+    /// counted from 1, or 0 if a digit has no row.
     pub line: u32,
     /// 1 `Line`, 2 `Order`, 3 `CodePoint`, 4 `Weight`, 5 `DuplicateKey`, 6 `Range`, 7 `Limit`, 8 `Read`, 9 `Memory`, or 0.
     pub kind: u32,
@@ -23,7 +24,7 @@ pub struct UpgradeError {
     /// The file: 1 the old table, 2 its data file, 3 the new table, 4 its data file, 5 the file of changes,
     /// 6 the certificate.
     pub file: u32,
-    /// Its line, counted from 1.
+    /// Its line, counted from 1. With the status `DIGITS` it is the row of the table to blame, or 0 if a digit has no row.
     pub line: u32,
     /// The kind, as in a `FileError`; of a certificate also 10 `Map Empty`, 11 `Map NotRising`, 12 `Map OutOfRange`,
     /// 13 `Map Fixed`.

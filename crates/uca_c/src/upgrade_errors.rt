@@ -7,7 +7,7 @@ ghost use Rattle.uca_c.specs.UpgradeErrors.{map_kind_number, certificate_kind_nu
 ghost use Rattle.uca_c.specs.UpgradeErrors.{error_in, no_error, upgrade_error, upgrade_status};
 
 use crate::numbers::number_of_kind;
-use crate::statuses::{FILE, MEMORY, NOT_MET};
+use crate::statuses::{DIGITS, FILE, MEMORY, NOT_MET};
 use crate::structs::UpgradeError;
 use uca_certificates::CertificateFaultKind;
 use uca_changes::{ChangeCondition, ChangePlace};
@@ -125,6 +125,8 @@ fn error_of(fault: UpgradeFault) -> UpgradeError
         UpgradeFault::Certificate(fault) => {
             error_at(6, fault.line, number_of_certificate_kind(fault.kind))
         }
+        UpgradeFault::OldDigits { row } => error_at(1, row, 0),
+        UpgradeFault::NewDigits { row } => error_at(3, row, 0),
         UpgradeFault::NotMet(condition, place) => error_of_audit(condition, place),
         UpgradeFault::Memory => nothing(),
     }
@@ -134,6 +136,7 @@ fn status_of(fault: UpgradeFault) -> u32
     ensures { result ≡ upgrade_status fault }
 {
     match fault {
+        UpgradeFault::OldDigits { .. } | UpgradeFault::NewDigits { .. } => DIGITS,
         UpgradeFault::NotMet(_, _) => NOT_MET,
         UpgradeFault::Memory => MEMORY,
         _ => FILE,

@@ -49,7 +49,7 @@ pub extern "C" fn uca_open_upgrade(
     ensures same { result ≢ OK → upgrade.new ≡ upgrade.old }
     ensures only { let files = files_of old_table.entry old_data.entry new_table.entry new_data.entry changes.entry certificate.entry in
         (asked : Asked) (change : Change) → upgrade.old.full ≡ false → AsksUpgrade weighting depth files asked change →
-        ((result ≡ OK) × IsUpgradeOf files change asked upgrade.new.handle.kept) ⊎ TellsUpgrade (IsUpgradeStop change) error.new result }
+        ((result ≡ OK) × IsUpgradeOf files change asked upgrade.new.handle.kept) ⊎ TellsUpgrade (IsUpgradeStop asked.numbers change) error.new result }
     ensures no_error { (result ≡ OK) ⊎ (result ≡ ALREADY_OPEN) → error.new ≡ no_error }
     ensures rejected { let files = files_of old_table.entry old_data.entry new_table.entry new_data.entry changes.entry certificate.entry in
         result ≢ OK → result ≢ ALREADY_OPEN → IsUpgradeOpenStatus weighting depth files error.new result }

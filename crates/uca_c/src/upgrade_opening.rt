@@ -27,7 +27,7 @@ fn open_files(
 ) -> Result<OwnedUpgrade, u32>
     ensures found { IfOk result (OpensUpgradeBy weighting depth files.now) }
     ensures only { (asked : Asked) (change : Change) → AsksUpgrade weighting depth files.now asked change →
-        MatchResult result (IsUpgradeOf files.now change asked) (TellsUpgrade (IsUpgradeStop change) error.new) }
+        MatchResult result (IsUpgradeOf files.now change asked) (TellsUpgrade (IsUpgradeStop asked.numbers change) error.new) }
     ensures no_error { OnOk result (error.new ≡ no_error) }
     ensures rejected { IfErr result (IsUpgradeOpenStatus weighting depth files.now error.new) }
 {
@@ -51,7 +51,7 @@ pub fn open(
 ) -> Result<Box<OpenUpgrade>, u32>
     ensures found { IfOk result (λ kept. OpensUpgradeBy weighting depth files.now kept.value) }
     ensures only { (asked : Asked) (change : Change) → AsksUpgrade weighting depth files.now asked change →
-        MatchResult result (λ kept. IsUpgradeOf files.now change asked kept.value) (TellsUpgrade (IsUpgradeStop change) error.new) }
+        MatchResult result (λ kept. IsUpgradeOf files.now change asked kept.value) (TellsUpgrade (IsUpgradeStop asked.numbers change) error.new) }
     ensures no_error { OnOk result (error.new ≡ no_error) }
     ensures rejected { IfErr result (IsUpgradeOpenStatus weighting depth files.now error.new) }
 {

@@ -18,7 +18,7 @@ use Rattle.uca_run_parts.specs.declared.faults.StoredKeyKind.TheVariants as stor
 use Rattle.uca_run_parts.specs.declared.faults.FileFault.{FileFault}
 use Rattle.uca_run_parts.specs.declared.faults.FileFault.TheVariants.{Lines, Rules, RulesRead, RulesMemory, Certificate}
 use Rattle.uca_run_parts.specs.declared.faults.RunFault.{RunFault}
-use Rattle.uca_run_parts.specs.declared.faults.RunFault.TheVariants.{File, Input, StoredKey, Write, Memory, Text, Tailor, Changes, CertificateWrite, Open, SameAs, Words}
+use Rattle.uca_run_parts.specs.declared.faults.RunFault.TheVariants.{File, Digits, Input, StoredKey, Write, Memory, Text, Tailor, Changes, CertificateWrite, Open, SameAs, Words}
 use Rattle.uca_changes.specs.declared.faults.ChangeFault.{ChangeFault}
 use Rattle.uca_changes.specs.declared.faults.ChangeFault.TheVariants as change_faults
 use Rattle.uca_plans.specs.declared.faults.TailorKind.{TailorKind}
@@ -93,6 +93,7 @@ IsWordStatus (words.Refused error) status = IsRefusalStatus (kind_of error) stat
 -- the status of an error
 abbrev pub IsStatus : RunFault → ℕ → Type 0
 IsStatus (File role fault) status = status ≡ file_status fault
+IsStatus (Digits row) status = status ≡ 1
 IsStatus (Input line kind) status = status ≡ input_status kind
 IsStatus (StoredKey line kind) status = status ≡ stored_key_status kind
 IsStatus (Write written) status = status ≡ 3

@@ -205,6 +205,7 @@ pub fn report<W: Write, E: Write>(
 {
     match fault {
         RunFault::File { fault: file, .. } => write_line(fault, status_of_file(*file), err),
+        RunFault::Digits { .. } => write_line(fault, REFUSED, err),
         RunFault::Input { kind, .. } => write_line(fault, status_of_input(*kind), err),
         RunFault::StoredKey { kind, .. } => write_line(fault, status_of_stored_key(*kind), err),
         RunFault::Write { .. } => write_line(fault, STREAM_FAILED, err),

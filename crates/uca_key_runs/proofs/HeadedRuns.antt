@@ -16,11 +16,12 @@ use Rattle.uca_fingerprint.specs.KeyHeaders.{compact_header, key_header}
 use Rattle.uca_books.specs.Books.{BookContent}
 use Rattle.uca_lines.specs.Lines.{ended, lines_of}
 use Rattle.uca_run_parts.specs.declared.faults.RunFault.{RunFault}
-use Rattle.uca_run_parts.specs.declared.faults.RunFault.TheVariants.{Input, Memory, Write}
+use Rattle.uca_run_parts.specs.declared.faults.RunFault.TheVariants.{Digits, Input, Memory, Write}
 use Rattle.uca_run_parts.proofs.FilesLemmas.{stays}
 use Rattle.uca_run_parts.specs.EachLine.{WritesEach, ended_before_input}
 use Rattle.uca_run_parts.specs.Input.{clean_lines}
 use Rattle.uca_run_parts.specs.Runs.{FailsToWrite, ended_by_output, is_input_read}
+use Rattle.uca_number_keys.specs.Tables.{TakesTable}
 use Rattle.uca_fingerprint_runs.specs.SummedFiles.{BookedContent, SummedContent}
 use Rattle.uca_order.specs.Keyings.{Keying, keying, text_of}
 use Rattle.uca_key_runs.specs.inside.HeadedParts.{ended_after}
@@ -105,12 +106,13 @@ module _ (header : List ℕ) (read_of : List ℕ → NfdText) (bytes_of : List �
 
 -- a run that ended by its lines lacked no memory for rows
 pub headed_under : {A : Type 0} (bytes_of : Keying → List ℕ → List ℕ) (asked : Asked) (input input_new : SourceState) (out out_new : SinkState)
-    (result : Result A RunFault) (files : SummedContent) → ended_before_input result ≡ false
+    (result : Result A RunFault) (files : SummedContent) → TakesTable asked.numbers files.table files.properties → ended_before_input result ≡ false
     → IfSome input.remaining (λ bytes. WritesHeaded (header_under asked files) (text_of (keying asked files.table files.properties)) (bytes_of (keying asked files.table files.properties)) bytes input_new.remaining out.contents out_new.contents result)
     → RunsHeaded bytes_of asked input input_new out out_new result files
-headed_under bytes_of asked input input_new out out_new (Ok x) files lines runs = runs
-headed_under bytes_of asked input input_new out out_new (Err Memory) files lines runs = let never : ⊥ = cc in absurd never
-headed_under bytes_of asked input input_new out out_new (Err _) files lines runs = runs
+headed_under bytes_of asked input input_new out out_new (Ok x) files takes lines runs = (takes, runs)
+headed_under bytes_of asked input input_new out out_new (Err (Digits row)) files takes lines runs = let never : ⊥ = cc in absurd never
+headed_under bytes_of asked input input_new out out_new (Err Memory) files takes lines runs = let never : ⊥ = cc in absurd never
+headed_under bytes_of asked input input_new out out_new (Err _) files takes lines runs = (takes, runs)
 
 -- the header that is made of the sums of the files
 pub header_made : (asked : Asked) (settings : Settings) (files : SummedContent) (sum header : List ℕ)
@@ -124,13 +126,15 @@ header_made asked settings files sum header chosen is made =
 
 -- so did one of compact keys
 pub headed_compact_under : {A : Type 0} (bytes_of : BookContent → Keying → List ℕ → List ℕ) (asked : Asked) (input input_new : SourceState)
-    (out out_new : SinkState) (result : Result A RunFault) (content : BookedContent) → ended_before_input result ≡ false
+    (out out_new : SinkState) (result : Result A RunFault) (content : BookedContent) → TakesTable asked.numbers content.files.table content.files.properties
+    → ended_before_input result ≡ false
     → IfSome input.remaining (λ bytes. WritesHeaded (compact_header_under asked content) (text_of (keying asked content.files.table content.files.properties))
     (bytes_of content.book (keying asked content.files.table content.files.properties)) bytes input_new.remaining out.contents out_new.contents result)
     → RunsHeadedCompact bytes_of asked input input_new out out_new result content
-headed_compact_under bytes_of asked input input_new out out_new (Ok x) content lines runs = runs
-headed_compact_under bytes_of asked input input_new out out_new (Err Memory) content lines runs = let never : ⊥ = cc in absurd never
-headed_compact_under bytes_of asked input input_new out out_new (Err _) content lines runs = runs
+headed_compact_under bytes_of asked input input_new out out_new (Ok x) content takes lines runs = (takes, runs)
+headed_compact_under bytes_of asked input input_new out out_new (Err (Digits row)) content takes lines runs = let never : ⊥ = cc in absurd never
+headed_compact_under bytes_of asked input input_new out out_new (Err Memory) content takes lines runs = let never : ⊥ = cc in absurd never
+headed_compact_under bytes_of asked input input_new out out_new (Err _) content takes lines runs = (takes, runs)
 
 -- the header that is made of the sums of the files and of the book
 pub compact_header_made : (asked : Asked) (settings : Settings) (content : BookedContent) (keys_sum sum header : List ℕ)

@@ -2,12 +2,14 @@ pub mod Keyings
 pub mod Rows
 pub mod KeyLines
 pub mod LineLaws
+pub mod NumberLines
 pub mod NormalLines
 pub mod UntouchedLines
 pub mod OneOrder
 pub mod KeyRuns
 pub mod Comparing
 pub mod HeadedRuns
+pub mod SortRuns
 pub mod KeptText
 pub mod KeyOrdering
 pub mod Prefixes

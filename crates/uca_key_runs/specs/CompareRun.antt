@@ -13,6 +13,7 @@ use Rattle.uca_run_parts.specs.declared.faults.RunFault.TheVariants.{Write, Memo
 use Rattle.uca_run_parts.specs.Files.{TableAndData, Over, HaveFailed, table_and_data, table_and_data_roles}
 use Rattle.uca_run_parts.specs.Runs.{PartWentOut, ended_before_output, ended_by_output}
 use Rattle.uca_order.specs.Keyings.{Keying, keying, bytes_compared, text_of}
+use Rattle.uca_key_runs.specs.Keys.{IfTaken}
 
 -- `<`, `=` or `>`
 abbrev pub sign_of : Ordering → ℕ
@@ -33,11 +34,16 @@ WritesComparison c left right begun now (Err (Text true fault)) = IsAccepted (te
 WritesComparison c left right begun now (Err (Write written)) = IsAccepted (text_of c left) × IsAccepted (text_of c right) × PartWentOut begun now (comparison_line (bytes_compared c left right)) written
 WritesComparison c left right begun now (Err _) = ⊥
 
--- What a run of compare returns under a table and properties. An allocation that failed for looking up rows says
+-- What is written under a table and properties that are taken. An allocation that failed for looking up rows says
 -- nothing of the texts, and nothing was written.
+abbrev pub WritesCompared : {A : Type 0} → Asked → List ℕ → List ℕ → SinkState → SinkState → Result A RunFault → TableAndData → Type 0
+WritesCompared asked left right out out_new (Err Memory) files = out_new ≡ out
+WritesCompared asked left right out out_new result files = WritesComparison (keying asked files.table files.properties) left right out.contents out_new.contents result
+
+-- What a run of compare returns under a table and properties.
 abbrev pub RunsCompare : {A : Type 0} → Asked → List ℕ → List ℕ → SinkState → SinkState → Result A RunFault → TableAndData → Type 0
-RunsCompare asked left right out out_new (Err Memory) files = out_new ≡ out
-RunsCompare asked left right out out_new result files = WritesComparison (keying asked files.table files.properties) left right out.contents out_new.contents result
+RunsCompare asked left right out out_new result files =
+    IfTaken asked.numbers files result (WritesCompared asked left right out out_new result files)
 
 -- what a run of compare uses: the settings that are asked for, and the two texts
 pub record Comparing : Type 0 where

@@ -12,12 +12,12 @@ use Rattle.uca_order.specs.Keyings.{Keying, keying, text_of}
 use Rattle.uca_run_parts.specs.declared.faults.RunFault.{RunFault}
 use Rattle.uca_run_parts.specs.declared.faults.RunFault.TheVariants.{Input, Memory, Write}
 use Rattle.uca_run_parts.specs.EachLine.{PrintsEach}
-use Rattle.uca_run_parts.specs.Files.{table_and_data_roles}
+use Rattle.uca_run_parts.specs.Files.{table_and_data_roles, table_with}
 use Rattle.uca_run_parts.specs.Input.{clean_lines}
 use Rattle.uca_run_parts.specs.Runs.{IsClean, IsInputFault, PartWentOut}
 use Rattle.uca_fingerprint_runs.specs.FingerprintRun.{fingerprint_under}
 use Rattle.uca_fingerprint_runs.specs.SummedFiles.{SummedContent, summed_files}
-use Rattle.uca_key_runs.specs.Keys.{keyed_line, printed_key}
+use Rattle.uca_key_runs.specs.Keys.{IfTaken, keyed_line, printed_key}
 
 -- The header of a run, with its LF. It has the weighting that is asked for, or else the table's, or else shifted. It has the
 -- depth, and the fingerprint of both with the two files.
@@ -36,12 +36,17 @@ WritesHeaded header read_of bytes_of bytes left begun now (Err (Input number kin
 WritesHeaded header read_of bytes_of bytes left begun now (Err (Write written)) = CountedPartWentOut begun now (header ++ flat_map bytes_of (clean_lines read_of (lines_of bytes))) written
 WritesHeaded header read_of bytes_of bytes left begun now (Err _) = ⊥
 
--- What a run returns under files that were summed, if it writes these bytes for a line. An allocation that failed for looking
--- up rows says nothing of the lines.
-abbrev pub RunsHeaded : {A : Type 0} → (Keying → List ℕ → List ℕ) → Asked → SourceState → SourceState → SinkState → SinkState → Result A RunFault → SummedContent → Type 0
-RunsHeaded bytes_of asked input input_new out out_new (Err Memory) files = ⊤
-RunsHeaded bytes_of asked input input_new out out_new result files = let c = keying asked files.table files.properties in
+-- What is written under files that were summed and are taken, with these bytes for a line. An allocation that failed for
+-- looking up rows says nothing of the lines.
+abbrev pub WritesSummed : {A : Type 0} → (Keying → List ℕ → List ℕ) → Asked → SourceState → SourceState → SinkState → SinkState → Result A RunFault → SummedContent → Type 0
+WritesSummed bytes_of asked input input_new out out_new (Err Memory) files = ⊤
+WritesSummed bytes_of asked input input_new out out_new result files = let c = keying asked files.table files.properties in
     IfSome input.remaining (λ bytes. WritesHeaded (header_under asked files) (text_of c) (bytes_of c) bytes input_new.remaining out.contents out_new.contents result)
+
+-- What a run returns under files that were summed, if it writes these bytes for a line.
+abbrev pub RunsHeaded : {A : Type 0} → (Keying → List ℕ → List ℕ) → Asked → SourceState → SourceState → SinkState → SinkState → Result A RunFault → SummedContent → Type 0
+RunsHeaded bytes_of asked input input_new out out_new result files =
+    IfTaken asked.numbers (table_with files.table files.properties) result (WritesSummed bytes_of asked input input_new out out_new result files)
 
 -- A run of keys with a header.
 abbrev pub PrintsHeadedKeys : {A : Type 0} → Asked → List SourceState → List SourceState → SourceState → SourceState → SinkState → SinkState → Result A RunFault → Type 0

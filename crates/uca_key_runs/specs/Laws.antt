@@ -1,11 +1,19 @@
 -- What is true of lines and their keys in all runs.
-use Rattle.std.specs.Prelude.{◌≡◌, ◌↔◌, ℕ, List, None, chars}
+use Rattle.std.specs.Prelude.{◌≡◌, ◌≢◌, ◌↔◌, ◌++◌, ℕ, List, None, chars}
+use Rattle.std.specs.Ordering.{nat_cmp}
+use Rattle.std.specs.declared.cmp.Ordering.{Ordering}
+use Rattle.unicode_normalization.specs.Forms.{nfd}
 use Rattle.uca_weights.specs.declared.Asked.{Asked}
 use Rattle.uca_weights.specs.declared.Depth.TheVariants.{Identical}
 use Rattle.uca_weights.specs.declared.Numbers.{Numbers}
+use Rattle.uca_weights.specs.declared.Numbers.TheVariants.{ByValue}
+use Rattle.uca_values.specs.Content.{TableContent, Properties}
 use Rattle.uca_text.specs.Texts.{AreCanonicallyEquivalent}
 use Rattle.uca_relations.specs.Relations.{IsUntouched}
 use Rattle.uca_order.specs.Levels.{lexicographic}
+use Rattle.uca_numbers.specs.Numbers.{value}
+use Rattle.uca_number_keys.specs.Tables.{TakesTable}
+use Rattle.uca_number_keys.specs.Laws.{HaveNumbers}
 use Rattle.uca_tailorings.specs.Images.{KeepAllWeights}
 use Rattle.uca_tailorings.specs.Tailorings.{Tailoring, IsTailoring, IsAccepted}
 use Rattle.uca_run_parts.specs.Input.{cause_of, line_text}
@@ -70,3 +78,23 @@ pub record UntouchedLinesStay (tailoring : Tailoring) (asked : Asked) : Type 0 w
 abbrev pub UntouchedLinesKeepTheirOrder : Type 0
 UntouchedLinesKeepTheirOrder = (tailoring : Tailoring) → IsTailoring tailoring → IsAccepted tailoring →
     (asked : Asked) → UntouchedLinesStay tailoring asked
+
+-- ---- Lines with numbers
+
+-- Two lines have a number each in their Normalization Form D. What comes before the numbers does not differ at level 1.
+pub record HaveNumbersInLines (c : Keying) (left right front a rest other b more : List ℕ) : Type 0 where
+  pub left_text : nfd (chars left) ≡ front ++ (a ++ rest)
+  pub right_text : nfd (chars right) ≡ other ++ (b ++ more)
+  pub numbers : HaveNumbers c.collation c.settings.weighting front a rest other b more
+
+-- the lines differ at level 1, and the bytes of their keys have the same order
+pub record DifferAtFirst (c : Keying) (left right : List ℕ) (order : Ordering) : Type 0 where
+  pub compared : bytes_compared c left right ≡ record { order = order; level = 1 }
+  pub keys : lexicographic (key_of_bytes c left) (key_of_bytes c right) ≡ order
+
+-- If numbers are to be ordered by value and a run takes the table, such lines have the order of the values.
+abbrev pub NumbersOrderLines : Type 0
+NumbersOrderLines = (asked : Asked) (table : TableContent) (properties : Properties) (left right front a rest other b more : List ℕ) →
+    asked.numbers ≡ ByValue → TakesTable asked.numbers table properties →
+    HaveNumbersInLines (keying asked table properties) left right front a rest other b more → value a ≢ value b →
+    DifferAtFirst (keying asked table properties) left right (nat_cmp (value a) (value b))

@@ -1,3 +1,4 @@
+pub mod Collations
 pub mod CompactParts
 pub mod HeadedParts
 pub mod KeptLines

@@ -8,6 +8,7 @@ ghost use Rattle.uca_order.specs.Lengths.{HasShortRows};
 ghost use Rattle.uca_run_parts.specs.Files.{HaveFailed, Over, table_and_data, table_and_data_roles, table_with};
 ghost use Rattle.uca_run_parts.specs.EachLine.{ended_before_input};
 ghost use Rattle.uca_key_runs.specs.Keys.{IsCollation};
+ghost use Rattle.uca_key_runs.specs.inside.Collations.{IsNoCollation};
 
 pub(crate) mod packed_files;
 
@@ -16,6 +17,7 @@ use std::alloc::{Allocator, Global};
 use std::io::Read;
 use uca_elements::Lookup;
 use uca_match::{OwnedCollation, Trie};
+use uca_number_keys::check_table_for;
 use uca_order::laws::rows_are_short;
 use uca_run_parts::RunFault;
 use uca_values::{Data, Header, PackedTable};
@@ -35,7 +37,7 @@ pub(crate) struct ReadCollation<A: Allocator = Global> {
 ///
 /// # Errors
 ///
-/// `File` if the table, or else the data file, is rejected; then `Memory` if an allocation fails for the rows.
+/// `File` if the table, or else the data file, is rejected. Then those of `collation_of`.
 pub(crate) fn read_collation<A: Allocator + Copy, T: Read, D: Read>(
     alloc: A,
     table: &mut Source<T>,
@@ -45,7 +47,7 @@ pub(crate) fn read_collation<A: Allocator + Copy, T: Read, D: Read>(
     ensures read { Over table_and_data (table.old ∷ properties.old ∷ []) (table.new ∷ properties.new ∷ [])
         (λ content. MatchResult result
         (λ read. IsCollation asked (owned_collation read.collation) read.settings content)
-        (λ fault. fault ≡ RunFault.Memory)) result }
+        (IsNoCollation asked content)) result }
     ensures short { IfOk result (λ read. HasShortRows (owned_collation read.collation).rows) }
     ensures before_input { IfErr result (λ _. ended_before_input result ≡ true) }
     ensures failed { HaveFailed table_and_data_roles (table.old ∷ properties.old ∷ [])
@@ -62,7 +64,8 @@ pub(crate) fn read_collation<A: Allocator + Copy, T: Read, D: Read>(
 ///
 /// # Errors
 ///
-/// `Memory` if an allocation fails for the rows.
+/// `Digits` if numbers are to be ordered by value, and the table does not order them. Then `Memory` if an allocation fails
+/// for the rows.
 pub(crate) fn collation_of<A: Allocator + Copy>(
     alloc: A,
     table: PackedTable<A>,
@@ -72,8 +75,13 @@ pub(crate) fn collation_of<A: Allocator + Copy>(
     ensures made { IfOk result (λ read. IsCollation asked (owned_collation read.collation) read.settings
         (table_with table (properties_of properties))) }
     ensures short { IfOk result (λ read. HasShortRows (owned_collation read.collation).rows) }
-    ensures refused { IfErr result (λ fault. fault ≡ RunFault.Memory) }
+    ensures refused { IfErr result (IsNoCollation asked (table_with table (properties_of properties))) }
 {
+    if let Err(fault) = check_table_for(asked.numbers, &table, &properties) {
+        drop(table);
+        drop(properties);
+        return Err(RunFault::Digits { row: fault.row });
+    }
     match rows_of_table(alloc, table) {
         Ok((header, rows)) => Ok(ReadCollation {
             settings: asked.settings(header.setting),

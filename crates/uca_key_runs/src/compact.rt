@@ -5,9 +5,10 @@ ghost use Rattle.uca_values.specs.Content.{properties_of};
 ghost use Rattle.uca_match.specs.OwnedCollations.{owned_collation};
 ghost use Rattle.uca_order.specs.Lengths.{HasShortRows};
 ghost use Rattle.uca_run_parts.specs.EachLine.{ended_before_input};
-ghost use Rattle.uca_run_parts.specs.Files.{HaveFailed, Over};
+ghost use Rattle.uca_run_parts.specs.Files.{HaveFailed, Over, table_with};
 ghost use Rattle.uca_run_parts.specs.ReadFiles.{ReadsFiles};
 ghost use Rattle.uca_key_runs.specs.CompactRun.{PrintsCompactKeys, PrintsCompactLines, compact_files, compact_roles, compact_with};
+ghost use Rattle.uca_key_runs.specs.inside.Collations.{IsNoCollation};
 ghost use Rattle.uca_key_runs.specs.inside.CompactParts.{IsCompactBy};
 ghost use Rattle.uca_key_runs.specs.inside.KeyForms.{PrintsCompactAs};
 
@@ -52,7 +53,7 @@ fn compact_collation<A: Allocator + Copy>(
     ensures made { IfOk result (λ made. IsCompactBy asked (owned_collation made.0.collation) made.0.settings made.1
         (compact_with files.0 (properties_of files.1) files.2)) }
     ensures short { IfOk result (λ made. HasShortRows (owned_collation made.0.collation).rows) }
-    ensures refused { IfErr result (λ fault. fault ≡ RunFault.Memory) }
+    ensures refused { IfErr result (IsNoCollation asked (table_with files.0 (properties_of files.1))) }
 {
     let (table, properties, book) = files;
     match collation_of(alloc, table, properties, asked) {
@@ -75,7 +76,7 @@ fn read_compact<A: Allocator + Copy, T: Read, D: Read, B: Read>(
     ensures read { Over compact_files (table.old ∷ properties.old ∷ book.old ∷ []) (table.new ∷ properties.new ∷ book.new ∷ [])
         (λ content. MatchResult result
         (λ made. IsCompactBy asked (owned_collation made.0.collation) made.0.settings made.1 content)
-        (λ fault. fault ≡ RunFault.Memory)) result }
+        (λ fault. IsNoCollation asked (table_with content.table content.properties) fault)) result }
     ensures short { IfOk result (λ made. HasShortRows (owned_collation made.0.collation).rows) }
     ensures before_input { IfErr result (λ _. ended_before_input result ≡ true) }
     ensures failed { HaveFailed compact_roles (table.old ∷ properties.old ∷ book.old ∷ [])
@@ -134,7 +135,9 @@ fn run_compact_in<A: Allocator + Copy, T: Read, D: Read, B: Read, I: Read, W: Wr
 /// # Errors
 ///
 /// - `File`: the table, or else the data file, or else the book, is rejected.
-/// - `Memory`: an allocation failed for looking up rows. In both cases nothing was written, and nothing of the input was read.
+/// - `Digits`: numbers are to be ordered by value, and the table does not order them. It comes after the errors of files.
+/// - `Memory`: an allocation failed for looking up rows. In these cases nothing was written, and nothing of the input was
+///   read.
 /// - `Input`: the first line with an error, if the compact keys of the lines before it were written.
 /// - `Write`: the writer failed, also if a later line has an error. The first `written` bytes of the whole output
 ///   went out.

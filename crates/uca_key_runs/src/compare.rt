@@ -97,7 +97,8 @@ pub fn run_compare<T: Read, D: Read, W: Write>(
 ///
 /// # Errors
 ///
-/// Those of [`run_compare`].
+/// Those of [`run_compare`]. After those of the files comes `Digits`, if numbers are to be ordered by value and the table
+/// does not order them. Nothing was written then.
 pub fn run_compare_in<A: Allocator + Copy, T: Read, D: Read, W: Write>(
     alloc: A,
     global: Global,

@@ -7,12 +7,13 @@ ghost use Rattle.uca_values.specs.Content.{properties_of};
 ghost use Rattle.uca_elements.specs.Collations.{collation_of};
 ghost use Rattle.uca_match.specs.OwnedCollations.{owned_collation};
 ghost use Rattle.uca_order.specs.Lengths.{HasShortRows};
-ghost use Rattle.uca_run_parts.specs.Files.{HaveFailed, Over, table_and_data_roles};
+ghost use Rattle.uca_run_parts.specs.Files.{HaveFailed, Over, table_and_data_roles, table_with};
 ghost use Rattle.uca_run_parts.specs.Runs.{is_input_read, ended_by_output};
 ghost use Rattle.uca_run_parts.specs.EachLine.{ended_before_input};
 ghost use Rattle.uca_fingerprint_runs.specs.SummedFiles.{summed_files, summed_with};
 ghost use Rattle.uca_order.specs.Keyings.{keying_of, text_of};
 ghost use Rattle.uca_key_runs.specs.HeadedRun.{PrintsHeadedKeys, PrintsHeadedLines, WritesHeaded};
+ghost use Rattle.uca_key_runs.specs.inside.Collations.{IsNoCollation};
 ghost use Rattle.uca_key_runs.specs.inside.HeadedParts.{IsHeaded, PrintsHeadedAs, ended_after};
 ghost use Rattle.uca_key_runs.specs.inside.KeyForms.{line_as};
 
@@ -89,7 +90,7 @@ fn headed_collation<A: Allocator + Copy>(
     ensures made { IfOk result (λ made. IsHeaded asked (owned_collation made.0.collation) made.0.settings made.1
         (summed_with files.table (properties_of files.properties.0, files.properties.1))) }
     ensures short { IfOk result (λ made. HasShortRows (owned_collation made.0.collation).rows) }
-    ensures refused { IfErr result (λ fault. fault ≡ RunFault.Memory) }
+    ensures refused { IfErr result (IsNoCollation asked (table_with files.table.0 (properties_of files.properties.0))) }
 {
     let SummedFiles { table, properties } = files;
     let (table, table_sum) = table;
@@ -114,7 +115,7 @@ fn read_headed<A: Allocator + Copy, T: Read, D: Read>(
     ensures read { Over summed_files (table.old ∷ properties.old ∷ []) (table.new ∷ properties.new ∷ [])
         (λ content. MatchResult result
         (λ made. IsHeaded asked (owned_collation made.0.collation) made.0.settings made.1 content)
-        (λ fault. fault ≡ RunFault.Memory)) result }
+        (λ fault. IsNoCollation asked (table_with content.table content.properties) fault)) result }
     ensures short { IfOk result (λ made. HasShortRows (owned_collation made.0.collation).rows) }
     ensures before_input { IfErr result (λ _. ended_before_input result ≡ true) }
     ensures failed { HaveFailed table_and_data_roles (table.old ∷ properties.old ∷ [])
@@ -170,7 +171,9 @@ fn run_headed_in<A: Allocator + Copy, T: Read, D: Read, I: Read, W: Write>(
 /// # Errors
 ///
 /// - `File`: the table, or else the data file, is rejected.
-/// - `Memory`: an allocation failed for looking up rows. In both cases nothing was written, and nothing of the input was read.
+/// - `Digits`: numbers are to be ordered by value, and the table does not order them. It comes after the errors of files.
+/// - `Memory`: an allocation failed for looking up rows. In these cases nothing was written, and nothing of the input was
+///   read.
 /// - `Input`: the first line with an error. The header was written, and the keys of the lines before it.
 /// - `Write`: the writer failed, also if a later line has an error. The first `written` bytes of the whole output went out,
 ///   with those of the header. The count stops at `u64::MAX`.

@@ -6,9 +6,10 @@ ghost use Rattle.uca_values.specs.Content.{properties_of};
 ghost use Rattle.uca_match.specs.OwnedCollations.{owned_collation};
 ghost use Rattle.uca_order.specs.Lengths.{HasShortRows};
 ghost use Rattle.uca_run_parts.specs.EachLine.{ended_before_input};
-ghost use Rattle.uca_run_parts.specs.Files.{HaveFailed, Over};
+ghost use Rattle.uca_run_parts.specs.Files.{HaveFailed, Over, table_with};
 ghost use Rattle.uca_fingerprint_runs.specs.SummedFiles.{booked_files, booked_roles, booked_with, summed_with};
 ghost use Rattle.uca_key_runs.specs.HeadedCompactRun.{PrintsHeadedCompactKeys, PrintsHeadedCompactLines};
+ghost use Rattle.uca_key_runs.specs.inside.Collations.{IsNoCollation};
 ghost use Rattle.uca_key_runs.specs.inside.CompactParts.{IsHeadedCompact, PrintsHeadedCompactAs};
 
 use crate::collations::{ReadCollation, collation_of};
@@ -31,7 +32,7 @@ fn headed_collation<A: Allocator + Copy>(
     ensures made { IfOk result (λ made. IsHeadedCompact asked (owned_collation made.0.collation) made.0.settings made.1 made.2
         (booked_with (summed_with read.files.table (properties_of read.files.properties.0, read.files.properties.1)) read.book)) }
     ensures short { IfOk result (λ made. HasShortRows (owned_collation made.0.collation).rows) }
-    ensures refused { IfErr result (λ fault. fault ≡ RunFault.Memory) }
+    ensures refused { IfErr result (IsNoCollation asked (table_with read.files.table.0 (properties_of read.files.properties.0))) }
 {
     let BookedFiles { files, book } = read;
     let SummedFiles { table, properties } = files;
@@ -63,7 +64,7 @@ fn read_headed<A: Allocator + Copy, T: Read, D: Read, B: Read>(
     ensures read { Over booked_files (table.old ∷ properties.old ∷ book.old ∷ []) (table.new ∷ properties.new ∷ book.new ∷ [])
         (λ content. MatchResult result
         (λ made. IsHeadedCompact asked (owned_collation made.0.collation) made.0.settings made.1 made.2 content)
-        (λ fault. fault ≡ RunFault.Memory)) result }
+        (λ fault. IsNoCollation asked (table_with content.files.table content.files.properties) fault)) result }
     ensures short { IfOk result (λ made. HasShortRows (owned_collation made.0.collation).rows) }
     ensures before_input { IfErr result (λ _. ended_before_input result ≡ true) }
     ensures failed { HaveFailed booked_roles (table.old ∷ properties.old ∷ book.old ∷ [])
@@ -120,7 +121,9 @@ fn run_headed_compact_in<A: Allocator + Copy, T: Read, D: Read, B: Read, I: Read
 /// # Errors
 ///
 /// - `File`: the table, or else the data file, or else the book, is rejected.
-/// - `Memory`: an allocation failed for looking up rows. In both cases nothing was written, and nothing of the input was read.
+/// - `Digits`: numbers are to be ordered by value, and the table does not order them. It comes after the errors of files.
+/// - `Memory`: an allocation failed for looking up rows. In these cases nothing was written, and nothing of the input was
+///   read.
 /// - `Input`: the first line with an error. The header was written, and the compact keys of the lines before it.
 /// - `Write`: the writer failed, also if a later line has an error. The first `written` bytes of the whole output went out,
 ///   with those of the header. The count stops at `u64::MAX`.

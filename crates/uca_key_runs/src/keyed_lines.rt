@@ -16,7 +16,9 @@ use uca_weights::{Asked, Sink, Source};
 /// # Errors
 ///
 /// - `File`: the table, or else the data file, is rejected.
-/// - `Memory`: an allocation failed for looking up rows. In both cases nothing was written, and nothing of the input was read.
+/// - `Digits`: numbers are to be ordered by value, and the table does not order them. It comes after the errors of files.
+/// - `Memory`: an allocation failed for looking up rows. In these cases nothing was written, and nothing of the input was
+///   read.
 /// - `Input`: the first line with an error. The lines before it were written with their keys.
 /// - `Write`: the writer failed, also where a later line has an error. The first `written` bytes of the whole output went
 ///   out.

@@ -442,7 +442,8 @@ pub fn run_keys<T: Read, D: Read, I: Read, W: Write>(
 ///
 /// # Errors
 ///
-/// Those of [`run_keys`].
+/// Those of [`run_keys`]. `Digits` comes after those of the files, if numbers are to be ordered by value and the table does
+/// not order them. Then nothing was written, and nothing of the input was read.
 pub fn run_keys_in<A: Allocator + Copy, T: Read, D: Read, I: Read, W: Write>(
     alloc: A,
     global: Global,
@@ -463,7 +464,7 @@ pub fn run_keys_in<A: Allocator + Copy, T: Read, D: Read, I: Read, W: Write>(
 ///
 /// # Errors
 ///
-/// Those of [`run_keys`].
+/// Those of [`run_keys_in`].
 pub(crate) fn run_lines_in<A: Allocator + Copy, T: Read, D: Read, I: Read, W: Write>(
     alloc: A,
     global: Global,

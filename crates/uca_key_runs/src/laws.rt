@@ -2,8 +2,9 @@
 //! from: their contracts are the laws.
 
 ghost use Rattle.uca_run_parts.specs.AffectedRun.{AffectedTextsAreTheOthers};
-ghost use Rattle.uca_key_runs.specs.Laws.{LineKeysCompareAsLines, CanonicallyEquivalentLinesHaveOneKeyLine, IdenticalLineKeysAreOfEquivalentLines, KeyOrderIsOne, UntouchedLinesKeepTheirOrder};
+ghost use Rattle.uca_key_runs.specs.Laws.{LineKeysCompareAsLines, CanonicallyEquivalentLinesHaveOneKeyLine, IdenticalLineKeysAreOfEquivalentLines, KeyOrderIsOne, UntouchedLinesKeepTheirOrder, NumbersOrderLines};
 
+use uca_number_keys::laws::{numbers_order_texts, numeric_texts_read_by_value};
 use uca_order::laws::{identical_keys_are_of_equivalent_texts, keys_compare_as_texts};
 use uca_tailorings::accepted_tailorings_are_faithful;
 
@@ -51,3 +52,13 @@ pub fn untouched_lines_keep_their_order()
 pub fn affected_texts_are_the_others()
     ensures { AffectedTextsAreTheOthers }
 {}
+
+/// Lines whose numbers are ordered by value: `file 9` comes before `file 10`. Two lines that do not differ at level 1 before
+/// a number are ordered by the values of these numbers, and so are the bytes of their keys. A run takes only a table for
+/// which this is true.
+pub fn numbers_order_lines()
+    ensures { NumbersOrderLines }
+{
+    numbers_order_texts();
+    numeric_texts_read_by_value();
+}

@@ -38,6 +38,6 @@ pub use keys::{run_keys, run_keys_in};
 pub use laws::{
     affected_texts_are_the_others, canonically_equivalent_lines_have_one_key_line,
     identical_line_keys_are_of_equivalent_lines, key_order_is_one, line_keys_compare_as_lines,
-    untouched_lines_keep_their_order,
+    numbers_order_lines, untouched_lines_keep_their_order,
 };
 pub use sort::{run_sort, run_sort_in, sort_lines};

@@ -1,7 +1,9 @@
 -- Numbers decide by their values, at level 1.
-use Rattle.std.proofs.Common.{◌≡◌, ◌≢◌, ℕ, List, [], ◌∷◌, ◌++◌, map, refl, sym, ap, ap₂, ◌∙◌}
+use Rattle.std.proofs.Common.{◌≡◌, ◌≢◌, ℕ, ◌≤◌, List, [], ◌∷◌, ◌++◌, map, refl, sym, ap, ap₂, ◌∙◌, arith, inl, inr}
 use Rattle.std.specs.Ordering.{nat_cmp, ordering_then}
 use Rattle.std.specs.declared.cmp.Ordering.{Ordering}
+use Rattle.std.specs.declared.cmp.Ordering.TheVariants.{Less, Greater}
+use Rattle.std.proofs.lemmas.Bool.{cases_eq}
 use Rattle.uca_weights.specs.declared.Depth.{Depth}
 use Rattle.uca_weights.specs.declared.Depth.TheVariants.{Weights, Identical}
 use Rattle.uca_weights.specs.declared.Weighting.{Weighting}
@@ -10,7 +12,7 @@ use Rattle.uca_elements.specs.Collations.{Collation, elements_of}
 use Rattle.uca_order.specs.Levels.{Comparison, lexicographic, decided}
 use Rattle.uca_order.specs.Depths.{compared_at}
 use Rattle.uca_order.proofs.DepthOrder.{keys_compare_as_texts}
-use Rattle.uca_numbers.specs.Numbers.{value, number_code}
+use Rattle.uca_numbers.specs.Numbers.{IsDigit, value, number_code}
 use Rattle.uca_numbers.specs.Texts.{by_value, IsNumberBetween}
 use Rattle.uca_numbers.proofs.Orders.{by_cmp, cmp_less, cmp_greater, same_head}
 use Rattle.uca_numbers.proofs.Comparing.{numbers_compare, one_code}
@@ -18,7 +20,7 @@ use Rattle.uca_numbers.proofs.Rewriting.{codes_stand}
 use Rattle.uca_numbers.proofs.CodeDigits.{code_digits}
 use Rattle.uca_number_keys.specs.Tables.{digit_weight, OrdersNumbers}
 use Rattle.uca_number_keys.specs.Keys.{read_by_value, first_level}
-use Rattle.uca_number_keys.specs.Laws.{HaveNumbers, NumbersOrderTexts, LeadingZerosMeanNothing}
+use Rattle.uca_number_keys.specs.Laws.{HaveNumbers, NumbersOrderTexts, StandsAgainst, GoesOnBelow, GoesOnAbove, DifferFirst, NumbersStandTogether, LeadingZerosMeanNothing}
 use Rattle.uca_number_keys.proofs.DigitReading.{elements_in, digit_elements, digits_between}
 use Rattle.uca_number_keys.proofs.FirstLevels.{first_list, first_list-append, first_list_of_digits}
 
@@ -93,6 +95,68 @@ numbers_order = record {
   keys = λ c depth weighting front a rest other b more orders have differ.
       keys_compare_as_texts.order depth weighting (read_by_value c (front ++ (a ++ rest))) (read_by_value c (other ++ (b ++ more)))
       ∙ ap (λ (r : Comparison). r.order) (values_decide c depth weighting front a rest other b more orders have differ);
+}
+
+-- ---- What is no number
+
+module _ (c : Collation) (orders : OrdersNumbers c) where
+  least_digit : (d : ℕ) → IsDigit d → digit_weight c.rows 0x30 ≤ digit_weight c.rows d
+  least_digit d digit = elim (cases_eq d 0x30) [
+    | inl same ↦ let is = ap (digit_weight c.rows) same in omega (arith, is)
+    | inr other ↦
+        let low = digit.low in
+        let rises = orders.rises 0x30 d (record { low = omega arith; high = omega arith }) digit (omega (arith, low, other)) in
+        omega (arith, rises)
+  ]
+
+  greatest_digit : (d : ℕ) → IsDigit d → digit_weight c.rows d ≤ digit_weight c.rows 0x39
+  greatest_digit d digit = elim (cases_eq d 0x39) [
+    | inl same ↦ let is = ap (digit_weight c.rows) same in omega (arith, is)
+    | inr other ↦
+        let high = digit.high in
+        let rises = orders.rises d 0x39 digit (record { low = omega arith; high = omega arith }) (omega (arith, high, other)) in
+        omega (arith, rises)
+  ]
+
+  -- a digit's weight against what goes on
+  above_tail : (w : ℕ) (ws tail : List ℕ) → digit_weight c.rows 0x30 ≤ w → GoesOnBelow (digit_weight c.rows 0x30) tail → lexicographic (w ∷ ws) tail ≡ Greater
+  above_tail w ws [] least below = refl
+  above_tail w ws (v ∷ tail) least below = ap (λ o. ordering_then o (lexicographic ws tail)) (cmp_greater w v (omega (arith, least, below)))
+
+  below_tail : (w : ℕ) (ws tail : List ℕ) → w ≤ digit_weight c.rows 0x39 → GoesOnAbove (digit_weight c.rows 0x39) tail → lexicographic (w ∷ ws) tail ≡ Less
+  below_tail w ws [] greatest above = absurd above
+  below_tail w ws (v ∷ tail) greatest above = ap (λ o. ordering_then o (lexicographic ws tail)) (cmp_less w v (omega (arith, greatest, above)))
+
+  -- what decides is the weight of the first digit of the code
+  decided_by_digit : (depth : Depth) (weighting : Weighting) (front number rest other tail : List ℕ) (order : Ordering) →
+      StandsAgainst c weighting front number rest other tail → ((later : Comparison) → decided order 1 later ≡ record { order = order; level = 1 }) →
+      ((d : ℕ) (ws : List ℕ) → IsDigit d → lexicographic (digit_weight c.rows d ∷ ws) tail ≡ order) →
+      DifferFirst c depth weighting (front ++ (number ++ rest)) other order
+  decided_by_digit depth weighting front number rest other tail order stands decides first =
+      let code = code_digits number stands.between.is_number in
+      let weights = map (digit_weight c.rows) in
+      let after = first_level c weighting rest in
+      let left = front ++ (number ++ rest) in
+      let level : lexicographic (first_level c weighting left) (first_level c weighting other) ≡ order =
+      ap₂ lexicographic (level_in_pieces c orders weighting front number rest stands.between) stands.same
+      ∙ same_front (first_level c weighting front) (weights (number_code number) ++ after) tail
+      ∙ ap (λ l. lexicographic (weights l ++ after) tail) code.same
+      ∙ first code.first (weights code.more ++ after) code.all.0 in
+      let later = later_levels depth weighting c left other in
+      let texts = later.1 ∙ ap (λ o. decided o 1 later.0) level ∙ decides later.0 in
+      record {
+        texts = texts;
+        keys = keys_compare_as_texts.order depth weighting (read_by_value c left) (read_by_value c other) ∙ ap (λ (r : Comparison). r.order) texts;
+      }
+
+pub numbers_together : NumbersStandTogether
+numbers_together = record {
+  below = λ c depth weighting front number rest other tail orders stands below.
+      decided_by_digit c orders depth weighting front number rest other tail Greater stands (λ later. refl)
+      (λ d ws digit. above_tail c orders (digit_weight c.rows d) ws tail (least_digit c orders d digit) below);
+  above = λ c depth weighting front number rest other tail orders stands above.
+      decided_by_digit c orders depth weighting front number rest other tail Less stands (λ later. refl)
+      (λ d ws digit. below_tail c orders (digit_weight c.rows d) ws tail (greatest_digit c orders d digit) above);
 }
 
 pub leading_zeros : LeadingZerosMeanNothing

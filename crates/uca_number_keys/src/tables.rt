@@ -1,71 +1,126 @@
-//! Whether numbers are ordered by value under a table.
+//! Whether numbers are ordered by value under a table, and which row is to blame if they are not.
 
-ghost use Rattle.std.specs.Prelude.{◌≡◌, ◌≢◌, ◌↔◌, ◌+◌, ◌-◌, ℕ, ◌<◌, List, ◌∷◌, [], length, IsTrue, MatchOption, slice_index};
+ghost use Rattle.std.specs.Prelude.{◌≡◌, ◌≢◌, ◌↔◌, ◌+◌, ◌-◌, ℕ, ◌<◌, ◌≤◌, List, ◌∷◌, [], length, IsTrue, IsOk, IfErr, OnOk, MatchOption, slice_index, slice_index_or};
 ghost use Rattle.std.specs.List.{AllByRecursion};
-ghost use Rattle.uca_values.specs.Content.{Entry, properties_of};
-ghost use Rattle.uca_values.specs.Ranges.{class_in};
+ghost use Rattle.uca_values.specs.Content.{Entry, HeaderContent, properties_of};
 ghost use Rattle.uca_elements.specs.Rows.{rows_of};
 ghost use Rattle.uca_elements.specs.Collations.{collation_under};
 ghost use Rattle.uca_numbers.specs.Numbers.{IsDigit};
 ghost use Rattle.uca_numbers.specs.Texts.{has_digit};
-ghost use Rattle.uca_number_keys.specs.Tables.{OrdersNumbers, digit_weight};
-ghost use Rattle.uca_number_keys.specs.inside.Checks.{HasLoneDigits, IsRising};
+ghost use Rattle.uca_number_keys.specs.Tables.{OrdersNumbers, SharesDigit, IsToBlame, TakesTable, RefusesTable, digit_weight};
+ghost use Rattle.uca_number_keys.specs.inside.Checks.{AreOrdered, IsFound};
 
 use std::alloc::Allocator;
 use uca_values::{Data, PackedRows, PackedTable};
-use uca_weights::Element;
+use uca_weights::{Element, Numbers};
 
 /// How many digits there are.
 const DIGITS: usize = 10;
 
-/// Whether numbers are ordered by value under a table and a data file. Each digit, U+0030 to U+0039, has a row of one
+/// The row by which numbers are not in the order of their values.
+#[derive(Clone, Copy, Debug, PartialEq, Eq)]
+pub struct UnorderedDigits {
+    /// The row, counted from 1 in file order. It is 0 if a digit has no row.
+    pub row: u32,
+}
+
+/// Tests that numbers are ordered by value under a table and a data file. Each digit, U+0030 to U+0039, has a row of one
 /// element that is not variable. Their primary weights rise, and are not zero. No other key has a digit, and the data
-/// file gives digits no combining class. It goes over the rows twice.
-pub fn orders_numbers<A: Allocator, B: Allocator>(
+/// file gives digits no combining class. It goes over the rows twice, and allocates no memory.
+///
+/// # Errors
+///
+/// If one of these is not so, the row to blame. Its key has a digit, and is not this digit alone. Or else it is the first
+/// digit that has a combining class, or no primary weight above that of the digit before.
+pub fn check_numbers<A: Allocator, B: Allocator>(
     table: &PackedTable<A>,
     properties: &Data<B>,
-) -> bool
-    ensures { IsTrue result ↔ OrdersNumbers (collation_under table.now (properties_of properties.now)) }
+) -> Result<(), UnorderedDigits>
+    ensures ordered { IsOk result ↔ OrdersNumbers (collation_under table.now (properties_of properties.now)) }
+    ensures blamed { IfErr result (λ fault. IsToBlame (properties_of properties.now) table.now.rows fault.row) }
 {
-    let weights = digit_weights(&table.rows);
-    if !digits_are_starters(properties) {
-        return false;
+    match row_to_blame(&table.rows, properties) {
+        None => Ok(()),
+        Some(row) => Err(UnorderedDigits { row }),
     }
-    if !digits_are_alone(&table.rows) {
-        return false;
-    }
-    is_rising(&weights)
 }
 
-// Whether no digit has a class.
-fn digits_are_starters<B: Allocator>(properties: &Data<B>) -> bool
-    ensures { IsTrue result ↔ ((d : ℕ) → IsDigit d → class_in properties.now.classes d ≡ 0) }
+/// Tests a table for what is asked for: `check_numbers` if numbers are to be ordered by value. As text they need no such
+/// table.
+///
+/// # Errors
+///
+/// The row to blame, as `check_numbers` says it.
+pub fn check_table_for<A: Allocator, B: Allocator>(
+    numbers: Numbers,
+    table: &PackedTable<A>,
+    properties: &Data<B>,
+) -> Result<(), UnorderedDigits>
+    ensures taken { OnOk result (TakesTable numbers table.now (properties_of properties.now)) }
+    ensures rejected { IfErr result (λ fault. RefusesTable numbers table.now (properties_of properties.now) fault.row) }
 {
-    for digit in b'0'..b'9' + 1 {
-        if properties.class(char::from(digit)) != 0 {
-            return false;
-        }
-    }
-    true
+    check_rows_for(numbers, &table.rows, properties)
 }
 
-// Whether each key that has a digit has nothing else.
-fn digits_are_alone<A: Allocator>(rows: &PackedRows<A>) -> bool
-    ensures { IsTrue result ↔ AllByRecursion (λ row. HasLoneDigits row.key) rows.now }
+/// As `check_table_for`, for the rows of a table with any header.
+///
+/// # Errors
+///
+/// The row to blame, as `check_numbers` says it.
+pub fn check_rows_for<A: Allocator, B: Allocator>(
+    numbers: Numbers,
+    rows: &PackedRows<A>,
+    properties: &Data<B>,
+) -> Result<(), UnorderedDigits>
+    requires { length rows.now ≤ 200000 }
+    ensures taken { (header : HeaderContent) →
+        OnOk result (TakesTable numbers (record { header = header; rows = rows.now }) (properties_of properties.now)) }
+    ensures rejected { (header : HeaderContent) → IfErr result (λ fault.
+        RefusesTable numbers (record { header = header; rows = rows.now }) (properties_of properties.now) fault.row) }
+{
+    match numbers {
+        Numbers::AsText => Ok(()),
+        Numbers::ByValue => match row_to_blame(rows, properties) {
+            None => Ok(()),
+            Some(row) => Err(UnorderedDigits { row }),
+        },
+    }
+}
+
+// The row to blame, if numbers are not ordered by value.
+fn row_to_blame<A: Allocator, B: Allocator>(
+    rows: &PackedRows<A>,
+    properties: &Data<B>,
+) -> Option<u32>
+    requires { length rows.now ≤ 200000 }
+    ensures { MatchOption result
+        (AllByRecursion (λ row. SharesDigit row.key → ⊥) rows.now × AreOrdered (properties_of properties.now) (rows_of rows.now))
+        (λ row. IsToBlame (properties_of properties.now) rows.now row) }
+{
+    if let Some(at) = first_shared(rows) {
+        return Some(at as u32 + 1);
+    }
+    wrong_digit(rows, properties)
+}
+
+// The position of the first row whose key has a digit, and is not this digit alone.
+fn first_shared<A: Allocator>(rows: &PackedRows<A>) -> Option<usize>
+    ensures { MatchOption result
+        (AllByRecursion (λ row. SharesDigit row.key → ⊥) rows.now)
+        (λ at. (at < length rows.now) × ((d : Entry) → SharesDigit (slice_index_or rows.now at d).key)) }
 {
     for at in 0..rows.len() {
-        if !has_lone_digits(rows.key(at)) {
-            return false;
+        if shares_digit(rows.key(at)) {
+            return Some(at);
         }
     }
-    true
+    None
 }
 
-// Whether a key has no digit, or one code point.
-fn has_lone_digits(key: &[char]) -> bool
-    ensures { IsTrue result ↔ HasLoneDigits key.now }
+fn shares_digit(key: &[char]) -> bool
+    ensures { IsTrue result ↔ SharesDigit key.now }
 {
-    key.len() == 1 || !holds_digit(key)
+    key.len() != 1 && holds_digit(key)
 }
 
 fn holds_digit(key: &[char]) -> bool
@@ -80,21 +135,46 @@ fn is_digit(point: char) -> bool
     '0' <= point && point <= '9'
 }
 
-// The primary weights of the digits by their rows, the one of 0 first. It is 0 for a digit without such a row.
-fn digit_weights<A: Allocator>(rows: &PackedRows<A>) -> [u16; DIGITS]
-    ensures count { length result ≡ 10 }
-    ensures weights { (d : ℕ) → IsDigit d → slice_index result (d - 0x30) ≡ digit_weight (rows_of rows.now) d }
+// The row of the first digit that is wrong, counted from 1: 0 if it has none.
+fn wrong_digit<A: Allocator, B: Allocator>(
+    rows: &PackedRows<A>,
+    properties: &Data<B>,
+) -> Option<u32>
+    requires { length rows.now ≤ 200000 }
+    ensures { MatchOption result
+        (AreOrdered (properties_of properties.now) (rows_of rows.now))
+        (λ row. IsToBlame (properties_of properties.now) rows.now row) }
 {
-    let mut weights = [0; DIGITS];
+    let found = digit_rows(rows);
+    let mut last = 0;
+    for digit in b'0'..b'9' + 1 {
+        let row = found[(digit - b'0') as usize];
+        let weight = weight_of_row(rows, row);
+        let class = properties.class(char::from(digit));
+        if weight <= last || class != 0 {
+            return Some(row);
+        }
+        last = weight;
+    }
+    None
+}
+
+// The rows of the digits, that of 0 first, counted from 1. It is 0 for a digit without a row.
+fn digit_rows<A: Allocator>(rows: &PackedRows<A>) -> [u32; DIGITS]
+    requires { length rows.now ≤ 200000 }
+    ensures count { length result ≡ 10 }
+    ensures found { (d : ℕ) → IsDigit d → IsFound rows.now d (slice_index result (d - 0x30)) }
+{
+    let mut found = [0; DIGITS];
     let mut at = rows.len();
     // of two rows with one key the first counts, so it comes last
     while at > 0 {
-        at -= 1;
-        if let Some(digit) = lone_digit(rows.key(at)) {
-            weights[digit] = lone_primary(rows.elements(at));
+        if let Some(digit) = lone_digit(rows.key(at - 1)) {
+            found[digit] = at as u32;
         }
+        at -= 1;
     }
-    weights
+    found
 }
 
 // Which digit a key is, from 0 to 9.
@@ -108,6 +188,18 @@ fn lone_digit(key: &[char]) -> Option<usize>
     }
 }
 
+// The primary weight of a digit by its row, counted from 1.
+fn weight_of_row<A: Allocator>(rows: &PackedRows<A>, row: u32) -> u16
+    requires { row ≤ length rows.now }
+    ensures { (d : ℕ) → IsFound rows.now d row → result ≡ digit_weight (rows_of rows.now) d }
+{
+    if row == 0 {
+        0
+    } else {
+        lone_primary(rows.elements(row as usize - 1))
+    }
+}
+
 // The primary weight of the element, if it is the only one and not variable; otherwise 0.
 fn lone_primary(row: &[Element]) -> u16
     ensures { result ≡ Rattle.uca_number_keys.specs.Tables.lone_primary row.now }
@@ -117,18 +209,4 @@ fn lone_primary(row: &[Element]) -> u16
     } else {
         0
     }
-}
-
-// Whether each weight is greater than the one before, and the first greater than 0.
-fn is_rising(weights: &[u16]) -> bool
-    ensures { IsTrue result ↔ IsRising 0 weights.now }
-{
-    let mut last = 0;
-    for weight in weights {
-        if *weight <= last {
-            return false;
-        }
-        last = *weight;
-    }
-    true
 }

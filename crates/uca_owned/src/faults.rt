@@ -13,6 +13,12 @@ pub enum OpenFault {
     /// The bytes of the data file are rejected.
     #[error("the data file is rejected")]
     Data(TableFault),
+    /// Both files are read. Numbers were to be ordered by value, and the table does not order them.
+    #[error("the table does not order numbers")]
+    Digits {
+        /// The row to blame, counted from 1 in file order; 0 if a digit has no row.
+        row: u32,
+    },
     /// An allocation failed, once both files were read.
     #[error("out of memory")]
     Memory,

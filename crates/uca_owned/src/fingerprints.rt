@@ -9,7 +9,7 @@ use crate::faults::OpenFault;
 use crate::files::{data_of, table_of};
 use std::alloc::Global;
 use uca_fingerprint::fingerprint;
-use uca_weights::Asked;
+use uca_weights::{Asked, Numbers};
 
 /// The fingerprint of what [`OwnedCollator::open`](crate::OwnedCollator::open) would key texts by, from the same
 /// arguments. It names the bytes of both files, the weighting that is asked for or else that of the table, the depth,
@@ -17,7 +17,7 @@ use uca_weights::Asked;
 ///
 /// # Errors
 ///
-/// Those of `open`. So there is a fingerprint exactly if there is a collator, where no allocation fails.
+/// Those of `open` that are of one file: `Table` and `Data`. A table that does not order numbers has a fingerprint too.
 pub fn fingerprint_of(
     alloc: Global,
     table: &[u8],
@@ -26,8 +26,8 @@ pub fn fingerprint_of(
 ) -> Result<[u8; 32], OpenFault>
     ensures found { IfOk result (HasFingerprint asked table.now data_file.now) }
     ensures only { (meant : TableContent) (properties : Properties) → MeanFiles table.now data_file.now meant properties →
-        MatchResult result (λ sum. sum ≡ fingerprint_by (keying asked meant properties) table.now data_file.now) IsOpenStop }
-    ensures fault { IfErr result (IsOpenCause table.now data_file.now) }
+        MatchResult result (λ sum. sum ≡ fingerprint_by (keying asked meant properties) table.now data_file.now) (IsOpenStop Numbers.AsText meant properties) }
+    ensures fault { IfErr result (IsOpenCause Numbers.AsText table.now data_file.now) }
 {
     let read = match table_of(alloc, table) {
         Ok(read) => read,

@@ -15,6 +15,7 @@ use std::alloc::{AllocError, Global};
 use std::sync::Arc;
 use uca_key_writer::KeyMemory;
 use uca_match::{OwnedCollation, Trie};
+use uca_number_keys::check_table_for;
 use uca_order::laws::rows_are_short;
 use uca_text_comparer::TextComparison;
 use uca_values::{Data, Header, PackedTable, Table};
@@ -67,6 +68,9 @@ impl OwnedCollator {
     /// A collator of a table and a data file that were read, under the settings that are asked for. If these have no
     /// weighting, it is that of the table's `@variable`, or else shifted (UTS #10, section 4). No key was made yet.
     ///
+    /// If numbers are to be ordered by value, the table has to order them: `check_numbers` of `uca_number_keys` tests it, and
+    /// this call does not. [`open`](OwnedCollator::open) does.
+    ///
     /// # Errors
     ///
     /// An allocation failed.
@@ -92,8 +96,8 @@ impl OwnedCollator {
     /// # Errors
     ///
     /// `Table` if the table is rejected, else `Data` if the data file is, as [`read_table`](uca_table::read_table) and
-    /// [`read_data`](uca_table::read_data) say. Both also if an allocation failed while that file was read. `Memory` if
-    /// one failed later.
+    /// [`read_data`](uca_table::read_data) say. Both also if an allocation failed while that file was read. Then `Digits` if
+    /// numbers are to be ordered by value, and the table does not order them. `Memory` if an allocation failed later.
     pub fn open(
         alloc: Global,
         table: &[u8],
@@ -102,9 +106,9 @@ impl OwnedCollator {
     ) -> Result<OwnedCollator, OpenFault>
         ensures found { IfOk result (λ c. Opens asked table.now data_file.now (keying_in c)) }
         ensures only { (meant : TableContent) (properties : Properties) → MeanFiles table.now data_file.now meant properties →
-            MatchResult result (λ c. keying_in c ≡ keying asked meant properties) IsOpenStop }
+            MatchResult result (λ c. keying_in c ≡ keying asked meant properties) (IsOpenStop asked.numbers meant properties) }
         ensures key { IfOk result (λ c. key_in c ≡ []) }
-        ensures fault { IfErr result (IsOpenCause table.now data_file.now) }
+        ensures fault { IfErr result (IsOpenCause asked.numbers table.now data_file.now) }
     {
         let read = match table_of(alloc, table) {
             Ok(read) => read,
@@ -114,9 +118,12 @@ impl OwnedCollator {
             Ok(properties) => properties,
             Err(fault) => return Err(OpenFault::Data(fault)),
         };
-        match packed_collator(alloc, read, properties, asked) {
-            Ok(collator) => Ok(collator),
-            Err(_) => Err(OpenFault::Memory),
+        match check_table_for(asked.numbers, &read, &properties) {
+            Ok(()) => match packed_collator(alloc, read, properties, asked) {
+                Ok(collator) => Ok(collator),
+                Err(_) => Err(OpenFault::Memory),
+            },
+            Err(fault) => Err(OpenFault::Digits { row: fault.row }),
         }
     }
 }

@@ -13,7 +13,7 @@ use Rattle.uca_lines.specs.OutputBuffer.{IsBuffered}
 use Rattle.uca_certificates.specs.Certificates.{CertificateContent}
 use Rattle.uca_run_parts.specs.EachLine.{ended_before_input}
 use Rattle.uca_run_parts.specs.declared.faults.RunFault.{RunFault}
-use Rattle.uca_run_parts.specs.declared.faults.RunFault.TheVariants.{File, Memory, StoredKey, Write}
+use Rattle.uca_run_parts.specs.declared.faults.RunFault.TheVariants.{File, Digits, Memory, StoredKey, Write}
 use Rattle.uca_run_parts.specs.declared.faults.StoredKeyKind.{StoredKeyKind}
 use Rattle.uca_run_parts.specs.declared.faults.StoredKeyKind.TheVariants as kinds
 use Rattle.uca_run_parts.specs.LinesSoFar.{OnKnown}
@@ -114,6 +114,7 @@ module _ (moved : List ℕ → Option (List ℕ)) (from to : List ℕ) (same : l
 pub line_not_before : (line : List ℕ) (old new : WrittenState) (out now : SinkState) (fault : RunFault) → WritesLine {A = Unit {0}} line old new out now (Err fault)
     → ended_before_input {A = Unit {0}} (Err fault) ≡ false
 line_not_before line old new out now (File role cause) stops = absurd stops
+line_not_before line old new out now (Digits row) stops = absurd stops
 line_not_before line old new out now Memory stops = absurd stops
 line_not_before line old new out now _ stops = refl
 

@@ -12,7 +12,7 @@ use Rattle.uca_lines.specs.Buffered.{FailsToWriteThrough, count_of}
 use Rattle.uca_lines.specs.OutputBuffer.{BufferState, IsBuffered}
 use Rattle.uca_lines.proofs.BufferedLemmas.{none_buffered}
 use Rattle.uca_run_parts.specs.declared.faults.RunFault.{RunFault}
-use Rattle.uca_run_parts.specs.declared.faults.RunFault.TheVariants.{File, Input, Write, Memory}
+use Rattle.uca_run_parts.specs.declared.faults.RunFault.TheVariants.{File, Digits, Input, Write, Memory}
 use Rattle.uca_run_parts.specs.declared.faults.InputKind.{InputKind}
 use Rattle.uca_run_parts.specs.Files.{ended_by_file}
 use Rattle.uca_run_parts.specs.Input.{clean_lines}
@@ -123,6 +123,7 @@ module _ (read_of : List ℕ → NfdText) (bytes_of : List ℕ → List ℕ) whe
       → WritesRest read_of bytes_of start begun input buffer out end → ended_before_input end ≡ false
   of_lines start begun input buffer out (Ok x) rest = refl
   of_lines start begun input buffer out (Err (File role fault)) rest = absurd rest.1
+  of_lines start begun input buffer out (Err (Digits row)) rest = absurd rest.1
   of_lines start begun input buffer out (Err Memory) rest = absurd rest.1
   of_lines start begun input buffer out (Err _) rest = refl
 

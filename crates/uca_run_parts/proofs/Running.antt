@@ -2,7 +2,7 @@
 use Rattle.std.proofs.Common.{◌≡◌, true, false, ◌||◌, Bool, Option, Some, None, IfSome, Result, Ok, Err, OnOk, is_err, refl, sym, ◌∙◌}
 use Rattle.std.specs.Prelude.{⊤}
 use Rattle.uca_run_parts.specs.declared.faults.RunFault.{RunFault}
-use Rattle.uca_run_parts.specs.declared.faults.RunFault.TheVariants.{File, Memory}
+use Rattle.uca_run_parts.specs.declared.faults.RunFault.TheVariants.{File, Digits, Memory}
 use Rattle.uca_run_parts.specs.Files.{ended_by_file}
 use Rattle.uca_run_parts.specs.EachLine.{ended_before_input}
 use Rattle.uca_run_parts.specs.Runs.{is_input_read, ended_by_output}
@@ -12,11 +12,13 @@ use Rattle.uca_run_parts.specs.Runs.{is_input_read, ended_by_output}
 -- a file's error is none of the output, and none of the input
 pub no_write_before : (A B : Type 0) (fault : RunFault) → ended_before_input {A = B} (Err fault) ≡ true → ended_by_output {A = A} (Err fault) ≡ false
 no_write_before A B (File role cause) before = refl
+no_write_before A B (Digits row) before = refl
 no_write_before A B Memory before = refl
 no_write_before A B _ before = let never : ⊥ = cc in absurd never
 
 pub no_input_before : (A B : Type 0) (fault : RunFault) → ended_before_input {A = B} (Err fault) ≡ true → is_input_read {A = A} (Err fault) ≡ false
 no_input_before A B (File role cause) before = refl
+no_input_before A B (Digits row) before = refl
 no_input_before A B Memory before = refl
 no_input_before A B _ before = let never : ⊥ = cc in absurd never
 

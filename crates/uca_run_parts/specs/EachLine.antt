@@ -6,7 +6,7 @@ use Rattle.uca_weights.specs.Streams.{SourceState, SinkState}
 use Rattle.uca_text.specs.Texts.{NfdText}
 use Rattle.uca_lines.specs.Lines.{lines_of}
 use Rattle.uca_run_parts.specs.declared.faults.RunFault.{RunFault}
-use Rattle.uca_run_parts.specs.declared.faults.RunFault.TheVariants.{File, Input, Write, Memory}
+use Rattle.uca_run_parts.specs.declared.faults.RunFault.TheVariants.{File, Digits, Input, Write, Memory}
 use Rattle.uca_run_parts.specs.declared.faults.Role.{Role}
 use Rattle.uca_run_parts.specs.Files.{Reading, Over, HaveFailed}
 use Rattle.uca_run_parts.specs.Input.{clean_lines}
@@ -29,6 +29,7 @@ RunsEach read_of bytes_of input input_new out out_new result = IfSome input.rema
 abbrev pub ended_before_input : {A : Type 0} → Result A RunFault → Bool
 ended_before_input (Ok x) = false
 ended_before_input (Err (File role fault)) = true
+ended_before_input (Err (Digits row)) = true
 ended_before_input (Err Memory) = true
 ended_before_input (Err _) = false
 

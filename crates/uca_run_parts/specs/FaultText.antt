@@ -17,7 +17,7 @@ use Rattle.uca_run_parts.specs.declared.faults.StoredKeyKind.TheVariants as stor
 use Rattle.uca_run_parts.specs.declared.faults.FileFault.{FileFault}
 use Rattle.uca_run_parts.specs.declared.faults.FileFault.TheVariants.{Lines, Rules, RulesRead, RulesMemory, Certificate}
 use Rattle.uca_run_parts.specs.declared.faults.RunFault.{RunFault}
-use Rattle.uca_run_parts.specs.declared.faults.RunFault.TheVariants.{File, Input, StoredKey, Write, Memory, Text, Tailor, Changes, CertificateWrite, Open, SameAs, Words}
+use Rattle.uca_run_parts.specs.declared.faults.RunFault.TheVariants.{File, Digits, Input, StoredKey, Write, Memory, Text, Tailor, Changes, CertificateWrite, Open, SameAs, Words}
 use Rattle.uca_run_parts.specs.ChangeFaultText.{change_fault_text}
 use Rattle.uca_run_parts.specs.RoleText.{role_text}
 
@@ -47,6 +47,10 @@ file_fault_text name RulesRead = name ++ codes ": Read"
 file_fault_text name RulesMemory = name ++ codes ": Memory"
 file_fault_text name (Certificate fault) = name ++ codes " " ++ certificate_fault_text fault
 
+-- by which row of a table numbers have no order, if by one
+abbrev pub digits_text : ℕ → List ℕ
+digits_text row = if nat_eq row 0 then codes "table: Digits" else codes "table row " ++ decimal row ++ codes ": Digits"
+
 abbrev pub side_text : Bool → List ℕ
 side_text right = if right then codes "right" else codes "left"
 
@@ -68,6 +72,7 @@ tailor_text fault = line_by fault.kind
 -- the line of an error
 abbrev pub fault_text : RunFault → List ℕ
 fault_text (File role fault) = file_fault_text (role_text role) fault
+fault_text (Digits row) = digits_text row
 fault_text (Input line kind) = codes "input line " ++ decimal line ++ codes ": " ++ input_kind_text kind
 fault_text (StoredKey line kind) = codes "input line " ++ decimal line ++ codes ": " ++ stored_key_text kind
 fault_text (Write written) = codes "output: Write"

@@ -2,7 +2,7 @@
 
 ghost use Rattle.std.specs.Prelude.{◌≡◌, ◌≤◌, ◌++◌, codes, decimal, length, Some};
 ghost use Rattle.uca_run_parts.specs.RoleText.{role_text};
-ghost use Rattle.uca_run_parts.specs.FaultText.{input_kind_text, stored_key_text, file_fault_text, side_text, tailor_text, fault_text};
+ghost use Rattle.uca_run_parts.specs.FaultText.{input_kind_text, stored_key_text, file_fault_text, digits_text, side_text, tailor_text, fault_text};
 ghost use Rattle.uca_run_parts.specs.PlanFaults.{refused_plan};
 ghost use Rattle.uca_run_parts.specs.ChangeFaults.{refused_changes};
 ghost use Rattle.uca_run_parts.specs.declared.faults.RunFault.TheVariants.{Write};
@@ -231,6 +231,11 @@ pub enum RunFault {
         /// Where it is rejected, and why.
         fault: FileFault,
     },
+    /// Numbers were to be ordered by value, and the table does not order them: `table row 34200: Digits`.
+    Digits {
+        /// The row to blame, counted from 1 in file order; 0 if a digit has no row.
+        row: u32,
+    },
     /// A line of the input is rejected, or cannot be read.
     Input {
         /// The line, counted from 1.
@@ -284,6 +289,7 @@ impl RunFault {
     {
         match self {
             RunFault::File { role, fault } => fault.message(*role),
+            RunFault::Digits { row } => digits_message(*row),
             RunFault::Input { line, kind } => {
                 line_message((*line).into()).text(kind.message().as_str())
             }
@@ -305,6 +311,20 @@ impl RunFault {
             RunFault::Words(WordFault::Memory) => Message::of("memory"),
             RunFault::Words(WordFault::Refused(_)) => Message::of(""),
         }
+    }
+}
+
+// By which row of a table numbers have no order.
+fn digits_message(row: u32) -> Message
+    ensures text { result ≡ digits_text row }
+    ensures short { length result ≤ 40 }
+{
+    if row == 0 {
+        Message::of("table: Digits")
+    } else {
+        Message::of("table row ")
+            .number(row.into())
+            .text(": Digits")
     }
 }
 

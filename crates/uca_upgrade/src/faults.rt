@@ -26,6 +26,18 @@ pub enum UpgradeFault {
     /// The bytes of the certificate are rejected.
     #[error("the certificate is rejected")]
     Certificate(CertificateFault),
+    /// All files are read. Numbers were ordered by value, and the old table does not order them.
+    #[error("the old table does not order numbers")]
+    OldDigits {
+        /// The row to blame, counted from 1 in file order; 0 if a digit has no row.
+        row: u32,
+    },
+    /// All files are read. Numbers were ordered by value, and the new table does not order them.
+    #[error("the new table does not order numbers")]
+    NewDigits {
+        /// The row to blame, counted from 1 in file order; 0 if a digit has no row.
+        row: u32,
+    },
     /// All files are read, and the audit rejects the change that they mean: the first condition that is not met, and
     /// the first position where it is not.
     #[error("the audit rejects the change")]

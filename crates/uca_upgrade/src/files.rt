@@ -23,7 +23,7 @@ use uca_change_runs::{ChangeFiles, Edition, EditionFiles, Listed};
 use uca_owned::{OpenFault, in_memory};
 use uca_table::{read_data, read_table};
 use uca_values::TableFault;
-use uca_weights::Source;
+use uca_weights::{Numbers, Source};
 
 /// The bytes of the six files of an upgrade.
 #[derive(Clone, Copy)]
@@ -46,8 +46,8 @@ pub struct UpgradeFiles<'a> {
 pub(crate) fn read_change(alloc: Global, files: &UpgradeFiles) -> Result<ChangeFiles, UpgradeFault>
     ensures found { IfOk result (λ read. MeanChange files.now (change_of read)) }
     ensures only { (change : Change) → MeanChange files.now change →
-        MatchResult result (λ read. change_of read ≡ change) (IsUpgradeStop change) }
-    ensures fault { IfErr result (IsUpgradeCause files.now) }
+        MatchResult result (λ read. change_of read ≡ change) (IsUpgradeStop Numbers.AsText change) }
+    ensures fault { IfErr result (IsUpgradeCause Numbers.AsText files.now) }
 {
     match read_editions(alloc, files) {
         Ok(editions) => match read_listed(alloc, files) {
@@ -65,8 +65,8 @@ pub(crate) fn read_change(alloc: Global, files: &UpgradeFiles) -> Result<ChangeF
 fn read_editions(alloc: Global, files: &UpgradeFiles) -> Result<EditionFiles, UpgradeFault>
     ensures found { IfOk result (EditionsMean files.now) }
     ensures only { (change : Change) → MeanChange files.now change →
-        MatchResult result (AreEditionsOf change) (IsUpgradeStop change) }
-    ensures fault { IfErr result (IsUpgradeCause files.now) }
+        MatchResult result (AreEditionsOf change) (IsUpgradeStop Numbers.AsText change) }
+    ensures fault { IfErr result (IsUpgradeCause Numbers.AsText files.now) }
 {
     match read_edition(alloc, files.old_table, files.old_data) {
         Ok(old) => match read_edition(alloc, files.new_table, files.new_data) {
@@ -84,8 +84,8 @@ fn read_editions(alloc: Global, files: &UpgradeFiles) -> Result<EditionFiles, Up
 fn read_edition(alloc: Global, table: &[u8], data_file: &[u8]) -> Result<Edition, OpenFault>
     ensures found { IfOk result (λ read. MeanFiles table.now data_file.now read.table (properties_of read.properties)) }
     ensures only { (meant : TableContent) (properties : Properties) → MeanFiles table.now data_file.now meant properties →
-        MatchResult result (λ read. (read.table ≡ meant) × (properties_of read.properties ≡ properties)) IsOpenStop }
-    ensures fault { IfErr result (IsOpenCause table.now data_file.now) }
+        MatchResult result (λ read. (read.table ≡ meant) × (properties_of read.properties ≡ properties)) (IsOpenStop Numbers.AsText meant properties) }
+    ensures fault { IfErr result (IsOpenCause Numbers.AsText table.now data_file.now) }
     ensures file { IfErr result (λ fault. fault ≢ OpenFault.Memory) }
 {
     match read_table(alloc, &mut Source::new(table)) {
@@ -104,8 +104,8 @@ fn read_edition(alloc: Global, table: &[u8], data_file: &[u8]) -> Result<Edition
 fn read_listed(alloc: Global, files: &UpgradeFiles) -> Result<Listed, UpgradeFault>
     ensures found { IfOk result (ListMeans files.now) }
     ensures only { (change : Change) → MeanChange files.now change →
-        MatchResult result (IsListedOf change) (IsUpgradeStop change) }
-    ensures fault { IfErr result (λ fault. AreEditions files.now → IsUpgradeCause files.now fault) }
+        MatchResult result (IsListedOf change) (IsUpgradeStop Numbers.AsText change) }
+    ensures fault { IfErr result (λ fault. AreEditions files.now → IsUpgradeCause Numbers.AsText files.now fault) }
 {
     match list_of(alloc, files.changes) {
         Ok(list) => match certificate_of(alloc, files.certificate) {
@@ -161,23 +161,25 @@ fn certificate_in_memory(fault: CertificateFault) -> CertificateFault
 }
 
 // The error of a file of the old edition.
-fn old_fault(fault: OpenFault) -> UpgradeFault
+pub(crate) fn old_fault(fault: OpenFault) -> UpgradeFault
     ensures { result ≡ old_fault_of fault }
 {
     match fault {
         OpenFault::Table(fault) => UpgradeFault::OldTable(fault),
         OpenFault::Data(fault) => UpgradeFault::OldData(fault),
+        OpenFault::Digits { row } => UpgradeFault::OldDigits { row },
         OpenFault::Memory => UpgradeFault::Memory,
     }
 }
 
 // The error of a file of the new edition.
-fn new_fault(fault: OpenFault) -> UpgradeFault
+pub(crate) fn new_fault(fault: OpenFault) -> UpgradeFault
     ensures { result ≡ new_fault_of fault }
 {
     match fault {
         OpenFault::Table(fault) => UpgradeFault::NewTable(fault),
         OpenFault::Data(fault) => UpgradeFault::NewData(fault),
+        OpenFault::Digits { row } => UpgradeFault::NewDigits { row },
         OpenFault::Memory => UpgradeFault::Memory,
     }
 }

@@ -1,7 +1,8 @@
 -- What was read of the six files.
 use Rattle.std.specs.Global.{Global}
 use Rattle.std.specs.Prelude.{◌≡◌, ⊤}
-use Rattle.uca_values.specs.Content.{properties_of}
+use Rattle.uca_weights.specs.declared.Numbers.{Numbers}
+use Rattle.uca_values.specs.Content.{TableContent, Properties, properties_of}
 use Rattle.uca_certificates.specs.Texts as certificates
 use Rattle.uca_tailorings.specs.Inputs.{maps_of}
 use Rattle.uca_change_files.specs.ChangeTexts as changes
@@ -12,11 +13,12 @@ use Rattle.uca_change_runs.specs.AffectedRun.{listed_in}
 use Rattle.uca_change_runs.specs.declared.files.EditionFiles.{EditionFiles}
 use Rattle.uca_change_runs.specs.declared.files.Listed.{Listed}
 use Rattle.uca_editions.specs.ChangeRefusals.{IsFirstRefusal}
+use Rattle.uca_number_keys.specs.Tables.{RefusesTable}
 use Rattle.uca_owned.specs.Opening.{MeanFiles}
 use Rattle.uca_owned.specs.declared.faults.OpenFault.{OpenFault}
 use Rattle.uca_owned.specs.declared.faults.OpenFault.TheVariants as open_faults
 use Rattle.uca_upgrade.specs.declared.faults.UpgradeFault.{UpgradeFault}
-use Rattle.uca_upgrade.specs.declared.faults.UpgradeFault.TheVariants.{OldTable, OldData, NewTable, NewData, NotMet, Memory}
+use Rattle.uca_upgrade.specs.declared.faults.UpgradeFault.TheVariants.{OldTable, OldData, NewTable, NewData, OldDigits, NewDigits, NotMet, Memory}
 use Rattle.uca_upgrade.specs.declared.files.UpgradeFiles.{UpgradeFiles}
 
 -- ---- Two editions
@@ -37,11 +39,13 @@ pub record AreEditionsOf (change : Change) (read : EditionFiles Global) : Type 0
 abbrev pub old_fault_of : OpenFault → UpgradeFault
 old_fault_of (open_faults.Table fault) = OldTable fault
 old_fault_of (open_faults.Data fault) = OldData fault
+old_fault_of (open_faults.Digits row) = OldDigits row
 old_fault_of open_faults.Memory = Memory
 
 abbrev pub new_fault_of : OpenFault → UpgradeFault
 new_fault_of (open_faults.Table fault) = NewTable fault
 new_fault_of (open_faults.Data fault) = NewData fault
+new_fault_of (open_faults.Digits row) = NewDigits row
 new_fault_of open_faults.Memory = Memory
 
 -- ---- What is listed
@@ -56,15 +60,23 @@ pub record IsListedOf (change : Change) (read : Listed Global) : Type 0 where
   pub list : read.list ≡ listed_in change
   pub maps : maps_of read.certificate ≡ change.maps
 
--- ---- The audit
+-- ---- What comes after all files
+
+-- why a table that was read is none for such numbers, or that memory ran out
+abbrev pub IsTableStop : Numbers → TableContent → Properties → OpenFault → Type 0
+IsTableStop numbers table properties (open_faults.Digits row) = RefusesTable numbers table properties row
+IsTableStop numbers table properties open_faults.Memory = ⊤
+IsTableStop numbers table properties _ = ⊥
 
 -- how its error is returned
 abbrev pub audit_fault_of : ChangeFault → UpgradeFault
 audit_fault_of (change_faults.NotMet condition place) = NotMet condition place
 audit_fault_of change_faults.Memory = Memory
 
--- why there is no upgrade of a change that was read: the audit rejects it, or an allocation failed
-abbrev pub IsAuditStop : Change → UpgradeFault → Type 0
-IsAuditStop change (NotMet condition place) = IsFirstRefusal change (change_faults.NotMet condition place)
-IsAuditStop change Memory = ⊤
-IsAuditStop change _ = ⊥
+-- why there is no upgrade of a change that was read: a table is none for such numbers, the audit rejects it, or an allocation failed
+abbrev pub IsAuditStop : Numbers → Change → UpgradeFault → Type 0
+IsAuditStop numbers change (OldDigits row) = RefusesTable numbers change.old change.old_properties row
+IsAuditStop numbers change (NewDigits row) = RefusesTable numbers change.new change.new_properties row
+IsAuditStop numbers change (NotMet condition place) = IsFirstRefusal change (change_faults.NotMet condition place)
+IsAuditStop numbers change Memory = ⊤
+IsAuditStop numbers change _ = ⊥

@@ -4,14 +4,15 @@ use Rattle.std.proofs.Common.{◌≡◌, [], ◌∷◌, Err, refl, subst, sym}
 use Rattle.uca_match.specs.NumberedKeys.{rows_at}
 use Rattle.uca_match.specs.OwnedCollations.{owned_collation}
 use Rattle.uca_elements.specs.Collations.{collation_of}
-use Rattle.uca_run_parts.specs.declared.faults.RunFault.TheVariants.{Memory}
 use Rattle.uca_run_parts.specs.Files.{table_and_data, table_and_data_roles}
 use Rattle.uca_key_runs.specs.Keys.{IsCollation}
-use Rattle.uca_key_runs.specs.CompareRun.{RunsCompare, WritesComparison}
+use Rattle.uca_key_runs.specs.inside.Collations.{IsNoCollation}
+use Rattle.uca_key_runs.specs.CompareRun.{RunsCompare, WritesCompared, WritesComparison}
 use Rattle.uca_key_runs.proofs.Comparing.{run_compares}
 use Rattle.uca_run_parts.proofs.FilesLemmas.{failed_by_files, failed_by_no_file, over_weaker, runs_over_all, same_fault}
 use Rattle.uca_run_parts.proofs.Running.{as_before, no_write_before}
 use Rattle.uca_key_runs.proofs.Keyings.{same_keying}
+use Rattle.uca_key_runs.proofs.Rows.{no_collation}
 use Rattle.uca_key_runs.proofs.compare.run_compare_in.Goals as goal
 
 pub returns-in-Err : goal.returns-in-Err
@@ -21,9 +22,9 @@ returns-in-Err g c =
     let olds = c.args.table.now ∷ c.args.properties.now ∷ [] in
     let news = c.read_collation.new.table ∷ c.read_collation.new.properties ∷ [] in
     record {
-      runs = over_weaker {A = ⊤} {B = ⊤} table_and_data olds news (λ content. fault ≡ Memory) (RunsCompare {A = ⊤} c.args.asked c.args.left.now c.args.right.now c.args.out.now c.args.out.now (Err fault)) (Err fault) (Err fault)
+      runs = over_weaker {A = ⊤} {B = ⊤} table_and_data olds news (λ content. IsNoCollation c.args.asked content fault) (RunsCompare {A = ⊤} c.args.asked c.args.left.now c.args.right.now c.args.out.now c.args.out.now (Err fault)) (Err fault) (Err fault)
           (λ role. same_fault ⊤ ⊤ role fault)
-          (λ content is. subst (λ f. RunsCompare {A = ⊤} c.args.asked c.args.left.now c.args.right.now c.args.out.now c.args.out.now (Err f) content) (sym is) (refl)) c.in-Err.ensures.read;
+          (λ content is. no_collation c.args.asked content fault (λ f. WritesCompared {A = ⊤} c.args.asked c.args.left.now c.args.right.now c.args.out.now c.args.out.now (Err f) content) refl is) c.in-Err.ensures.read;
       nothing_written = λ before. refl;
       failed = failed_by_files ⊤ ⊤ table_and_data_roles olds news fault c.in-Err.ensures.failed;
       out_failed = as_before c.args.out.now.failed _ (no_write_before ⊤ ⊤ fault before);
@@ -37,7 +38,7 @@ returns-in-Ok g c =
     record {
       runs = runs_over_all {B = ⊤} table_and_data olds news
           (λ content. IsCollation c.args.asked (owned_collation read.collation) read.settings content) _ tt c.compare_words-end.result c.compare_words-end.ensures.of_texts
-          (λ content is. run_compares c.args.asked c.args.left.now c.args.right.now c.args.out.now c.compare_words-end.new.out content c.compare_words-end.result
+          (λ content is. run_compares c.args.asked c.args.left.now c.args.right.now c.args.out.now c.compare_words-end.new.out content c.compare_words-end.result is.2
           (subst (λ d. WritesComparison d c.args.left.now c.args.right.now c.args.out.now.contents c.compare_words-end.new.out.contents c.compare_words-end.result)
           (same_keying c.args.asked (collation_of rows_at c.collator-collator.result) (owned_collation read.collation) read.settings content c.collator-collator.ensures is)
           c.compare_words-end.ensures.writes))

@@ -1,9 +1,8 @@
 -- The files are those that `open` reads, and the settings are those of the table which they mean.
-use Rattle.std.proofs.Common.{◌≡◌, ◌∙◌, ap, refl}
+use Rattle.std.proofs.Common.{◌≡◌, ◌∙◌, ap}
 use Rattle.uca_weights.specs.AskedSettings.{settings_by}
 use Rattle.uca_values.specs.Content.{TableContent, properties_of}
 use Rattle.uca_fingerprint.specs.Fingerprints.{fingerprint}
-use Rattle.uca_order.specs.Keyings.{keying}
 use Rattle.uca_owned.proofs.fingerprints.fingerprint_of.Goals as goal
 
 -- the fingerprint is by the settings under the table that was read
@@ -15,15 +14,11 @@ by_table c =
 
 pub returns-clause-found : goal.returns-clause-found
 returns-clause-found c = record {
-  keys = keying c.args.asked c.in-Ok.read (properties_of c.in-Ok-data_of.properties);
-  opens = record {
-    table = c.in-Ok.read;
-    properties = properties_of c.in-Ok-data_of.properties;
-    mean = record {
-      table_file = c.in-Ok.ensures.found;
-      data_file = c.in-Ok-data_of.ensures.found;
-    };
-    same = refl;
+  table = c.in-Ok.read;
+  properties = properties_of c.in-Ok-data_of.properties;
+  mean = record {
+    table_file = c.in-Ok.ensures.found;
+    data_file = c.in-Ok-data_of.ensures.found;
   };
   same = by_table c;
 }

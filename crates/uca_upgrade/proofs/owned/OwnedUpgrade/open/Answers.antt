@@ -11,7 +11,7 @@ use Rattle.uca_upgrade.proofs.owned.OwnedUpgrade.open.Goals as goal
 pub returns-in-Ok-clause-only : goal.returns-in-Ok-clause-only
 returns-in-Ok-clause-only c change mean =
     let files = c.args.files.now in
-    each_way c.audited.result (IsUpgradeOf files change c.args.asked) (IsUpgradeStop change) (λ upgrade is. is)
-    (λ fault stop. stop_of_audit change fault stop)
-    (subst (λ (it : Change). MatchResult c.audited.result (IsUpgradeOf files it c.args.asked) (IsAuditStop it)) (c.in-Ok.ensures.only change mean)
+    each_way c.audited.result (IsUpgradeOf files change c.args.asked) (IsUpgradeStop c.args.asked.numbers change) (λ upgrade is. is)
+    (λ fault stop. stop_of_audit c.args.asked.numbers change fault stop)
+    (subst (λ (it : Change). MatchResult c.audited.result (IsUpgradeOf files it c.args.asked) (IsAuditStop c.args.asked.numbers it)) (c.in-Ok.ensures.only change mean)
     c.audited.ensures)
