@@ -5,8 +5,9 @@ use Rattle.std.proofs.lemmas.List.{drop_all, take_at}
 use Rattle.std.proofs.lemmas.Bool.Decides.{nat_tests}
 use Rattle.uca_weights.specs.declared.Depth.{Depth}
 use Rattle.uca_order.specs.Levels.{level_bytes, levels_bytes}
-use Rattle.uca_compact.specs.Forms.{AreWeights}
+use Rattle.uca_compact.specs.Forms.{AreWeights, AreLevels}
 use Rattle.uca_compact.specs.CompactKeys.{stored_key, KeyParts}
+use Rattle.uca_compact.proofs.OnlyCells.{AreBytes, nothing, same_some}
 use Rattle.uca_lookups.specs.Ranges.{LevelsBegin, FindsLevels}
 use Rattle.uca_lookups.specs.inside.LevelsLength.{levels_length}
 use Rattle.uca_lookups.proofs.StoredReads.{two_at}
@@ -194,3 +195,89 @@ finds_none count key low high none depth weighting k firsts parts is begins long
     let there = key_length depth k firsts key parts.levels.1 is begins (omega (arith, long)) in
     let both : None ≡ Some (length (levels_bytes firsts)) = none ∙ ap (λ (n : ℕ). levels_length n key) (sym long) ∙ there.0 in
     absurd cc
+
+-- ---- Bytes that begin with levels
+
+abbrev pub BeginWithLevels : (count : ℕ) → (key : List ℕ) → (end : ℕ) → Type 0
+BeginWithLevels count key end = (firsts : List (List ℕ)) × AreLevels count firsts × (take end key ≡ levels_bytes firsts)
+
+-- a weight before the first of some levels
+weight_before : (w : ℕ) (ws : List ℕ) (levels : List (List ℕ)) → levels_bytes ((w ∷ ws) ∷ levels) ≡ w / 256 ∷ w % 256 ∷ levels_bytes (ws ∷ levels)
+weight_before w ws [] = refl
+weight_before w ws (a ∷ levels) = refl
+
+-- no level is left but an empty one
+one_begins : (count end : ℕ) (key : List ℕ) → count ≡ 1 → Some 0 ≡ Some end → BeginWithLevels count key end
+one_begins count end key one h =
+    let none : 0 ≡ end = same_some 0 end h in
+    ([] ∷ [], (sym one, (tt, tt)), ap (λ (n : ℕ). take n key) (sym none))
+
+-- two bytes 0 before levels
+zeros_begin : (count end m a b : ℕ) (bytes : List ℕ) → 2 ≤ count → 256 * a + b ≡ 0 → end ≡ suc (suc m) → BeginWithLevels (count - 1) bytes m
+    → BeginWithLevels count (a ∷ b ∷ bytes) end
+zeros_begin count end m a b bytes many zeros is ([], are, same) = absurd (omega (arith, many, are.0))
+zeros_begin count end m a b bytes many zeros is (f ∷ fs, are, same) =
+    let first : a ≡ 0 = omega (arith, zeros) in
+    let second : b ≡ 0 = omega (arith, zeros) in
+    let long : length ([] ∷ f ∷ fs) ≡ count = omega (arith, many, are.0) in (
+      [] ∷ f ∷ fs,
+      (long, (tt, are.1)),
+      ap (λ (n : ℕ). take n (a ∷ b ∷ bytes)) is ∙ ap (λ (xs : List ℕ). a ∷ b ∷ xs) same
+          ∙ ap (λ (n : ℕ). n ∷ b ∷ levels_bytes (f ∷ fs)) first ∙ ap (λ (n : ℕ). 0 ∷ n ∷ levels_bytes (f ∷ fs)) second,
+    )
+
+-- a weight before levels
+weight_begins : (count end m a b : ℕ) (bytes : List ℕ) → 0 < count → a < 256 → b < 256 → 256 * a + b ≢ 0 → end ≡ suc (suc m) → BeginWithLevels count bytes m
+    → BeginWithLevels count (a ∷ b ∷ bytes) end
+weight_begins count end m a b bytes some low low_too weight is ([], are, same) = absurd (omega (arith, some, are.0))
+weight_begins count end m a b bytes some low low_too weight is (f ∷ fs, are, same) =
+    let w = 256 * a + b in
+    let first : a ≡ w / 256 = omega (arith, low, low_too) in
+    let second : b ≡ w % 256 = omega (arith, low, low_too) in
+    let fits : (0 < w) × (w < 65536) = (omega (arith, weight), omega (arith, low, low_too)) in (
+      (w ∷ f) ∷ fs,
+      (are.0, ((fits, are.1.0), are.1.1)),
+      ap (λ (n : ℕ). take n (a ∷ b ∷ bytes)) is ∙ ap (λ (xs : List ℕ). a ∷ b ∷ xs) same
+          ∙ ap (λ (n : ℕ). n ∷ b ∷ levels_bytes (f ∷ fs)) first ∙ ap (λ (n : ℕ). w / 256 ∷ n ∷ levels_bytes (f ∷ fs)) second
+          ∙ sym (weight_before w f fs),
+    )
+
+-- a number that is one more
+mapped : (o : Option ℕ) (end : ℕ) → option_map (λ n. n + 2) o ≡ Some end → (m : ℕ) × (o ≡ Some m) × (end ≡ suc (suc m))
+mapped None end h = nothing h
+mapped (Some m) end h = let same : m + 2 ≡ end = same_some (m + 2) end h in (m, refl, omega (arith, same))
+
+-- where the program found an end of so many levels, the bytes begin with these
+pub levels_found : (count : ℕ) (key : List ℕ) (end : ℕ) → AreBytes key → 0 < count → levels_length count key ≡ Some end → BeginWithLevels count key end
+levels_found count [] end are some h = by_one (nat_eq count 1) refl h
+  where
+    by_one : (t : Bool) → nat_eq count 1 ≡ t → cond t (Some 0) None ≡ Some end → BeginWithLevels count [] end
+    by_one true test found = one_begins count end [] (grind (arith, nat_tests)) found
+    by_one false test found = nothing found
+levels_found count (a ∷ []) end are some h = nothing h
+levels_found count (a ∷ b ∷ bytes) end are some h =
+    by_zero (nat_eq (256 * a + b) 0) refl (λ m more found. levels_found (count - 1) bytes m are.1.1 more found)
+    (λ m found. levels_found count bytes m are.1.1 some found) h
+  where
+    by_few : (t : Bool) → nat_lt count 2 ≡ t → 256 * a + b ≡ 0
+        → ((m : ℕ) → 0 < count - 1 → levels_length (count - 1) bytes ≡ Some m → BeginWithLevels (count - 1) bytes m)
+        → cond t (Some 0) (option_map (λ n. n + 2) (levels_length (count - 1) bytes)) ≡ Some end → BeginWithLevels count (a ∷ b ∷ bytes) end
+    by_few true test zeros less found =
+        let few : count < 2 = grind (arith, nat_tests) in
+        one_begins count end (a ∷ b ∷ bytes) (omega (arith, few, some)) found
+    by_few false test zeros less found =
+        let many : 2 ≤ count = grind (arith, nat_tests) in
+        let it = mapped (levels_length (count - 1) bytes) end found in
+        zeros_begin count end it.0 a b bytes many zeros it.2 (less it.0 (omega (arith, many)) it.1)
+
+    by_zero : (t : Bool) → nat_eq (256 * a + b) 0 ≡ t
+        → ((m : ℕ) → 0 < count - 1 → levels_length (count - 1) bytes ≡ Some m → BeginWithLevels (count - 1) bytes m)
+        → ((m : ℕ) → levels_length count bytes ≡ Some m → BeginWithLevels count bytes m)
+        → cond t (cond (nat_lt count 2) (Some 0) (option_map (λ n. n + 2) (levels_length (count - 1) bytes))) (option_map (λ n. n + 2) (levels_length count bytes)) ≡ Some end
+        → BeginWithLevels count (a ∷ b ∷ bytes) end
+    by_zero true test less same found =
+        let zeros : 256 * a + b ≡ 0 = grind (arith, nat_tests) in by_few (nat_lt count 2) refl zeros less found
+    by_zero false test less same found =
+        let weight : 256 * a + b ≢ 0 = grind (arith, nat_tests) in
+        let it = mapped (levels_length count bytes) end found in
+        weight_begins count end it.0 a b bytes some are.0 are.1.0 weight it.2 (same it.0 it.1)

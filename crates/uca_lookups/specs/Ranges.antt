@@ -1,5 +1,5 @@
 -- Ranges of keys: a database looks up keys from a low end up to, and without, a high end, in byte order.
-use Rattle.std.specs.Prelude.{◌≡◌, ◌≢◌, ℕ, zero, suc, ◌+◌, ◌-◌, ◌<◌, List, [], ◌∷◌, ◌++◌, length, flat_map, Bool, true}
+use Rattle.std.specs.Prelude.{◌≡◌, ◌≢◌, ℕ, zero, suc, ◌+◌, ◌-◌, ◌<◌, ◌≤◌, List, [], ◌∷◌, ◌++◌, length, flat_map, Bool, true}
 use Rattle.std.specs.declared.cmp.Ordering.TheVariants.{Less}
 use Rattle.uca_weights.specs.declared.Depth.{Depth}
 use Rattle.uca_weights.specs.declared.Depth.TheVariants.{Weights}
@@ -7,7 +7,7 @@ use Rattle.uca_weights.specs.declared.Settings.{Settings}
 use Rattle.uca_weights.specs.declared.Weighting.{Weighting}
 use Rattle.uca_order.specs.Levels.{lexicographic, level_count, level_bytes, levels_bytes}
 use Rattle.uca_books.specs.Books.{BookContent}
-use Rattle.uca_compact.specs.Forms.{first_cell, letters_form}
+use Rattle.uca_compact.specs.Forms.{AreLevels, first_cell, letters_form}
 use Rattle.uca_compact.specs.PlainLevels.{plain_level}
 use Rattle.uca_compact.specs.CompactKeys.{cell, KeyParts, stored_key, compact_key, AreParts}
 
@@ -82,6 +82,17 @@ abbrev pub FindsCompactLevels : Settings → BookContent → (count : ℕ) → (
 FindsCompactLevels s b count key found low high = (k : KeyParts) (firsts : List (List ℕ)) → AreParts s.depth s.weighting k →
     key ≡ stored_key s.depth k → LevelsBegin firsts k.levels → length firsts ≡ count → 0 < count →
     (found ≡ true) × (low ≡ compact_levels_low s.weighting b firsts) × (high ≡ compact_levels_high s.weighting b firsts)
+
+-- What a program found for compact keys: the bytes begin with so many levels of weights, and both ends are those of the
+-- range by these. Of what follows them nothing is said.
+pub record HasCompactLevels (s : Settings) (b : BookContent) (count : ℕ) (key low high : List ℕ) : Type 0 where
+  pub firsts : List (List ℕ)
+  pub rest : List ℕ
+  pub levels : AreLevels count firsts
+  pub few : (0 < count) × (count ≤ level_count s.weighting)
+  pub begins : key ≡ levels_bytes firsts ++ rest
+  pub low_end : low ≡ compact_levels_low s.weighting b firsts
+  pub high_end : high ≡ compact_levels_high s.weighting b firsts
 
 -- the cells of weights of level 1
 abbrev pub letters_code : Weighting → BookContent → List ℕ → List ℕ

@@ -1,8 +1,8 @@
 //! Both ends of ranges of compact keys by the first levels of a stored key.
 
-ghost use Rattle.std.specs.Prelude.{◌≡◌, ℕ, suc, ◌+◌, ◌-◌, ◌<◌, ◌≤◌, List, [], ◌∷◌, ◌++◌, IfOk, OnOk};
+ghost use Rattle.std.specs.Prelude.{◌≡◌, ◌↔◌, ℕ, suc, ◌+◌, ◌-◌, ◌<◌, ◌≤◌, List, [], ◌∷◌, ◌++◌, true, IsTrue, IfOk, OnOk};
 ghost use Rattle.uca_order.specs.Levels.{level_count};
-ghost use Rattle.uca_lookups.specs.Ranges.{FindsCompactLevels};
+ghost use Rattle.uca_lookups.specs.Ranges.{FindsCompactLevels, HasCompactLevels};
 ghost use Rattle.uca_lookups.specs.inside.NoPoints.{no_points};
 
 use crate::levels::levels_end;
@@ -20,6 +20,13 @@ fn level_total(weighting: Weighting) -> usize
         Weighting::NonIgnorable => 3,
         Weighting::Shifted => 4,
     }
+}
+
+// Whether it is one of these levels at least, and not more.
+fn are_some_of(count: usize, all: usize) -> bool
+    ensures { IsTrue result ↔ ((0 < count) × (count ≤ all)) }
+{
+    count > 0 && count <= all
 }
 
 // Writes an identical level without code points, where keys have one.
@@ -58,7 +65,8 @@ fn part_ends<A: Allocator>(
 /// The compacter was made with these settings. It stays as it is, and its memory is used.
 ///
 /// The bytes are to be a stored key of the settings, of at least so many levels, and `count` is at least 1. For others
-/// the result is unspecified: it may be `false`. What was written is then unspecified.
+/// it may return `false`, and what was written is then unspecified. It returns `true` only if keys of the settings have
+/// so many levels, and the bytes begin with as many. Then both ends are those of the range by these levels.
 ///
 /// # Errors
 ///
@@ -74,8 +82,13 @@ pub fn write_same_compact_levels_range<A: Allocator, B: Allocator>(
     requires settings { compacter.old.settings ≡ settings }
     ensures same { compacter.new ≡ compacter.old }
     ensures levels { IfOk result (λ found. FindsCompactLevels settings compacter.old.book count key.now found low.new.items high.new.items) }
+    ensures found { IfOk result (λ found. found ≡ true →
+        HasCompactLevels settings compacter.old.book count key.now low.new.items high.new.items) }
 {
     let all = level_total(settings.weighting);
+    if !are_some_of(count, all) {
+        return Ok(false);
+    }
     let end = match levels_end(key, count) {
         Some(end) => end,
         None => return Ok(false),

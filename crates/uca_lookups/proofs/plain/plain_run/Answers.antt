@@ -1,4 +1,4 @@
-use Rattle.std.proofs.Common.{◌+◌, ◌-◌, arith}
+use Rattle.std.proofs.Common.{◌+◌, arith}
 use Rattle.uca_lookups.proofs.PlainKeys.{plain_second, plain_third, plain_later}
 use Rattle.uca_lookups.proofs.plain.plain_run.Goals as goal
 
