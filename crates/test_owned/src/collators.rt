@@ -1,19 +1,22 @@
 //! Keys of texts of many lengths and of many code points, and collators that share a table. A body that says that
 //! memory ran out, where none did, meets its contract. So lengths around powers of two and of ten are here, and
-//! random ones. Orders that are told at once are here too: no clause says when there is one.
+//! random ones. So it is with comparisons, and with orders of all byte strings: a text that is rejected has its own
+//! error. Orders that are told at once are here too: no clause says when there is one.
 
 use std::alloc::Global;
 use std::cmp::Ordering;
 use std::test::Fail;
-use test_kit::{bytes_of, holds, repeated, same_bytes, thirds};
-use uca_owned::{KeyFault, OwnedCollator};
-use uca_weights::{Asked, Depth, Weighting};
+use test_kit::{NUMBER_TABLE, bytes_of, holds, repeated, same_bytes, thirds};
+use uca_owned::{CompareFault, KeyFault, OwnedCollator};
+use uca_text::TextFault;
+use uca_weights::{Asked, Depth, Numbers, Weighting};
 
 const TABLE: &str = "@version 1\n\
     0061 ; [.1C47.0020.0002]\n\
     0062 ; [.1C60.0020.0002]\n";
 
-const DATA: &str = "@data 1\n";
+const DATA: &str = "@data 1\n\
+    ccc 0300..0300 230\n";
 
 const MOST_LETTERS: usize = 140_000;
 
@@ -175,6 +178,111 @@ fn check_before_and_after(alloc: Global, collator: &mut OwnedCollator) -> Result
     check_at_once(alloc, collator, true)
 }
 
+/// Two byte strings and what is said of them: the sign of their order, and the level at which they differ. That is 0
+/// where they are equal. In place of it stands which one is rejected, as it is not UTF-8.
+const PAIRS: &str = r"a | b | < 1
+b | a | > 1
+a | a | = 0
+ | a | < 1
+a | \xFF | < right
+\xFF | a | > left
+\xFE | \xFF | < left
+\xFF | \xFE | > left
+\xFF | \xFF | = left
+aaaaaaaaaaaaaaaa | aaaaaaaaaaaaaaaa | = 0
+aaaaaaaaaaaaaaab | aaaaaaaaaaaaaaaa | > 1
+aaaaaaaaaaaaaaaa | \xFF | < right
+aaaaaaaaaaaaaaa\xFE | aaaaaaaaaaaaaaa\xFE | = left
+aaaaaaaaaaaaaaaaaaaaaaaaaaaaaaaa | aaaaaaaaaaaaaaaaaaaaaaaaaaaaaaaa | = 0
+aaaaaaaaaaaaaaaaaaaaaaaaaaaaaaaa | aaaaaaaaaaaaaaaaaaaaaaaaaaaaaaab | < 1
+aaaaaaaaaaaaaaaaaaaaaaaaaaaaaaaaa | aaaaaaaaaaaaaaaaaaaaaaaaaaaaaaaaa | = 0
+aaaaaaaaaaaaaaaaaaaaaaaaaaaaaaaab | aaaaaaaaaaaaaaaaaaaaaaaaaaaaaaaaa | > 1
+\xFF | aaaaaaaaaaaaaaaaaaaaaaaaaaaaaaaaa | > left";
+
+/// Such rows by value: 10 has two digits.
+const NUMBER_PAIRS: &str = r"a2 | a10 | < 1
+a10 | a2 | > 1
+a10 | a10 | = 0
+a10 | \xFF | < right";
+
+fn sign_of(order: Ordering) -> &'static str {
+    match order {
+        Ordering::Less => "<",
+        Ordering::Equal => "=",
+        Ordering::Greater => ">",
+    }
+}
+
+/// What a row has after the sign.
+fn said_of(found: Result<(Ordering, u8), CompareFault>) -> &'static str {
+    match found {
+        Ok((_, 0)) => "0",
+        Ok((_, 1)) => "1",
+        Err(CompareFault::Left(KeyFault::Utf8)) => "left",
+        Err(CompareFault::Right(KeyFault::Utf8)) => "right",
+        _ => "another answer",
+    }
+}
+
+fn check_pair(
+    collator: &mut OwnedCollator,
+    left: &[u8],
+    right: &[u8],
+    wanted: &str,
+) -> Result<(), Fail> {
+    let order = collator.order(left, right)?;
+    let found = collator.compare(left, right);
+    let same = match found {
+        Ok(pair) => pair.0 == order,
+        Err(_) => true,
+    };
+    let is_wanted = wanted.starts_with(sign_of(order)) && wanted.ends_with(said_of(found));
+    holds(same && is_wanted, wanted)
+}
+
+fn check_pairs(alloc: Global, collator: &mut OwnedCollator, pairs: &str) -> Result<(), Fail> {
+    for case in pairs.lines() {
+        let (left, right, wanted) = thirds(case)?;
+        let (left, right) = (bytes_of(alloc, left)?, bytes_of(alloc, right)?);
+        check_pair(collator, &left, &right, wanted)?;
+    }
+    Ok(())
+}
+
+/// 70,000 letters, and one more.
+fn check_long_pairs(collator: &mut OwnedCollator, letters: &str) -> Result<(), Fail> {
+    let long = letters_of(letters, 70_000)?;
+    let longer = letters_of(letters, 70_001)?;
+    check_pair(collator, long, longer, "< 1")?;
+    check_pair(collator, longer, longer, "= 0")?;
+    check_pair(collator, b"\xFF", long, "> left")
+}
+
+/// 65 marks in a row are rejected at the first of them. Their first byte is CC.
+fn check_marks(collator: &mut OwnedCollator, marks: &[u8]) -> Result<(), Fail> {
+    let fault = KeyFault::Text(TextFault::LongRun(0));
+    holds(collator.make_key(marks) == Err(fault), "a key of marks")?;
+    let found = collator.compare(marks, b"a");
+    holds(found == Err(CompareFault::Left(fault)), "marks on the left")?;
+    let found = collator.compare(b"a", marks);
+    holds(
+        found == Err(CompareFault::Right(fault)),
+        "marks on the right",
+    )?;
+    holds(
+        collator.order(marks, b"a")? == Ordering::Greater,
+        "after a text",
+    )?;
+    holds(
+        collator.order(b"a", marks)? == Ordering::Less,
+        "a text before",
+    )?;
+    holds(
+        collator.order(marks, b"\xFF")? == Ordering::Less,
+        "no texts",
+    )
+}
+
 /// The levels of the key of `ba`, one letter after the other.
 fn check_levels(collator: &mut OwnedCollator) -> Result<(), Fail> {
     holds(collator.make_levels(b"ba")?, "the levels of two letters")?;
@@ -216,6 +324,9 @@ fn check_all(alloc: Global, collator: &mut OwnedCollator, letters: &str) -> Resu
     check_before_and_after(alloc, collator)?;
     check_levels_again(collator)?;
     check_other(collator, alloc)?;
+    check_pairs(alloc, collator, PAIRS)?;
+    check_long_pairs(collator, letters)?;
+    check_marks(collator, repeated(alloc, "\u{300}", 65)?.as_bytes())?;
     check_lengths(collator, letters)
 }
 
@@ -223,4 +334,20 @@ fn check_all(alloc: Global, collator: &mut OwnedCollator, letters: &str) -> Resu
 fn keys_levels_and_orders(rt: HostRuntime) -> Result<(), Fail> {
     let letters = repeated(rt.alloc(), "a", MOST_LETTERS)?;
     check_all(rt.alloc(), &mut opened(rt.alloc())?, &letters)
+}
+
+fn opened_by_value(alloc: Global) -> Result<OwnedCollator, Fail> {
+    let asked = Asked {
+        weighting: Some(Weighting::NonIgnorable),
+        depth: Depth::Weights,
+        numbers: Numbers::ByValue,
+    };
+    let table = NUMBER_TABLE.as_bytes();
+    Ok(OwnedCollator::open(alloc, table, DATA.as_bytes(), asked)?)
+}
+
+#[test]
+fn orders_by_value(rt: HostRuntime) -> Result<(), Fail> {
+    let alloc = rt.alloc();
+    check_pairs(alloc, &mut opened_by_value(alloc)?, NUMBER_PAIRS)
 }
