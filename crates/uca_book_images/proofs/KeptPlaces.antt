@@ -85,7 +85,7 @@ test_sent images rising w x s y sent started = elim (cases_lt w s) [
 image_below : (images : WeightImages) → IsRisingMap One images → (w x n : ℕ) → Sends images w x → w < n → x ≤ last_image images n
 image_below images rising w x zero sent less = absurd (omega arith)
 image_below images rising w x (suc m) sent less = elim (cases_lt w m) [
-  | inl before ↦ by (images m) refl before
+  | inl before ↦ by (λ less_still. image_below images rising w x m sent less_still) (images m) refl before
   | inr last ↦
       let same : w ≡ m = omega arith in
       let own : images m ≡ Some x = ap images (sym same) ∙ sent in
@@ -93,18 +93,18 @@ image_below images rising w x (suc m) sent less = elim (cases_lt w m) [
       omega (arith, is)
 ]
   where
-    by : (o : Option ℕ) → images m ≡ o → w < m → x ≤ unwrap_or o (last_image images m)
-    by None none before = image_below images rising w x m sent before
-    by (Some y) found before = let up = rising.rising w m x y sent found before in omega (arith, up)
+    by : (w < m → x ≤ last_image images m) → (o : Option ℕ) → images m ≡ o → w < m → x ≤ unwrap_or o (last_image images m)
+    by earlier None none before = earlier before
+    by earlier (Some y) found before = let up = rising.rising w m x y sent found before in omega (arith, up)
 
 -- and that of a weight from the start on is above it
 image_above : (images : WeightImages) → IsRisingMap One images → (w x n : ℕ) → 0 < x → Sends images w x → n ≤ w → last_image images n < x
 image_above images rising w x zero some sent more = some
-image_above images rising w x (suc m) some sent more = by (images m) refl
+image_above images rising w x (suc m) some sent more = by (image_above images rising w x m some sent (omega arith)) (images m) refl
   where
-    by : (o : Option ℕ) → images m ≡ o → unwrap_or o (last_image images m) < x
-    by None none = image_above images rising w x m some sent (omega arith)
-    by (Some y) found = rising.rising m w y x found sent (omega arith)
+    by : last_image images m < x → (o : Option ℕ) → images m ≡ o → unwrap_or o (last_image images m) < x
+    by earlier None none = earlier
+    by earlier (Some y) found = rising.rising m w y x found sent (omega arith)
 
 -- so it is with what a start becomes
 test_start : (images : WeightImages) → IsRisingMap One images → (w x s : ℕ) → 0 < x → Sends images w x → nat_lt w s ≡ nat_lt x (start_image images s)
