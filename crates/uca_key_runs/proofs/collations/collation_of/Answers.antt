@@ -11,4 +11,4 @@ pub returns-in-Ok-clause-made : goal.returns-in-Ok-clause-made
 returns-in-Ok-clause-made g c =
     made_of_files c.args.asked (rows_at c.in-Ok.rows) c.in-Ok.header c.settings.result (table_with c.args.table (properties_of c.args.properties))
     c.in-Ok.ensures.rows c.in-Ok.ensures.header (c.settings.ensures ∙ ap (λ (h : HeaderContent). settings_by c.args.asked h.setting) c.header.view_is)
-    ?
+    c.in_default.ensures.taken
