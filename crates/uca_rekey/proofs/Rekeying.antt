@@ -18,7 +18,7 @@ use Rattle.uca_certificates.specs.Certificates.{CertificateContent}
 use Rattle.uca_images.specs.Moving.{MoverState}
 use Rattle.uca_run_parts.specs.EachLine.{ended_before_input}
 use Rattle.uca_run_parts.specs.declared.faults.RunFault.{RunFault}
-use Rattle.uca_run_parts.specs.declared.faults.RunFault.TheVariants.{File, Memory, StoredKey, Write}
+use Rattle.uca_run_parts.specs.declared.faults.RunFault.TheVariants.{File, Digits, Memory, StoredKey, Write}
 use Rattle.uca_run_parts.specs.declared.faults.StoredKeyKind.{StoredKeyKind}
 use Rattle.uca_run_parts.specs.declared.faults.StoredKeyKind.TheVariants as kinds
 use Rattle.uca_run_parts.specs.Runs.{PartWentOut, ended_by_output}
@@ -57,6 +57,7 @@ runs_rekey settings input input_new out out_new (Err _) certificate lines writes
 -- an error of a line is none before the input
 pub not_before : (A B : Type 0) (fault : RunFault) → ended_before_input {A = A} (Err fault) ≡ false → ended_before_input {A = B} (Err fault) ≡ false
 not_before A B (File role cause) h = h
+not_before A B (Digits row) h = h
 not_before A B Memory h = h
 not_before A B _ h = refl
 

@@ -57,7 +57,7 @@ fn headers_by<A: Allocator>(
     keys: Option<&[u8; 32]>,
     book: &Book<A>,
 ) -> Option<HeaderLines>
-    ensures { headers_of result ≡ headers_by settings keys book.now }
+    ensures { headers_of result ≡ headers_by settings keys.entry book.now }
 {
     match keys {
         Some(keys) => {
@@ -94,7 +94,7 @@ fn compact_by_book<A: Allocator + Copy, B: Read, I: Read, W: Write>(
     settings: Settings,
     keys: Option<&[u8; 32]>,
 ) -> Result<(), RunFault>
-    ensures { ChangesByBook (compacts settings) (headers_by settings keys) StoredKeyKind.OtherKey (book.old ∷ []) (book.new ∷ []) input.old input.new out.old out.new result }
+    ensures { ChangesByBook (compacts settings) (headers_by settings keys.entry) StoredKeyKind.OtherKey (book.old ∷ []) (book.new ∷ []) input.old input.new out.old out.new result }
 {
     match read_book_file(alloc, book) {
         Ok(book) => {
@@ -115,7 +115,7 @@ fn expand_by_book<A: Allocator + Copy, B: Read, I: Read, W: Write>(
     settings: Settings,
     keys: Option<&[u8; 32]>,
 ) -> Result<(), RunFault>
-    ensures { ChangesByBook (expands settings) (λ b. option_map swapped (headers_by settings keys b)) StoredKeyKind.NoCompactKey (book.old ∷ []) (book.new ∷ []) input.old input.new out.old out.new result }
+    ensures { ChangesByBook (expands settings) (λ b. option_map swapped (headers_by settings keys.entry b)) StoredKeyKind.NoCompactKey (book.old ∷ []) (book.new ∷ []) input.old input.new out.old out.new result }
 {
     match read_book_file(alloc, book) {
         Ok(book) => {
