@@ -3,7 +3,6 @@ use Rattle.std.proofs.Common.{◌≡◌, ◌≢◌, ◌∙◌, ◌⊎◌, inl, i
 use Rattle.uca_certificates.specs.Texts.{Says, Cause, IsStop, Refuses}
 use Rattle.uca_certificates.specs.declared.TheConstants.{CERTIFICATE_FORM}
 use Rattle.uca_certificates.specs.declared.faults.CertificateFault.{CertificateFault}
-use Rattle.uca_certificates.specs.declared.faults.CertificateFaultKind.{CertificateFaultKind}
 use Rattle.uca_certificates.specs.declared.faults.CertificateFaultKind.TheVariants as kinds
 use Rattle.uca_owned.proofs.InMemory.{line_stopped}
 
