@@ -197,12 +197,13 @@ def orders_numbers(rows):
 
 
 def numbers_by_value(setup, table):
-    """What is wrong with numbers under a table; nothing if they come in the order of their values."""
-    if not orders_numbers(Table(table).rows):
-        return NO_ORDER
+    """What is wrong with numbers under a table; nothing if they come in the order of their values. A table that does not order
+    them is an error of `uca sort`."""
     text = "".join(f"{it}\n" for it in NUMBERS)
     turned = "".join(f"{it}\n" for it in reversed(NUMBERS))
     out, said = languages.run([setup.uca, "sort", "--numeric", table, setup.data], turned)
+    if not orders_numbers(Table(table).rows):
+        return NO_ORDER if "Digits" in said else "uca sort --numeric takes the table"
     return said or ("" if out == text else "uca sort --numeric has another order")
 
 
