@@ -106,7 +106,7 @@ fn numbers() {
         assert_eq!(value.parse::<u32>().expect("a number"), number(&format!("UCA_{name}")), "{name}");
         count += 1;
     }
-    assert_eq!(count, 21);
+    assert_eq!(count, 22);
 }
 
 #[test]
