@@ -69,9 +69,9 @@ CERTIFICATE = b"""1 0209 0209 0001
 """
 EDITIONS = (TABLE, DATA, NEW_TABLE, NEW_DATA, CHANGES, CERTIFICATE)
 
-#: The ten digits, whose weights rise from 1C3D on. In the next edition the digit 2 has another weight.
+#: The ten digits, whose weights rise from 1C3D on. In the next edition the digit 2 has another weight at level 3.
 NUMBERS = TABLE + b"".join(b"003%d ; [.1C%02X.0020.0002]\n" % (it, 0x3D + it) for it in range(10))
-NEW_NUMBERS = NUMBERS.replace(b"@version 1", b"@version 2").replace(b"0032 ; [.1C3F", b"0032 ; [.1C50")
+NEW_NUMBERS = NUMBERS.replace(b"@version 1", b"@version 2").replace(b"0032 ; [.1C3F.0020.0002", b"0032 ; [.1C3F.0020.0008")
 NUMBERS_CERTIFICATE = b"""1 0209 0209 0001
 1 1C3D 1C3D 0002
 1 1C40 1C40 0008
