@@ -815,7 +815,7 @@ DIGIT_MAPS += ["2 0020 0020 0001", "2 0024 0024 0002", "2 002C 002C 0001", "3 00
 def digit_files(folder):
     """The six files of an upgrade of the digits, in this folder."""
     old = content(TABLE).decode() + DIGITS
-    new = old.replace("@version 1", "@version 2").replace("0032 ; [.1C3F", "0032 ; [.1C50")
+    new = old.replace("@version 1", "@version 2").replace("0032 ; [.1C3F.0020.0002", "0032 ; [.1C3F.0020.0008")
     maps = "".join(it + "\n" for it in DIGIT_MAPS)
     for name, text in (("old", old), ("new", new), ("changes", "@changes 1\ntext 0032\n"), ("maps", maps)):
         with open(f"{folder}/{name}.txt", "w", encoding="utf-8") as it:
