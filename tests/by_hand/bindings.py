@@ -134,7 +134,7 @@ int main()
     uca_collator collator = UCA_CLOSED_COLLATOR;
     uca_upgrade upgrade = UCA_CLOSED_UPGRADE;
     uca_settings settings = UCA_DEFAULT_SETTINGS;
-    uca_bytes table = {UCA_BYTES_OF("@version 1\\n0061 ; [.1C47.0020.0002]\\n")}, data = {UCA_BYTES_OF("@data 1\\n")};
+    uca_bytes table = {UCA_BYTES_OF("@version 1\\nDIGITS0061 ; [.1C47.0020.0002]\\n")}, data = {UCA_BYTES_OF("@data 1\\n")};
     uca_error error;
     uca_upgrade_error upgrade_error;
     char line[128];
@@ -153,7 +153,7 @@ int main()
 def header(work):
     need("g++")
     with open(f"{work}/header.cpp", "w", encoding="utf-8") as it:
-        it.write(CPP)
+        it.write(CPP.replace("DIGITS", DIGITS.replace("\n", "\\n")))
     run(["g++", "-Wall", "-Wextra", "-Werror", f"-I{C}/include", "-o", f"{work}/header", f"{work}/header.cpp", f"{C}/out/libuca.a"])
     same(run([f"{work}/header"]), b"file of changes line 1: Order\n", "the header in C++")
 
@@ -1326,7 +1326,8 @@ def postgresql(work):
 def postgresql_settings(work):
     """The settings and their files, and the fingerprint of each."""
     table, data = files_for(work, ["numeric"])
-    with postgresql_server(work, more="uca.numeric = on\n") as (server, says, settings):
+    with postgresql_server(work) as (server, says, settings):
+        server.restart(settings + "uca.numeric = on\n")
         same(says("SELECT uca_key('a');", fails=True), "ERROR:  uca: table: Digits", "a table without digits, by value")
     with postgresql_server(work, table) as (server, says, settings):
         depths = (("shifted", "identical"), ("shifted", "numeric"), ("table", "identical numeric"))
