@@ -1,4 +1,5 @@
-//! Numbers by value: texts with their numbers written so that a collation orders them by value, if its digits rise.
+//! Numbers by value: texts with their numbers written so that a collation orders them by value, if its table orders
+//! numbers (`check_numbers` of `uca_number_keys`).
 //!
 //! `file 9` comes after `file 10`, since 9 comes after 1. Here `file 9` is written `file 19` and `file 10` is written
 //! `file 210`: before the digits comes how many they are. So the longer number is greater, and of two numbers of one

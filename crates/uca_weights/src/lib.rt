@@ -80,7 +80,8 @@ pub enum Depth {
 pub enum Numbers {
     /// As any other text, digit by digit: `file 10` comes before `file 9`.
     AsText,
-    /// By their values: `file 9` comes before `file 10`. The digits of a table have to rise for that.
+    /// By their values: `file 9` comes before `file 10`. The table has to order numbers: each digit has a row of one
+    /// element that is not variable, their primary weights rise, and no other key has a digit.
     ByValue,
 }
 
