@@ -13,6 +13,7 @@ import re
 import sys
 import textwrap
 
+import script_help
 from command_help import TOP, helps_of, printed, program_of, stored_helps, stored_version
 
 DATE = "2026-11-25"
@@ -111,7 +112,7 @@ def main(words):
     if words:
         program, others = program_of(words)
         if others:
-            sys.exit(__doc__)
+            script_help.stop(__doc__)
         print(page(*helps_of(program), printed(program, "--version").strip()), end="")
     else:
         print(page(*stored_helps(), stored_version()), end="")
@@ -119,4 +120,6 @@ def main(words):
 
 
 if __name__ == "__main__":
+    if script_help.is_asked(__doc__, sys.argv[1:]):
+        sys.exit()
     sys.exit(main(sys.argv[1:]))

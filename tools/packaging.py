@@ -18,6 +18,7 @@ import subprocess
 import sys
 import tempfile
 
+import script_help
 from command_help import TOP, helps_of, printed, program_of
 from completion_shells import Zsh, bash_offers, fish_offers
 
@@ -299,7 +300,7 @@ def check_version(counts, program):
 def main(arguments):
     program, others = program_of(arguments)
     if others:
-        sys.exit(__doc__)
+        script_help.stop(__doc__)
     counts = Counts()
     whole, helps = helps_of(program)
     check_version(counts, program)
@@ -311,4 +312,6 @@ def main(arguments):
 
 
 if __name__ == "__main__":
+    if script_help.is_asked(__doc__, sys.argv[1:]):
+        sys.exit()
     sys.exit(main(sys.argv[1:]))
