@@ -52,14 +52,20 @@ def languages_of(cldr: str, folder: str) -> list[str]:
     return sorted(it.removesuffix(".xml") for it in os.listdir(os.path.join(cldr, folder)))
 
 
-def all_names(cldr: str) -> Iterator[tuple[str, str]]:
-    """The names and tags of all collations of CLDR, and of the other languages that it knows: these have the root's order."""
-    names, have = english(cldr), languages_of(cldr, "collation")
-    for locale in have:
+def collation_names(cldr: str) -> Iterator[tuple[str, str]]:
+    """The names and tags of all collations of CLDR."""
+    names = english(cldr)
+    for locale in languages_of(cldr, "collation"):
         for end, kind in kinds_of(cldr, locale):
             is_plain = kind in ("standard", "reformed") and "co" not in end
             more = "accents from the beginning" if "kb" in end else "" if is_plain else PLAIN.get(kind, kind)
             yield ", ".join(filter(None, [name_of(locale, names), more])), ("und" if locale == "root" else locale.replace("_", "-")) + end
+
+
+def all_names(cldr: str) -> Iterator[tuple[str, str]]:
+    """The names and tags of all collations of CLDR, and of the other languages that it knows: most of these have the root's order."""
+    yield from collation_names(cldr)
+    names, have = english(cldr), languages_of(cldr, "collation")
     for locale in languages_of(cldr, "main"):
         if "_" not in locale and locale not in have:
             more = PLAIN[kind_and_rules(cldr, locale)[0]] if has_rules(cldr, locale) else "as the root"
