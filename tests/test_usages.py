@@ -3,10 +3,14 @@ import glob
 import os
 import subprocess
 import unittest
+from concurrent.futures import ThreadPoolExecutor
 
 from program import LIMIT, TOP, UCA
 
 NONE, FOLDERS = "/none/none", ("tools", "examples", "packaging", "page")
+
+# The name of a script that is installed under another one.
+COMMANDS = {"tools/uca_files.py": "uca-files"}
 
 # Scripts that do their work without an argument. Some of it takes long, so here they are only asked for help.
 ALONE = {
@@ -25,7 +29,6 @@ ALONE = {
     "tools/plain_english.py",
     "tools/tidy.py",
     "tools/try_edits.py",
-    "tools/uca_files.py",
     "examples/books/general_lines.py",
     "examples/databases/run_all.py",
     "packaging/debian.py",
@@ -34,6 +37,9 @@ ALONE = {
     "packaging/wheel.py",
     "page/make.py",
 }
+
+# This one reads variables and standard input alone.
+WITHOUT_FILES = {"examples/databases/upgraded_keys.sh"}
 
 # Calls with a file, a crate or a page that is not there.
 MISSING = [
@@ -56,6 +62,8 @@ MISSING = [
     "tools/slowest.py none",
     "tools/tidy.py none",
     "tools/try_edits.py none",
+    "tools/uca_files.py --uca UCA --into /dev/null --unicode NONE pl",
+    "tools/uca_files.py --cldr NONE --names",
     "tools/unicode_files.py table NONE",
     "tools/unicode_files.py table --folder NONE",
     "examples/books/choose_book.py NONE",
@@ -85,12 +93,23 @@ def scripts():
     return sorted(it for it in found if it.endswith((".py", ".sh")) and os.access(f"{TOP}/{it}", os.X_OK))
 
 
+def named(name):
+    """How a script names itself."""
+    return COMMANDS.get(name) or os.path.basename(name)
+
+
 def ran(words):
     """A call of a script. The program is on the path, and there is no standard input."""
     given = [{"UCA": UCA, "NONE": NONE}.get(it, it) for it in words.split()]
     environment = {**os.environ, "PATH": f"{os.path.dirname(UCA)}:{os.environ['PATH']}"}
     environment.pop("PREFIX", None)
     return subprocess.run([f"{TOP}/{given[0]}", *given[1:]], stdin=subprocess.DEVNULL, capture_output=True, encoding="utf-8", errors="replace", env=environment, timeout=LIMIT, check=False)
+
+
+def all_ran(calls):
+    """Each call with what came of it. Some run side by side."""
+    with ThreadPoolExecutor() as pool:
+        return [*zip(calls, pool.map(ran, calls))]
 
 
 class Usages(unittest.TestCase):
@@ -102,26 +121,25 @@ class Usages(unittest.TestCase):
         """--help names the script, on standard output alone."""
         names = scripts()
         self.assertGreater(len(names), 30)
-        for name in names:
+        for call, done in all_ran([f"{name} --help" for name in names]):
+            name = call.split()[0]
             with self.subTest(script=name):
-                done = ran(f"{name} --help")
                 self.assertEqual((done.returncode, done.stderr), (0, ""))
-                self.assertIn(os.path.basename(name), done.stdout)
+                self.assertIn(named(name), done.stdout)
 
     def test_no_arguments(self):
         """A script that needs arguments says its usage, on standard error alone."""
-        for name in sorted({*scripts()} - ALONE):
+        for name, done in all_ran(sorted({*scripts()} - ALONE)):
             with self.subTest(script=name):
-                done = ran(name)
                 self.ends_well(done)
                 self.assertEqual((done.returncode, done.stdout), (2, ""))
-                self.assertIn(os.path.basename(name), done.stderr)
+                self.assertIn(named(name), done.stderr)
 
     def test_missing(self):
-        """Where a file is not there, the status is not 0, and an error says something."""
-        for words in MISSING:
+        """Where a file is not there, the status is not 0, and an error says something. Each script that needs arguments is tried."""
+        self.assertEqual({*scripts()} - ALONE - {it.split()[0] for it in MISSING} - WITHOUT_FILES, set())
+        for words, done in all_ran(MISSING):
             with self.subTest(call=words):
-                done = ran(words)
                 self.ends_well(done)
                 self.assertNotEqual(done.returncode, 0)
                 self.assertNotEqual(done.stderr, "")

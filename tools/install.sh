@@ -125,6 +125,7 @@ chmod 644 "$to/$list"
 
 put 755 "$program" bin/uca
 put 644 "$top/man/uca.1" share/man/man1/uca.1
+put 644 "$top/man/uca-files.1" share/man/man1/uca-files.1
 put 644 "$top/completions/uca.bash" share/bash-completion/completions/uca
 put 644 "$top/completions/_uca" share/zsh/site-functions/_uca
 put 644 "$top/completions/uca.fish" share/fish/vendor_completions.d/uca.fish
@@ -139,7 +140,7 @@ for page in "$top"/docs/* "$top"/examples/* "$top"/examples/*/*; do
 done
 put_own 755 tools/uca_files.py tools/unicode_files.py tools/languages.py
 put_own 644 tools/cldr_rules.py tools/profile_rules.py tools/language_tags.py tools/language_tables.py
-put_own 644 tools/weight_lists.py tools/script_order.py tools/han_order.py tools/kept_changes.py tools/index_labels.py
+put_own 644 tools/weight_lists.py tools/script_order.py tools/han_order.py tools/kept_changes.py tools/index_labels.py tools/language_names.py
 put_link "../$own/tools/uca_files.py" bin/uca-files
 # the pages name these scripts by tools/
 put_link ../../uca/tools "$documents/tools"
