@@ -60,8 +60,8 @@ class Judged(NamedTuple):
 
 
 def program(options):
-    built = f"{TOP}/crates/uca/out/uca"
-    found = options.uca or (built if os.path.exists(built) else shutil.which("uca"))
+    built, installed = f"{TOP}/crates/uca/out/uca", f"{TOP}/../../bin/uca" if TOP.endswith("/share/uca") else ""
+    found = options.uca or next((it for it in (built, installed) if os.path.exists(it)), None) or shutil.which("uca")
     if not found:
         raise CldrError("there is no program crates/uca/out/uca or uca: what is made is judged by it before it is printed")
     if not shutil.which(found):
