@@ -126,9 +126,11 @@ chmod 644 "$to/$list"
 put 755 "$program" bin/uca
 put 644 "$top/man/uca.1" share/man/man1/uca.1
 put 644 "$top/man/uca-files.1" share/man/man1/uca-files.1
-put 644 "$top/completions/uca.bash" share/bash-completion/completions/uca
-put 644 "$top/completions/_uca" share/zsh/site-functions/_uca
-put 644 "$top/completions/uca.fish" share/fish/vendor_completions.d/uca.fish
+for name in uca uca-files; do
+    put 644 "$top/completions/$name.bash" "share/bash-completion/completions/$name"
+    put 644 "$top/completions/_$name" "share/zsh/site-functions/_$name"
+    put 644 "$top/completions/$name.fish" "share/fish/vendor_completions.d/$name.fish"
+done
 put_documents LICENSE LICENSE-MIT LICENSE-APACHE NOTICE
 put_documents README.md CHANGELOG.md SECURITY.md bench/README.md bench/time.svg bench/key_bytes.svg
 # three scripts of examples/databases need tests/by_hand, which is not installed
