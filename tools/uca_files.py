@@ -199,9 +199,11 @@ def book_of(options, kept):
     if not os.path.exists(path):
         try:
             import table_books
-        except ModuleNotFoundError:
-            raise CldrError("there is no module table_books.py beside this script: it makes books") from None
+        except ModuleNotFoundError as error:
+            raise CldrError(f"there is no module {error.name}: books are not made without it") from error
         check_packages(options)
+        if not os.access(kept.path, os.W_OK):
+            raise CldrError(f"{kept.path} has no book, and you cannot write there: whoever can makes it by uca-files --into {kept.folder} --book {kept.tag}")
         with room_in(kept.folder) as room:
             made = os.path.join(room, "book.txt")
             table_books.write_book(options, read_tag(options.cldr, kept.tag), *kept.files, made)
