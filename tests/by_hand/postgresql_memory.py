@@ -331,11 +331,11 @@ def plan_has(tries, before, statement, part):
 def names(work):
     """What takes memory, and is called by the extension or by the library, is in memory.c. Returns how many functions that has."""
     run(["make", "-s", "-C", EXTENSION, "uca_memory.so"])
-    objects = [f"{EXTENSION}/uca_postgresql.o", f"{EXTENSION}/uca_text.o", f"{bindings.C}/out/libuca.a"]
+    objects = [*(f"{EXTENSION}/{it}.o" for it in ("uca_postgresql", "uca_language", "uca_text")), f"{bindings.C}/out/libuca.a"]
     called = {*re.findall(r" U (\w+)", run(["nm", "-u", *objects]).decode())} - {*re.findall(r" [TtDdRrBb] (\w+)", run(["nm", *objects]).decode())}
     able = {*re.findall(r" T __wrap_(\w+)", run(["nm", f"{EXTENSION}/memory.o"]).decode())}
     takers = {it for it in called if re.search("alloc|memalign|strn?dup|sprintf|open|mmap|StringInfo|_to_cstring|_to_text|[sS]napshot|SysCache1", it)}
-    known = {"open", "pg_snprintf", "ActiveSnapshotSet", "GetActiveSnapshot", "UnregisterSnapshot"}
+    known = {"open", "pg_snprintf", "ActiveSnapshotSet", "GetActiveSnapshot", "UnregisterSnapshot", "SnapshotSelfData"}
     same(sorted(takers - able - known - {it for it in takers if it.startswith("uca_")}), [], "functions that are not in memory.c")
     same(sorted(able - called - {"malloc", "realloc", "free"}), [], "functions of memory.c that nothing calls")
     return len(able), 0
