@@ -493,6 +493,12 @@ static bool read_language_file(const Place *place, const char *name, StringInfo 
     return read_file(name, path, bytes, reason);
 }
 
+/* Whether a reason is that memory ran out: of the library, of the C library for an open file, or of a line of a file. */
+static bool is_of_memory(const char *reason)
+{
+    return strstr(reason, "out of memory") || strstr(reason, strerror(ENOMEM)) || strstr(reason, ": Memory");
+}
+
 /* Opens a language by its files, and keeps it. It is NULL if a file is rejected, and then there is a reason. */
 static Edition *open_language(const Place *place, bool has_book, char *reason)
 {
@@ -515,6 +521,8 @@ static Edition *open_language(const Place *place, bool has_book, char *reason)
     }
     strlcpy(reason, edition->reason, REASON);
     pfree(edition);
+    if (is_of_memory(reason))
+        ereport(ERROR, (errcode(ERRCODE_OUT_OF_MEMORY), errmsg("uca: out of memory")));
     return same;
 }
 

@@ -880,9 +880,9 @@ def sqlite_moved(work):
 
 def sqlite_memory(work):
     """Each allocation fails in turn."""
-    sqlite_says(work, "SELECT 1;")
+    language_says(work, "SELECT 1;")
     run(["gcc", "-O2", "-std=c11", "-Wall", "-Wextra", "-Werror", "-o", f"{work}/memory", f"{TOP}/bindings/sqlite/memory.c", "-lsqlite3", "-ldl"])
-    run([f"{work}/memory", f"{TOP}/bindings/sqlite/out/uca", TABLE, DATA, USED, BOOK, COMPACT, f"{EXAMPLES}/editions", NEXT])
+    run([f"{work}/memory", f"{work}/languages/uca", TABLE, DATA, USED, BOOK, COMPACT, f"{EXAMPLES}/editions", NEXT])
 
 
 # Rows of the ten digits, whose weights rise from 1C3D on. In the next edition the digit 2 has another weight.
