@@ -27,6 +27,7 @@
 #include "access/htup_details.h"
 #include "access/table.h"
 #include "access/tableam.h"
+#include "access/xact.h"
 #include "catalog/dependency.h"
 #include "executor/spi.h"
 #include "executor/tuptable.h"
@@ -173,6 +174,8 @@ TAKES_MEMORY(List *, lappend, (List *list, void *datum), (list, datum))
 TAKES_MEMORY(DIR *, AllocateDir, (const char *folder), (folder))
 TAKES_MEMORY(void, LockRelationOid, (Oid table, LOCKMODE lock), (table, lock))
 TAKES_MEMORY(void, CacheInvalidateCatalog, (Oid catalog), (catalog))
+TAKES_MEMORY(void, RegisterXactCallback, (XactCallback called, void *given), (called, given))
+TAKES_MEMORY(void, RegisterSubXactCallback, (SubXactCallback called, void *given), (called, given))
 TAKES_MEMORY(TypeFuncClass, get_call_result_type, (FunctionCallInfo call, Oid *type, TupleDesc *row), (call, type, row))
 TAKES_MEMORY(TupleDesc, BlessTupleDesc, (TupleDesc row), (row))
 TAKES_MEMORY(HeapTuple, heap_form_tuple, (TupleDesc row, Datum *values, bool *are_null), (row, values, are_null))

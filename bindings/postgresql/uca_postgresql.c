@@ -119,6 +119,10 @@ static Seen checked = {InvalidLocalTransactionId, InvalidSubTransactionId, Inval
 /* What the database was for then, and what this process has used last, or NULL. */
 static Edition *known, *used;
 
+/* Whether this transaction has changed the files, and what the process had used before. */
+static bool is_changing;
+static Edition *used_before;
+
 /* The bytes of an open file, or false and the reason. */
 static bool read_open_file(const char *setting, FILE *file, StringInfo bytes, char *reason)
 {
@@ -1140,6 +1144,43 @@ Datum uca_find_language(PG_FUNCTION_ARGS)
     PG_RETURN_DATUM(HeapTupleGetDatum(heap_form_tuple(BlessTupleDesc(row), values, are_null)));
 }
 
+/* A change that is taken back has been none. */
+static void take_back(void)
+{
+    if (is_changing)
+        used = used_before;
+}
+
+static void end_transaction(XactEvent event, void *nothing)
+{
+    if (event == XACT_EVENT_ABORT)
+        take_back();
+    is_changing = false;
+}
+
+static void end_subtransaction(SubXactEvent event, SubTransactionId inside, SubTransactionId outside, void *nothing)
+{
+    if (event == SUBXACT_EVENT_ABORT_SUB)
+        take_back();
+}
+
+/* From now on the process may use other files, unless the transaction or a part of it is taken back. */
+static void begin_change(void)
+{
+    static bool is_registered;
+
+    if (!is_registered) {
+        RegisterXactCallback(end_transaction, NULL);
+        RegisterSubXactCallback(end_subtransaction, NULL);
+        is_registered = true;
+    }
+    if (!is_changing)
+        used_before = used;
+    is_changing = true;
+    used = NULL;
+    checked.transaction = InvalidLocalTransactionId;
+}
+
 /* The rows of uca_files are to be of this fingerprint. So this waits for the transactions that have used the order, and keeps others out. A
    transaction that sees the objects of the database as they were before it waited would miss those that were made meanwhile. */
 static void change_files(Oid table)
@@ -1147,8 +1188,7 @@ static void change_files(Oid table)
     LockRelationOid(table, AccessExclusiveLock);
     if (IsolationUsesXactSnapshot())
         ereport(ERROR, (errcode(ERRCODE_ACTIVE_SQL_TRANSACTION), errmsg("uca: the files are changed in a transaction with the isolation level READ COMMITTED")));
-    used = NULL;
-    checked.transaction = InvalidLocalTransactionId;
+    begin_change();
     CacheInvalidateCatalog(NamespaceRelationId); /* so that all sessions make their plans again, also those that have only constants */
 }
 

@@ -1592,7 +1592,7 @@ def postgresql_languages(work):
 def postgresql_language_settings(work):
     """A language beside files that the settings name, and by settings of the server."""
     with language_server(work) as (server, says, folder):
-        says(f"{THREE_NAMES} CREATE INDEX by_name ON words(name); SELECT uca_use_language('{PHONE_BOOK}', again => true);")
+        says(f"{THREE_NAMES} SELECT uca_use_language('{PHONE_BOOK}'); CREATE INDEX by_name ON words(name);")
         files = f"{BARE}uca.table_file = '{folder}/15.0.0-cldr41/pl/table.txt'\nuca.data_file = '{folder}/15.0.0-cldr41/pl/data.txt'\n"
         server.restart(files)
         same(says(f"{BY_NAME} SELECT uca_fingerprint(), uca_server_fingerprint();"), f"b bz bh\n{OTHER}|{USED}\n", "a language beside the files of the settings")
@@ -1649,7 +1649,9 @@ def postgresql_language_sessions(work):
             same(says(f"{begun.format(level)} SELECT uca_use_language('{PHONE_BOOK}'); COMMIT;"), "0\n", f"the same language, {level}")
         found = says(f"BEGIN; {polish};\n{other('SET lock_timeout = 500; ' + BY_NAME)}ROLLBACK; {BY_NAME}")
         same(found.splitlines()[-2:], [waits.strip(), "b bz bh"], "an order that another session asks for during a change")
-        same(says(f"BEGIN; {polish}; {BY_NAME} ROLLBACK;") + says(BY_NAME), "2\nb bh bz\nb bz bh\n", "a change that is taken back")
+        same(says(f"{BY_NAME} BEGIN; {polish}; {BY_NAME} ROLLBACK; {BY_NAME}"), "b bz bh\n2\nb bh bz\nb bz bh\n", "a change that is taken back")
+        inside = f"BEGIN; SAVEPOINT s; {polish}; {BY_NAME} ROLLBACK TO s; {BY_NAME} COMMIT; {BY_NAME}"
+        same(says(inside), "2\nb bh bz\nb bz bh\nb bz bh\n", "the same inside a transaction")
         by_cursor = f"BEGIN; DECLARE c CURSOR FOR SELECT name FROM words ORDER BY name; FETCH 1 FROM c; {polish}; FETCH 2 FROM c; COMMIT;"
         same("cannot REINDEX INDEX" in says(f"{by_index} {by_cursor}", fails=True), True, "a cursor over an index")
 
@@ -1698,7 +1700,8 @@ def postgresql_language_dumps(work):
         same(found, "ERROR:  uca: the file of table.txt cannot be read: Permission denied", "a table that the server may not read")
         os.chmod(f"{place}/table.txt", 0o644)
         # What is written to uca_languages names no other folder, and an order by other files is not found.
-        for tag, edition in (("../pl", "15.0.0-cldr41"), ("pl", "15.0.0-cldr41/../16.0.0-cldr46"), ("..", ".."), ("pl", "16.0.0-cldr46")):
+        for tag, edition in (("../pl", "15.0.0-cldr41"), ("pl", "15.0.0-cldr41/../16.0.0-cldr46"), ("..", ".."), (f"../15.0.0-cldr41/{PHONE_BOOK}", "16.0.0-cldr46"),
+                             (PHONE_BOOK, "16.0.0-cldr46/../15.0.0-cldr41"), (f"./{PHONE_BOOK}", "15.0.0-cldr41"), ("pl", "16.0.0-cldr46")):
             written = f"DELETE FROM uca_languages; INSERT INTO uca_languages VALUES ('{OTHER}', '{tag}', '{edition}', false);"
             same(german(f"{written} {BY_NAME}", fails=True).startswith("ERROR:  uca: "), True, f"the tag {tag} and the edition {edition}")
         german("DELETE FROM uca_languages;")
