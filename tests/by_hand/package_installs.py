@@ -318,14 +318,30 @@ def key_of(tests, text):
 
 
 def postgresql_in(system, tests):
-    settings = "shared_preload_libraries = 'uca'\nuca.table_file = '/test/examples/table.txt'\nuca.data_file = '/test/examples/data.txt'\n"
-    write(f"{system.folder}/etc/postgresql/15/main/conf.d/uca.conf", settings)
-    said = system.run(
-        "mkdir -p /run/postgresql && chown postgres:postgres /run/postgresql && pg_ctlcluster 15 main start && "
-        "su postgres -c \"psql -qAt -c 'CREATE EXTENSION uca' -c \\\"SELECT upper(encode(uca_key('ch'), 'hex'))\\\"\" && pg_ctlcluster 15 main stop"
-    )
-    same(said.decode().split(), [key_of(tests, "ch")], "what PostgreSQL prints")
-    os.remove(f"{system.folder}/etc/postgresql/15/main/conf.d/uca.conf")
+    settings = "uca.table_file = '/test/examples/table.txt'\nuca.data_file = '/test/examples/data.txt'\n"
+    said = by_server(system, settings, "CREATE EXTENSION uca; SELECT upper(encode(uca_key('ch'), 'hex')); DROP EXTENSION uca;")
+    same(said, [key_of(tests, "ch")], "what PostgreSQL prints")
+
+
+def by_server(system, settings, statements):
+    """The lines that psql prints, by a server with these settings."""
+    path = f"{system.folder}/etc/postgresql/15/main/conf.d/uca.conf"
+    write(path, f"shared_preload_libraries = 'uca'\n{settings}")
+    write(f"{system.folder}/test/statements.sql", statements)
+    start = "mkdir -p /run/postgresql && chown postgres:postgres /run/postgresql && pg_ctlcluster 15 main start"
+    said = system.run(f"{start} && su postgres -c 'psql -qAt -v ON_ERROR_STOP=1 -f /test/statements.sql' && pg_ctlcluster 15 main stop")
+    os.remove(path)
+    return said.decode().split()
+
+
+def by_language_in(system, _):
+    """The first examples of docs/BINDINGS.md: Chinese in two lines of Python, and a phone book in PostgreSQL by one statement."""
+    page = content(f"{TOP}/docs/BINDINGS.md").decode()
+    program, statements = (re.search(rf"^```{it}\n(.*?)^```", page, re.M | re.S)[1] for it in ("python language", "sql postgresql"))
+    write(f"{system.folder}/test/chinese.py", program)
+    same(system.run("python3 /test/chinese.py").decode().strip(), re.search(r"# (\[.*\])$", program, re.M)[1], "Chinese in Python")
+    system.run(re.search(r"^sudo (uca-files --into \S+ \S+)$", page, re.M)[1])
+    same(by_server(system, "", statements), re.findall(r"^-- (.*)$", statements, re.M), "a phone book in PostgreSQL")
 
 
 def manual_in(system, _):
@@ -377,7 +393,8 @@ def debian(tests):
     tests.check("README's words for other languages", languages_in, system, tests)
     debs = " ".join(f"/test/debs/{it}_*.deb" for it in PACKAGES)
     tests.check("all are installed", lambda: system.run(f"{install} {debs} {' '.join(USERS)}", network=True))
-    rows = {"library for C": library_in, "Python": python_in, "SQLite": sqlite_in, "PostgreSQL": postgresql_in, "manual page": manual_in}
+    rows = {"library for C": library_in, "Python": python_in, "SQLite": sqlite_in, "PostgreSQL": postgresql_in, "languages by their tags": by_language_in}
+    rows["manual pages"] = manual_in
     for name, call in rows.items():
         tests.check(name, call, system, tests)
     tests.check("all are purged", lambda: system.run(f"apt-get purge -y -q {' '.join(PACKAGES)}"))
