@@ -342,6 +342,8 @@ def by_language_in(system, _):
     same(system.run("python3 /test/chinese.py").decode().strip(), re.search(r"# (\[.*\])$", program, re.M)[1], "Chinese in Python")
     system.run(re.search(r"^sudo (uca-files --into \S+ \S+)$", page, re.M)[1])
     same(by_server(system, "", statements), re.findall(r"^-- (.*)$", statements, re.M), "a phone book in PostgreSQL")
+    # what an administrator made is no package's
+    system.run("rm -r /usr/local/share/uca")
 
 
 def manual_in(system, _):
