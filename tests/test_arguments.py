@@ -3,6 +3,7 @@ import os
 import random
 import re
 
+from helps import said
 from program import DATA, TABLE, ProgramTest
 
 HELP = os.path.join(os.path.dirname(os.path.realpath(__file__)), "help")
@@ -189,9 +190,9 @@ class Lines(ProgramTest):
         ended = self.run_uca(*line, given="a b\n")
         with self.subTest(line=line):
             if model.is_taken and not model.is_weighting_known:
-                self.assertEqual(ended, (2, b"", b"weighting: unknown\n"))
+                self.assertEqual(ended, (2, b"", said("weighting: unknown\n")))
             elif model.is_taken and not model.are_fingerprints_known:
-                self.assertEqual(ended, (2, b"", b"fingerprint: unknown\n"))
+                self.assertEqual(ended, (2, b"", said("fingerprint: unknown\n")))
             elif model.is_taken:
                 self.assertFalse(ended.err.startswith(b"error: "), ended)
                 self.assertEqual(ended, self.run_uca(*model.plainly(), given="a b\n"))
