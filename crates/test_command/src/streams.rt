@@ -55,22 +55,27 @@ fn check_input(
     Ok(())
 }
 
-/// What is said where a read of line 1, 2 or 3 of standard input fails.
-const UNREAD: [&str; 3] = [
-    "input line 1: Read\nhelp: give standard input a file or a pipe, such as < lines.txt\n",
-    "input line 2: Read\nhelp: give standard input a file or a pipe, such as < lines.txt\n",
-    "input line 3: Read\nhelp: give standard input a file or a pipe, such as < lines.txt\n",
-];
+/// What is said where a read of line 1 of standard input fails.
+const UNREAD_1: &str =
+    "input line 1: Read\nhelp: give standard input a file or a pipe, such as < lines.txt\n";
+
+/// And of line 2.
+const UNREAD_2: &str =
+    "input line 2: Read\nhelp: give standard input a file or a pipe, such as < lines.txt\n";
+
+/// And of line 3.
+const UNREAD_3: &str =
+    "input line 3: Read\nhelp: give standard input a file or a pipe, such as < lines.txt\n";
 
 /// What has gone out, and what is said, where the input of `keys` fails after no bytes, after one, and so on.
 const CUT_KEYS: [(&str, &str); 5] = [
-    ("", UNREAD[0]),
-    ("", UNREAD[0]),
-    ("1C60 0000 0020 0000 0002\n", UNREAD[1]),
-    ("1C60 0000 0020 0000 0002\n", UNREAD[1]),
+    ("", UNREAD_1),
+    ("", UNREAD_1),
+    ("1C60 0000 0020 0000 0002\n", UNREAD_2),
+    ("1C60 0000 0020 0000 0002\n", UNREAD_2),
     (
         "1C60 0000 0020 0000 0002\n1C47 0000 0020 0000 0002\n",
-        UNREAD[2],
+        UNREAD_3,
     ),
 ];
 
