@@ -117,6 +117,8 @@ def said(line, words=()):
         if found := re.fullmatch(f"(?:{pattern})\n", line.decode()):
             role = found.groupdict().get("role")
             name = names_of(words)[role] if role else ""
+            if "\n" in name:
+                return line
             read_as = READINGS.get(role, "").format(name)
             return line + f"help: {text.format(name=name, read_as=read_as)}\n".encode()
     return line

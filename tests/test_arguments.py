@@ -224,6 +224,12 @@ class Lines(ProgramTest):
             count = Model.TAKES[command][0] + numbers.randrange(3)
             self.judge([command, *(numbers.choice(PUT_IN if numbers.randrange(4) == 0 else texts) for _ in range(count))])
 
+    def test_names_in_help(self):
+        """A name is printed as it is. An error about a file whose name has an LF has no help."""
+        for name in "\u00e9 '\"$(x)\t", "x" * 5000, "a\nb":
+            self.expect(["check", name, "d"], status=3, err="table: Open\n")
+            self.expect(["tailor", "t", "d", name, name], status=2, err="certificate: SameAs rules\n")
+
     def test_names_that_look_like_options(self):
         """After `--` all are names or texts."""
         for name in "--weighting", "--identical", "--lines", "--changes", "help":
