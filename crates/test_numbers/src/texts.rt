@@ -274,10 +274,7 @@ fn check_table(alloc: Global, file: &str, data: &str, wanted: Option<u32>) -> Re
     let data = data_of(alloc, &mut Source::new(data.as_bytes()))?;
     let found = check_numbers(Numbers::ByValue, &table, &data).err();
     holds(found == wanted.map(|row| UnorderedDigits { row }), file)?;
-    holds(
-        check_numbers(Numbers::AsText, &table, &data).is_ok(),
-        file,
-    )
+    holds(check_numbers(Numbers::AsText, &table, &data).is_ok(), file)
 }
 
 #[test]

@@ -373,8 +373,8 @@ fn run_words<O: Opens, I: Read, W: Write>(
     }
 }
 
-// The status that the command ends with after a run. It reports an error, and says what to do. The arguments, if they are
-// known, name the files.
+// The status that the command ends with after a run. It reports an error, and says what to do. The arguments, if they
+// are known, name the files.
 fn status_of<W: Write, E: Write>(
     alloc: Global,
     run: Result<u8, RunFault>,
@@ -397,8 +397,8 @@ fn status_of<W: Write, E: Write>(
 
 /// Runs a command line, whose first argument is the program's name, and returns the exit status. It reads the
 /// arguments, opens all files that they name, in the order of the arguments, and then runs over them. It reports an
-/// error, and says in a line after it what to do. If it rejects the arguments, it opens and reads nothing. It does the same if `tailor` or `changes` is to write
-/// the certificate over a file that it reads. No other command makes a file.
+/// error, and says in a line after it what to do. If it rejects the arguments, it opens and reads nothing. It does the
+/// same if `tailor` or `changes` is to write the certificate over a file that it reads. No other command makes a file.
 pub fn run_command<'a, O: Opens, I: Read, W: Write, E: Write>(
     alloc: Global,
     opener: &mut O,
