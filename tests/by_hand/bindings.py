@@ -42,6 +42,9 @@ import zipfile
 import packages
 
 TOP = os.path.dirname(os.path.dirname(os.path.dirname(os.path.realpath(__file__))))
+sys.path.append(f"{TOP}/tests")
+import helps
+
 C, PYTHON, EXAMPLES = f"{TOP}/bindings/c", f"{TOP}/bindings/python", f"{TOP}/examples"
 ARCHIVES = [f"{TOP}/crates/{it}/out/lib{it}.a" for it in ("uca_c", "uca_run")]
 
@@ -222,7 +225,7 @@ NEW_EDITION_ERRORS = [
     ([("key[256]", "key[13]")], "d: there is too little room\n"),
     ([('"examples/table.txt"', '"examples/none.txt"')], "examples/none.txt is not read: it is not there, or it is too large\n"),
     ([('"examples/table.txt"', '"examples/data.txt"')], "line 1: Line: uca_open: the table is rejected\n"),
-    ([('"examples/editions/table.txt"', '"examples/data.txt"')], "uca_find_changes: status 1\nnew line 1: Line\n"),
+    ([('"examples/editions/table.txt"', '"examples/data.txt"')], "uca_find_changes: status 1\n" + helps.said("new line 1: Line\n", ["changes", *"old old-data new new-data certificate".split()]).decode()),
     ([("certificate[1 << 20]", "certificate[8]")], "uca_find_changes: status 258\n"),
     ([("changes, lengths.out,", "changes, 10,")], "uca_open_upgrade: file of changes line 1: Line\n"),
     # no change lists the eighth old row, that of `ch`, whose weight has no image

@@ -862,7 +862,9 @@ class Commands(unittest.TestCase):
     def test_run(self):
         known = {"t": TABLE, "d": DATA}
         self.assertEqual(uca.run(["sort", "t", "d"], known, b"b\na\n"), (0, b"a\nb\n", "", None))
-        self.assertEqual(uca.run(["sort", "t", "d"], {"t": TABLE}), (3, b"", "data: Open\n", None))
+        missing = uca.run(["sort", "t", "d"], {"t": TABLE})
+        self.assertEqual(missing._replace(errors=missing.errors.split("\n")[0]), (3, b"", "data: Open", None))
+        self.assertTrue(missing.errors.startswith("data: Open\nhelp: d: "))
         self.assertTrue(uca.run(["--version"], {}).output.startswith(b"uca 0.1.0 "))
         self.assertEqual(uca.run(["tailor", "t", "d", "r", "any"], {"t": LETTERS, "d": DATA, "r": RULES}), (0, TAILORED, "", PLAN))
         self.assertEqual(uca.run([], {}).status, uca.run(["none"], {}).status)

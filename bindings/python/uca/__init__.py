@@ -214,7 +214,7 @@ class CommandError(UcaError, ValueError):
     def __init__(self, status: int, message: str) -> None:
         #: its status, from 1 on, as docs/MESSAGES.md has them
         self.status = status
-        #: its error lines, as it prints them: "rules byte 5: EmptyText"
+        #: its error lines, as it prints them but for the line of help: "rules byte 5: EmptyText"
         self.message = message
         super().__init__(status, message)
 
@@ -713,7 +713,7 @@ def run(arguments: Sequence[str], files: Mapping[str, File], lines: Bytes = b"")
 def _done(ended: Run, most: int) -> Run:
     """What a command did. A status above `most` is an error, and so is one with error lines."""
     if ended.status > most or ended.errors:
-        raise CommandError(ended.status, ended.errors.rstrip("\n"))
+        raise CommandError(ended.status, ended.errors.partition("\nhelp: ")[0].rstrip("\n"))
     return ended
 
 
