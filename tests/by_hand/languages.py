@@ -342,7 +342,7 @@ def letters_stay(setup, folder, see):
     text = "".join(f"{it}\n" for it in Made(read_tag(LOCALES, "ru"), setup.table, setup.data, LOCALES).lines())
     new, certificate = languages.write(os.path.join(folder, "russian"), text), os.path.join(folder, "certificate")
     lines = [it for it in language_lines.real(LOCALES, "ru", 20_000) if re.fullmatch("[А-Яа-яЁё0-9 -]+", it)]
-    files = [setup.table, setup.data, new, setup.data]
+    files = [languages.with_setting(folder, text, setup.table), setup.data, new, setup.data]
     for what, words in (("keep Cyrl", [TOOL, "--uca", setup.uca, "keep", "Cyrl", *files[:3], certificate]), ("uca changes", [setup.uca, "changes", *files, certificate])):
         out, said = languages.run(words)
         changes = languages.write(os.path.join(folder, "changes"), out)

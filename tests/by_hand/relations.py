@@ -117,17 +117,19 @@ class Relations:
         if level and (left > right) != self.is_above(said):
             return "they are the other way round"
         low, high = sorted((left, right))
-        is_single = all(len(it) <= 1 for it in left) and not said.target.expansion
+        is_single = all(len(it) <= 1 for it in left) and not said.target.expansion and not self.are_apart(said)
         if level and is_single and self.between(low, high, level):
             return "another character is between"
         return ""
 
+    def are_apart(self, said):
+        """Whether the case of the letters decides, and not the rule: then others may come between."""
+        return bool(self.first_case) and said.strength == LEVELS and case_of_text(said.anchor.text) != case_of_text(said.target.text)
+
     def is_above(self, said):
         """Whether the anchor comes after the target."""
-        cases = [case_of_text(it.text) for it in (said.anchor, said.target)]
-        if self.first_case and said.strength == LEVELS and cases[0] != cases[1]:
-            order = CASES[self.first_case]
-            return order.index(cases[0]) > order.index(cases[1])
+        if self.are_apart(said):
+            return CASES[self.first_case].index(case_of_text(said.anchor.text)) > CASES[self.first_case].index(case_of_text(said.target.text))
         return said.is_before
 
     def between(self, low, high, level):
