@@ -1484,11 +1484,19 @@ static bool holds(const uint8_t *bytes, size_t length, const char *text)
     return length == strlen(text) && memcmp(bytes, text, length) == 0 && bytes[length] == 0xEE;
 }
 
-/* Whether a command wrote this output and these errors, and made this file, or none. */
+/* Whether a command wrote this line of an error, and after it one line that begins with `help: `; or no line, and nothing. */
+static bool says(const written *it, const char *err)
+{
+    size_t first = strlen(err), length = it->lengths.err;
+    bool has_help = length > first + 6 && memcmp(it->err, err, first) == 0 && memcmp(it->err + first, "help: ", 6) == 0;
+    return first == 0 ? holds(it->err, length, "") : has_help && memchr(it->err + first, '\n', sizeof it->err - first) == it->err + length - 1;
+}
+
+/* Whether a command wrote this output and this error, and made this file, or none. */
 static bool wrote(const written *it, const char *out, const char *err, const char *kept)
 {
     bool is_file = it->lengths.files == (kept != NULL) && holds(it->kept, it->lengths.kept, kept ? kept : "");
-    return is_file && holds(it->out, it->lengths.out, out) && holds(it->err, it->lengths.err, err);
+    return is_file && holds(it->out, it->lengths.out, out) && says(it, err);
 }
 
 static written unwritten(void)
