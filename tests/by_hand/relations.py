@@ -15,7 +15,8 @@ from language_tables import FIRST
 from script_order import CASES
 
 LEVELS = 3
-LARGE_KANA = re.compile("(HALFWIDTH )?(HIRAGANA|KATAKANA) LETTER (?!SMALL)")  # counts as a capital (UTS #35 Part 5, section 3.14)
+# Large kana and narrow signs count as capitals (UTS #35 Part 5, section 3.14).
+CAPITALS = re.compile("HALFWIDTH (?!KATAKANA LETTER SMALL)|(HIRAGANA|KATAKANA) LETTER (?!SMALL)")
 
 
 class Text(NamedTuple):
@@ -44,7 +45,7 @@ class Counts(NamedTuple):
 def case_of_text(text):
     """0 for capitals alone, 1 where some letters are capitals, 2 for all others. Marks do not count."""
     letters = [it for it in text if it.isalpha()]
-    capitals = [it.isupper() or bool(LARGE_KANA.match(unicodedata.name(it, ""))) for it in letters]
+    capitals = [it.isupper() or bool(CAPITALS.match(unicodedata.name(it, ""))) for it in letters]
     return 2 if not any(capitals) else 0 if all(capitals) else 1
 
 
@@ -112,7 +113,7 @@ class Relations:
         if left is None or right is None:
             return "a prefix or an expansion is not there"
         level = next((it + 1 for it in range(LEVELS) if left[it] != right[it]), 0)
-        if level != said.strength:
+        if level != (LEVELS if self.are_apart(said) else said.strength):
             return f"they differ at level {level}"
         if level and (left > right) != self.is_above(said):
             return "they are the other way round"
@@ -124,7 +125,7 @@ class Relations:
 
     def are_apart(self, said):
         """Whether the case of the letters decides, and not the rule: then others may come between."""
-        return bool(self.first_case) and said.strength == LEVELS and case_of_text(said.anchor.text) != case_of_text(said.target.text)
+        return bool(self.first_case) and said.strength in (0, LEVELS) and case_of_text(said.anchor.text) != case_of_text(said.target.text)
 
     def is_above(self, said):
         """Whether the anchor comes after the target."""
