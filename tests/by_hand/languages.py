@@ -48,8 +48,8 @@ PAGE = f"{TOP}/docs/LANGUAGES.md"
 BEGIN, END = "<!-- made by tests/by_hand/languages.py -->", "<!-- end -->"
 QUICK = ["da", "de-u-co-phonebk", "el", "ja", "ko", "my", "sv", "und-u-co-eor", "zh", "el-u-kf-upper", "en-u-kr-grek-digit"]
 # Tags with settings, and of other languages and regions.
-SETTINGS = ["da-u-kf-false", "el-u-kf-upper", "en-u-ka-shifted", "en-u-kf-lower", "en-u-kr-grek-digit", "ja-u-kr-latn-kana", "ru-u-kf-upper"]
-SETTINGS += ["ja-u-kf-lower", "ja-u-kf-upper", "sv-u-kf-upper", "und-u-kr-zzzz-latn-symbol", "vi-u-kf-lower", "yue", "zh-Hant-TW", "zh-u-kr-latn-hani"]
+SETTINGS = ["da-u-kf-false", "el-u-kf-upper", "en-u-ka-shifted", "en-u-kf-lower", "en-u-kr-grek-digit", "ja-u-kf-lower", "ja-u-kf-upper", "ja-u-kr-latn-kana"]
+SETTINGS += ["ru-u-kf-upper", "sv-u-kf-upper", "und-u-kr-zzzz-latn-symbol", "vi-u-kf-lower", "yue", "zh-Hant-TW", "zh-u-kr-latn-hani"]
 # Numbers by their values.
 DIGITS, NUMBERS = "0123456789", [f"{it}a" for it in (0, 1, 2, 9, 10, 19, 99, 100, 12_345_678, 123_456_789, 10**20, 10**20 + 1)]
 # An order with keys that begin with a digit.
