@@ -43,8 +43,8 @@ class Counts(NamedTuple):
 
 
 def case_of_text(text):
-    """0 for capitals alone, 1 where some letters are capitals, 2 for all others. Marks do not count."""
-    letters = [it for it in text if it.isalpha()]
+    """0 for capitals alone, 1 where some characters are capitals, 2 for all others. Marks do not count."""
+    letters = [it for it in text if not unicodedata.combining(it)]
     capitals = [it.isupper() or bool(CAPITALS.match(unicodedata.name(it, ""))) for it in letters]
     return 2 if not any(capitals) else 0 if all(capitals) else 1
 
