@@ -18,6 +18,7 @@ The status is 0, or 1 after an error with a sentence, or 2 for wrong arguments. 
 """
 import argparse
 import bisect
+import contextlib
 import errno
 import glob
 import itertools
@@ -132,12 +133,22 @@ def settle(paths):
         sync(path)
 
 
+@contextlib.contextmanager
 def room_in(folder):
-    """A hidden folder beside what is kept, for files that are not whole yet. Those of calls that were killed are taken away a day later."""
+    """A hidden folder beside what is kept, for all files that are not whole yet. Those of calls that were killed are taken away a day later."""
     for left in glob.glob(os.path.join(glob.escape(folder), f"{HIDDEN}*")):
-        if os.path.getmtime(left) < time.time() - LEFT:
-            shutil.rmtree(left, ignore_errors=True)
-    return tempfile.TemporaryDirectory(prefix=HIDDEN, dir=folder)
+        with contextlib.suppress(OSError):  # such as that another call has taken its own away
+            if os.path.getmtime(left) < time.time() - LEFT:
+                shutil.rmtree(left)
+    try:
+        with tempfile.TemporaryDirectory(prefix=HIDDEN, dir=folder) as room:
+            tempfile.tempdir = room
+            yield room
+    except OSError as error:
+        error.filename = error.filename or folder  # the disk is full, for example
+        raise
+    finally:
+        tempfile.tempdir = None
 
 
 def check_packages(options):

@@ -50,7 +50,7 @@ TRADITIONAL = ["zh-Hant", "zh-TW", "zh-HK", "zh-MO", "yue"]
 # Errors that docs/LANGUAGES.md has, by their locales.
 DOCUMENTED = {"fr-CA": "fr-CA-u-kb-false is the order without this"}
 LISTS = {"pl": "iso_3166-1", "de": "iso_3166-1", "sv": "iso_639-2", "ru": "iso_3166-1", "ja": "iso_3166-1", "zh": "iso_3166-1", "ko": "iso_639-2"}
-MOVES, SIZES = 20, ("4k", "64k", "1m", "2m", "3m")
+MOVES, SIZES = 20, ("4k", "64k", "1m", "2m", "2500k")
 
 
 class Tries:
@@ -226,7 +226,7 @@ def full(tries):
             subprocess.run(["mount", "-o", f"remount,size={size}", place], check=True)
             status, out, said = tries.call("--into", f"{place}/kept", "cs")
             is_empty = not glob.glob(f"{place}/kept/*/*") and not hidden(f"{place}/kept")
-            tries.see(status == 1 and not out and "No space left on device" in said and is_empty, f"a disk of {size}: {said}")
+            tries.see(status == 1 and not out and said == f"{place}/kept: No space left on device" and is_empty, f"a disk of {size}: {said}")
         subprocess.run(["mount", "-o", "remount,size=20m", place], check=True)
         tries.see(tries.call("--into", f"{place}/kept", "cs")[0] == 0, "then a disk with room")
     finally:
