@@ -1724,12 +1724,6 @@ def language_page(program):
             run([*made_by, tag], env=environment)
         said = run([sys.executable, "-W", "error", "-c", blocks["python"]], env=environment).decode()
         same(said.splitlines(), re.findall(r"# (\S.*)", blocks["python"]), "the page's program in Python")
-        with open(f"{work}/language.c", "w", encoding="utf-8") as it:
-            it.write(blocks["c"])
-        run(["gcc", *FLAGS, *SANITIZERS, "-o", f"{work}/language", it.name, f"{C}/out/libuca.a"])
-        paths = run([*made_by, "pl"], env=environment).decode().split()
-        same(run([f"{work}/language", *paths]).decode().splitlines(), re.findall(r"/\* (.*?) \*/", blocks["c"]), "the page's program in C")
-        same(subprocess.run([f"{work}/language"], capture_output=True).returncode, 1, "the page's program in C without files")
         keys_of_language(work, program, environment, made_by)
         with language_server(work) as (server, says, folder):
             shutil.rmtree(folder)
@@ -1757,8 +1751,9 @@ def keys_of_language(work, program, environment, made_by):
             words = [program, "keys", *(["--weighting", weighting] if weighting else []), *paths]
             program_of_keys = (f"import sys, uca\ncollator = uca.Collator.of_language({tag!r}, weighting={weighting!r})\n"
                                "for it in sys.stdin.buffer.read().removesuffix(b'\\n').split(b'\\n'): print(collator.key(it).hex().upper())")
-            found = run([sys.executable, "-c", program_of_keys], input=lines, env=environment)
-            same(found, run(words, input=lines), f"keys of {tag}, {weighting}")
+            wanted = run(words, input=lines)
+            same(run([sys.executable, "-c", program_of_keys], input=lines, env=environment), wanted, f"keys of {tag}, {weighting}, in Python")
+            same(run([f"{C}/out/keys", *paths, *([weighting] if weighting else [])], input=lines), wanted, f"keys of {tag}, {weighting}, in C")
 
 
 def named(fingerprint):
