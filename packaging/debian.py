@@ -5,7 +5,7 @@
 
 | Package | What it has |
 |---|---|
-| uca | the program, its manual page, its completions, and the pages for users |
+| uca | the program, `uca-files`, manual pages, completions, and the pages for users |
 | libuca1 | the library for C, libuca.so.1 |
 | libuca-dev | uca.h, libuca.a and uca.pc |
 | python3-uca | the module for Python |
@@ -63,17 +63,18 @@ def full_version():
 
 
 def fill_program(root, _):
-    """What tools/install.sh installs, at Debian's places: scripts are not in the folder of documents."""
+    """What tools/install.sh installs, at Debian's places. The licenses are in Debian's file of copyright, to which the links of pages lead."""
     made.run(f"{made.TOP}/tools/install.sh", "/usr", more={"DESTDIR": root})
     documents = f"{root}/usr/share/doc/uca"
     os.remove(f"{documents}/installed_files")
     made.run("strip", "--strip-unneeded", f"{root}/usr/bin/uca")
     move(f"{root}/usr/share/zsh/site-functions/_uca", f"{root}/usr/share/zsh/vendor-completions/_uca")
-    move(f"{documents}/tools", f"{root}/usr/share/uca/tools")
-    os.symlink("../../uca/tools", f"{documents}/tools")
     for name in made.LICENSES:
         os.remove(f"{documents}/{name}")
-    compress(f"{root}/usr/share/man/man1/uca.1")
+    for name in ("LICENSE", "NOTICE"):
+        os.symlink("copyright", f"{documents}/{name}")
+    for name in ("uca", "uca-files"):
+        compress(f"{root}/usr/share/man/man1/{name}.1")
 
 
 def move(old, new):
@@ -151,12 +152,12 @@ PACKAGES = [
 allkeys.txt, and rules can change the order. Machine-checked proofs say
 that keys, sorting, tailorings and audits do what UTS #10 says.
 .
-Scripts in /usr/share/uca/tools make the table of Unicode or of a language
-from the packages unicode-data and unicode-cldr-core.""",
+uca-files makes the table of a language, once, from the packages
+unicode-data and unicode-cldr-core.""",
         fill_program,
         binaries=("usr/bin/uca",),
-        recommends="python3",
-        suggests="unicode-data, unicode-cldr-core",
+        # the program needs none of them, and uca-files all
+        recommends="python3, unicode-data, unicode-cldr-core",
     ),
     Package(
         "libuca1",

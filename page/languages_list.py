@@ -8,42 +8,15 @@ import json
 import os
 import subprocess
 import sys
-import xml.etree.ElementTree
 from concurrent.futures import ThreadPoolExecutor
 
 TOP = os.path.dirname(os.path.dirname(os.path.realpath(__file__)))
 import languages
-from cldr_rules import KINDS, collations, kind_and_rules
+from language_names import collation_names
 
-TOOL, CLDR = f"{TOP}/tools/languages.py", languages.CLDR
+TOOL = f"{TOP}/tools/languages.py"
 TABLES = ["und", "sv", "de"]
 UPPER = ["und", "sv", "el", "ru"]
-
-
-def all_tags():
-    """The tags of all collations of CLDR. A table cannot count accents from the end, so such a collation has `kb-false`."""
-    found, short = [], {kind: key for key, kind in KINDS.items()}
-    for file in sorted(os.listdir(f"{CLDR}/collation")):
-        locale = file.removesuffix(".xml")
-        base = "und" if locale == "root" else locale.replace("_", "-")
-        kinds = {it for it in collations(CLDR, locale)[0] if not it.startswith("private-")}
-        default, rules = kind_and_rules(CLDR, locale)
-        found.append(base + ("-u-kb-false" if "[backwards 2]" in rules else ""))
-        found += [f"{base}-u-co-{short.get(it, it)}" for it in sorted(kinds - {default})]
-    return found
-
-
-def english_names():
-    root = xml.etree.ElementTree.parse(f"{CLDR}/main/en.xml").getroot()
-    return {it.get("type"): it.text for it in root.iter("language") if it.get("alt") is None}
-
-
-def name_of(tag, names):
-    """The English name of a tag's language, with what else the tag has."""
-    language, _, region = tag.partition("-u-")[0].partition("-")
-    settings = tag.partition("-u-")[2].removeprefix("co-").replace("-", " ")
-    more = ", ".join(filter(None, [region, settings]))
-    return ("CLDR's root" if language == "und" else names[language]) + (f" ({more})" if more else "")
 
 
 def made_by(words, path):
@@ -83,9 +56,11 @@ def make_one(made, tag, name, tables):
 def make(made, tags, jobs, tables=False):
     """Makes the files of these languages, or of all, so many side by side, and writes the list of all that are there."""
     os.makedirs(f"{made}/languages", exist_ok=True)
-    names, path = english_names(), f"{made}/languages.json"
+    names, path = {tag: name for name, tag in collation_names(languages.CLDR)}, f"{made}/languages.json"
+    if unknown := {*tags} - {*names}:
+        sys.exit(f"CLDR has no collation {', '.join(sorted(unknown))}: tools/uca_files.py --names lists them")
     with ThreadPoolExecutor(jobs) as pool:
-        entries = [*pool.map(lambda tag: make_one(made, tag, name_of(tag, names), tables), tags or all_tags())]
+        entries = [*pool.map(lambda tag: make_one(made, tag, names[tag], tables), tags or names)]
     if tags and os.path.exists(path):
         with open(path, encoding="utf-8") as it:
             entries += [old for old in json.load(it) if old["tag"] not in tags]

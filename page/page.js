@@ -141,17 +141,16 @@ function list_languages(languages) {
   const with_table = languages.filter((it) => it.table ?? it.upper);
   page.tables = [UNICODE, ...with_table.map(table_of)];
   const option = (value, text) => made("option", { value }, text);
-  element("language").append(...languages.map(({ tag, name }) => option(tag, `${name} [${tag}]`)));
+  element("language").append(...languages.map(({ tag, name }) => option(tag, name)));
   element("table").replaceChildren(...page.tables.map(({ path, name }) => option(path, name)));
 }
 
 function offer_language() {
   const language = chosen_language();
-  element("load-rules").disabled = !language?.rules;
-  element("use-table").disabled = !(language?.table ?? language?.upper);
+  element("take-order").disabled = !language;
   element("language-help").textContent = language && !language.rules
-    ? "Rules cannot say this order: it has a table alone."
-    : "The orders of languages come from CLDR. A comment at the head of the rules says what they leave out.";
+    ? "Rules cannot say this order. A table of all its weights takes the place of Unicode's, and the field of rules is empty."
+    : "Its rules come into the field of rules, where you can change them. A comment at their head says what they leave out.";
 }
 
 function offer_upper() {
@@ -160,32 +159,26 @@ function offer_upper() {
   if (!has_upper) element("upper").checked = false;
 }
 
-// CLDR's orders treat spaces and punctuation like letters.
-function take_language() {
+async function rules_at(path) {
+  const reply = await fetch(`made/${path}`);
+  if (!reply.ok) throw new Error(`${reply.status} ${reply.statusText}`);
+  return reply.text();
+}
+
+// Takes the rules of a language, which are for Unicode's table, or else its table. CLDR's orders treat spaces and
+// punctuation like letters.
+async function take_order() {
+  const { name, rules, table: path, upper } = chosen_language();
+  try {
+    element("rules").value = rules ? await rules_at(rules) : "";
+  } catch (error) {
+    element("language-help").textContent = `The rules of ${name} cannot be loaded: ${error.message}.`;
+    return;
+  }
+  element("table").value = rules ? UNICODE.path : `made/${path ?? upper}`;
   element("weighting").value = "non-ignorable";
   offer_upper();
   soon();
-}
-
-// The rules of a language are for Unicode's table.
-async function load_rules() {
-  const { rules } = chosen_language();
-  try {
-    const reply = await fetch(`made/${rules}`);
-    if (!reply.ok) throw new Error(`${reply.status} ${reply.statusText}`);
-    element("rules").value = await reply.text();
-  } catch (error) {
-    element("language-help").textContent = `These rules cannot be loaded: ${error.message}.`;
-    return;
-  }
-  element("table").value = UNICODE.path;
-  take_language();
-}
-
-function use_table() {
-  const { table: path, upper } = chosen_language();
-  element("table").value = `made/${path ?? upper}`;
-  take_language();
 }
 
 // ---- Files
@@ -313,8 +306,7 @@ function listen() {
   for (const id of ["rules", "words", "weighting", "identical", "numeric", "upper"]) element(id).addEventListener("input", soon);
   element("table").onchange = () => { offer_upper(); soon(); };
   element("language").onchange = offer_language;
-  element("load-rules").onclick = load_rules;
-  element("use-table").onclick = use_table;
+  element("take-order").onclick = take_order;
   element("copy").onclick = copy_link;
   element("go").onclick = go_to_place;
   for (const button of save_buttons()) button.onclick = () => save(button.dataset.save);

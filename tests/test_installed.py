@@ -1,4 +1,4 @@
-"""What `tools/install.sh` installs is whole: scripts have the modules that they import, and pages what they lead to and show."""
+"""What `tools/install.sh` installs is whole: scripts have the modules that they import and start, and pages have what they lead to and show."""
 import ast
 import os
 import re
@@ -36,19 +36,39 @@ class Installed(unittest.TestCase):
         folder = tempfile.TemporaryDirectory(prefix="uca-")
         cls.addClassCleanup(folder.cleanup)
         subprocess.run([f"{TOP}/tools/install.sh", folder.name], env={**os.environ, "PROGRAM": UCA, "DESTDIR": ""}, stdout=subprocess.DEVNULL, check=True)
-        cls.top = f"{folder.name}/share/doc/uca"
-        cls.files = sorted(f"{at}/{name}" for at, _, names in os.walk(cls.top) for name in names)
+        cls.prefix = os.path.realpath(folder.name)
+        cls.top, cls.own = (f"{cls.prefix}/share/{it}" for it in ("doc/uca", "uca"))
+        # a command that is a link counts as the script that it leads to
+        cls.files = sorted({os.path.realpath(f"{at}/{name}") for at, _, names in os.walk(cls.prefix) for name in names})
 
     def test_scripts(self):
         """Each module that a script imports is Python's own, or is installed beside it."""
         scripts = [it for it in self.files if is_python(it)]
-        self.assertGreater(len(scripts), 10)
+        self.assertGreater(len(scripts), 15)
         for path in scripts:
             folder, name = os.path.split(path)
             others = imported(path) - sys.stdlib_module_names - OF_PACKAGES.get(name, set())
             lacking = sorted(it for it in others if f"{folder}/{it}.py" not in self.files)
-            with self.subTest(script=os.path.relpath(path, self.top)):
+            with self.subTest(script=os.path.relpath(path, self.prefix)):
                 self.assertEqual(lacking, [])
+
+    def test_start(self):
+        """Each script starts where it is installed, and so does the command `uca-files`. Nothing is written there."""
+        scripts = [it for it in self.files if it.endswith((".py", ".sh")) and os.access(it, os.X_OK)]
+        self.assertGreater(len(scripts), 15)
+        for path in [f"{self.prefix}/bin/uca-files", *scripts]:
+            with self.subTest(script=os.path.relpath(path, self.prefix)):
+                done = subprocess.run([path, "--help"], cwd="/", capture_output=True, text=True, check=False)
+                self.assertEqual((done.returncode, done.stderr), (0, ""))
+                self.assertNotEqual(done.stdout, "")
+        self.assertFalse([it for it, _, _ in os.walk(self.prefix) if it.endswith("__pycache__")])
+
+    def test_own_folder(self):
+        """What a command needs is not in the folder of documents: Debian lets an administrator take that away. No module is there twice."""
+        modules = [os.path.basename(it) for it in self.files if it.endswith(".py") and not it.startswith(f"{self.top}/examples/")]
+        self.assertEqual(sorted(modules), sorted({*modules}))
+        self.assertTrue(os.path.realpath(f"{self.prefix}/bin/uca-files").startswith(f"{self.own}/"))
+        self.assertEqual([it for it in self.files if it.startswith(f"{self.top}/tools/")], [])
 
     def test_pages(self):
         """Each relative link and each picture of a page leads to a file or a folder that is installed."""

@@ -17,6 +17,7 @@ import sys
 import time
 
 import kit
+import script_help
 
 IDLE = ""
 
@@ -147,6 +148,8 @@ def main(names):
 
 
 if __name__ == "__main__":
+    if script_help.is_asked(__doc__, sys.argv[1:]):
+        sys.exit()
     if any(it.startswith("-") for it in sys.argv[1:]):
-        sys.exit(__doc__)
+        script_help.stop(__doc__)
     sys.exit(main(sys.argv[1:]))

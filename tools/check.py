@@ -15,6 +15,7 @@ import sys
 
 import build
 import kit
+import script_help
 
 
 def changed_crates():
@@ -66,7 +67,7 @@ def main(name, flags, tells_above):
 
 if __name__ == "__main__":
     given = sys.argv[1:]
-    if given[:1] in (["-h"], ["--help"]):
-        sys.exit(__doc__)
+    if script_help.is_asked(__doc__, given):
+        sys.exit()
     named = given.pop(0) if given and not given[0].startswith("-") else None
     sys.exit(main(named, [it for it in given if it != "--above"], "--above" in given))

@@ -15,8 +15,8 @@ MOST_IMPORTS = 100
 
 # Names of collations in locale identifiers that differ from those in the files (UTS #35, key "co").
 KINDS = {"phonebk": "phonebook", "trad": "traditional", "dict": "dictionary", "gb2312": "gb2312han"}
-# The parents that are not found by cutting off the last part of a name.
-PARENTS = {"nb": "no", "nn": "no", "sr_Latn": "root", "bs_Cyrl": "root", "ff_Adlm": "root"}
+# The parents that are not found by cutting off the last part of a name. Cantonese has those of ICU and of later editions of CLDR.
+PARENTS = {"nb": "no", "nn": "no", "sr_Latn": "root", "bs_Cyrl": "root", "ff_Adlm": "root", "yue": "zh_Hant", "yue_Hans": "zh"}
 
 
 class CldrError(Exception):
@@ -91,12 +91,17 @@ def rules_text(folder, name, is_short=False):
     return kind_and_rules(folder, name, is_short)[1]
 
 
+def has_rules(folder, locale):
+    """Whether CLDR has a file of collations for a locale or for one of its parents but the root."""
+    return locale == "root" or any(os.path.exists(os.path.join(folder, "collation", f"{it}.xml")) for it in chain(locale) if it != "root")
+
+
 def kind_and_rules(folder, name, is_short=False):
     """The kind of collation of a locale, and its rules."""
     locale, kind = locale_and_kind(name)
     if not os.path.exists(os.path.join(folder, "collation", "root.xml")):
-        raise CldrError(f"{folder}: there is no file collation/root.xml of CLDR. Debian has it in the package unicode-cldr-core.")
-    if locale != "root" and not any(os.path.exists(os.path.join(folder, "collation", f"{it}.xml")) for it in chain(locale) if it != "root"):
+        raise CldrError(f"{folder}: there is no file collation/root.xml of CLDR. Debian has it in the package unicode-cldr-core: apt install unicode-cldr-core")
+    if not has_rules(folder, locale):
         raise CldrError(f"{name}: CLDR has no collation of this name: name a language by its code, such as pl")
     read = [collations(folder, it, is_short) for it in chain(locale)]
     kind = kind or next((default for _, default in read if default), "standard")
@@ -104,6 +109,16 @@ def kind_and_rules(folder, name, is_short=False):
     if text is None:
         raise CldrError(f"{name}: CLDR has no such collation")
     return kind, text
+
+
+def version(folder):
+    """The version of CLDR's files."""
+    path = os.path.join(folder, "dtd", "ldml.dtd")
+    with open(path, encoding="utf-8") as file:
+        found = re.search(r'cldrVersion CDATA #FIXED "([0-9.]+)"', file.read())
+    if not found:
+        raise CldrError(f"{path} names no version of CLDR")
+    return found[1]
 
 
 # ---- The text of rules

@@ -12,6 +12,7 @@ import re
 import sys
 from typing import NamedTuple
 
+import script_help
 from command_help import TOP, stored_helps
 
 # The arguments that are no files.
@@ -354,7 +355,7 @@ def fish(top, commands):
 
 def main(words):
     if words not in ([], ["--check"]):
-        sys.exit(__doc__)
+        script_help.stop(__doc__)
     failed, made = 0, {"uca.bash": bash, "_uca": zsh, "uca.fish": fish}
     parts = commands_of(*stored_helps())
     for name, write in made.items():
@@ -373,4 +374,6 @@ def main(words):
 
 
 if __name__ == "__main__":
+    if script_help.is_asked(__doc__, sys.argv[1:]):
+        sys.exit()
     sys.exit(main(sys.argv[1:]))

@@ -14,6 +14,8 @@ import os
 import re
 import sys
 
+import script_help
+
 TOP = os.path.dirname(os.path.dirname(os.path.realpath(__file__)))
 PAGE, RECIPES = "crates/README.md", "docs/RECIPES.md"
 PROGRAM = "uca"
@@ -103,7 +105,7 @@ def other_numbers(counts):
 
 def main(arguments):
     if arguments not in ([], ["--check"]):
-        sys.exit(__doc__)
+        script_help.stop(__doc__)
     groups = groups_of(text_of("crates.txt"))
     counts = Counts(groups)
     made = page(groups, counts)
@@ -118,4 +120,6 @@ def main(arguments):
 
 
 if __name__ == "__main__":
+    if script_help.is_asked(__doc__, sys.argv[1:]):
+        sys.exit()
     sys.exit(main(sys.argv[1:]))

@@ -16,6 +16,8 @@ import os
 import re
 import sys
 
+import script_help
+
 TOP = os.path.dirname(os.path.dirname(os.path.realpath(__file__)))
 INSIDE = "inside"
 # `use Rattle.CRATE.specs.Module.{names}`, also where it takes the module whole or by another name
@@ -186,6 +188,8 @@ def libraries():
 
 def main(names):
     crates = libraries()
+    if unknown := {*names} - {*crates}:
+        sys.exit(f"there is no library {', '.join(sorted(unknown))}")
     files = definitions(crates)
     cited = closed(cited_by_calls(crates), files)
     inside = {it for it in files if INSIDE in it[1].split(".")}
@@ -204,6 +208,6 @@ def main(names):
 
 
 if __name__ == "__main__":
-    if sys.argv[1:2] in (["-h"], ["--help"]):
-        sys.exit(__doc__)
+    if script_help.is_asked(__doc__, sys.argv[1:]):
+        sys.exit()
     sys.exit(main(sys.argv[1:]))

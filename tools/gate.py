@@ -15,6 +15,7 @@ import sys
 import time
 
 import kit
+import script_help
 
 PROGRAM = f"{kit.TOP}/crates/uca/out/uca"
 COUNTS = re.compile(r"(\d+) passed, (\d+) failed")
@@ -54,6 +55,6 @@ def main(words):
 
 
 if __name__ == "__main__":
-    if sys.argv[1:2] in (["-h"], ["--help"]):
-        sys.exit(__doc__)
+    if script_help.is_asked(__doc__, sys.argv[1:]):
+        sys.exit()
     sys.exit(main(sys.argv[1:]))

@@ -13,6 +13,7 @@ import sys
 import time
 
 import kit
+import script_help
 
 PARTS = ("proof", "tests", "edits")
 IDLE = ("", "runs")
@@ -58,6 +59,6 @@ def main(flags):
 
 
 if __name__ == "__main__":
-    if sys.argv[1:2] in (["-h"], ["--help"]):
-        sys.exit(__doc__)
+    if script_help.is_asked(__doc__, sys.argv[1:]):
+        sys.exit()
     sys.exit(main(sys.argv[1:]))

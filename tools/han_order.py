@@ -35,7 +35,7 @@ def by_radical(draft: Draft, folder: str = UNICODE) -> list[int]:
             for code, radical, marks, strokes in re.findall(r"^U\+(\w+)\tkRSUnicode\t(\d+)('*)\.(-?\d+)", file.read(), re.M):
                 found[int(code, 16)] = int(radical), len(marks), max(0, int(strokes))
     except OSError as error:
-        raise CldrError(f"{SOURCES}: {error.strerror}. Debian has it in the package unicode-data.") from error
+        raise CldrError(f"{SOURCES}: {error.strerror}. Debian has it in the package unicode-data: apt install unicode-data") from error
 
     def block(code):
         return 0 if 0x4E00 <= code <= 0x9FFF else 1 if 0xF900 <= code <= 0xFAFF else 2

@@ -72,9 +72,9 @@ def ends(rising: list[str], draft: Draft, scripts: dict[int, str]) -> Iterator[s
             yield next((key for weight, _, key in letters if last.get(script, IMPLICIT) < weight < IMPLICIT), FIRST_HAN)
 
 
-def index_labels(tag: Tag, table: str, data: str, cldr: str) -> Iterator[tuple[str, str]]:
+def index_labels(tag: Tag, table: str, data: str, cldr: str, unicode: str = script_order.UNICODE) -> Iterator[tuple[str, str]]:
     """Where each bucket begins, and its label. A label of several characters counts if the table sorts them as one letter."""
-    draft, scripts = Draft(table, data), script_order.scripts()
+    draft, scripts = Draft(table, data), script_order.scripts(unicode)
     found = {}
     for label in own_labels(draft) or listed(cldr, tag.locale):
         letters = letters_of(draft, label)

@@ -1,5 +1,5 @@
 #!/bin/sh
-# Installs uca, its manual page, its completions, its licenses and the pages for users. It lists each file that it writes.
+# Installs uca and uca-files, their manual pages, completions, licenses and the pages for users. It lists each file that it writes.
 #
 #     tools/install.sh [PREFIX]                 PREFIX is /usr/local, unless it is given
 #     tools/install.sh --uninstall [PREFIX]     takes away what the first form installed there, and lists it
@@ -7,7 +7,8 @@
 # DESTDIR, if it is set, comes before PREFIX. The program is crates/uca/out/uca, which tools/build.py builds; PROGRAM names
 # another one. A command that fails ends the script. bash, fish and man find their files below /usr/local and ~/.local by
 # themselves; zsh finds its completion if PREFIX/share/zsh/site-functions is in fpath, as it is for /usr/local.
-# share/doc/uca/installed_files has the list, by which --uninstall goes, and an installation in place of an earlier one.
+# share/doc/uca/installed_files has the list, by which --uninstall goes, and an installation in place of an earlier one. The scripts that
+# make tables, and what they import, are in share/uca: an administrator may take away all documents.
 set -eu
 
 top=$(dirname "$0")/..
@@ -20,6 +21,9 @@ stop() {
     exit 2
 }
 
+case ${1:-} in
+    -h | --help) sed -n -e 1d -e '/^#/!q' -e 's/^# \{0,1\}//p' "$0"; exit 0 ;;
+esac
 wanted=install
 if [ "${1:-}" = --uninstall ]; then
     wanted=uninstall
@@ -39,6 +43,7 @@ case $prefix in
 esac
 to=${DESTDIR:-}$prefix
 documents=share/doc/uca
+own=share/uca
 list=$documents/installed_files
 
 # Pages for those who change uca. Where another page links to one, its text is left.
@@ -54,7 +59,11 @@ uninstall() {
         [ "$wanted" = install ] || echo "$to/$file"
     done < "$to/$list"
     rm "$to/$list"
-    find "$to/$documents" -depth -type d -empty -delete
+    # an administrator's tables are in $own too
+    for folder in "$documents" "$own/tools" "$own/books"; do
+        [ ! -d "$to/$folder" ] || find "$to/$folder" -depth -type d -empty -delete
+    done
+    [ ! -d "$to/$own" ] || rmdir --ignore-fail-on-non-empty "$to/$own"
 }
 
 # Installs a file, makes the folders that it needs, and lists it: MODE FILE TARGET.
@@ -64,20 +73,35 @@ put() {
     echo "$to/$3"
 }
 
+# Makes a link to another installed file or folder: TARGET NAME.
+put_link() {
+    install -d "$(dirname "$to/$2")"
+    ln -sfT "$1" "$to/$2"
+    echo "$2" >> "$to/$list"
+    echo "$to/$2"
+}
+
+# Installs files of tools/ in a folder of their own: MODE FILE...
+put_own() {
+    mode=$1
+    shift
+    for file; do put "$mode" "$top/$file" "$own/$file"; done
+}
+
 # Installs a page, without links to the pages that are not installed: PAGE.
 put_page() {
     put 644 "$top/$1" "$documents/$1"
     sed -E "s/\[([^]]*)\]\(([.a-z]+\/)*($for_developers)\.md[^)]*\)/\1/g" "$top/$1" > "$to/$documents/$1"
 }
 
-# Installs those of some files that are there, with their paths below the top of the repository: MODE FILE...
+# Installs those of some files that are there, with their paths below the top of the repository: FILE...
 put_documents() {
-    mode=$1
-    shift
     for file; do
+        mode=644
+        [ ! -x "$top/$file" ] || mode=755
         case $file in
             *.md) put_page "$file" ;;
-            *) ! [ -f "$top/$file" ] || put "$mode" "$top/$file" "$documents/$file" ;;
+            *) [ ! -f "$top/$file" ] || put "$mode" "$top/$file" "$documents/$file" ;;
         esac
     done
 }
@@ -101,18 +125,22 @@ chmod 644 "$to/$list"
 
 put 755 "$program" bin/uca
 put 644 "$top/man/uca.1" share/man/man1/uca.1
+put 644 "$top/man/uca-files.1" share/man/man1/uca-files.1
 put 644 "$top/completions/uca.bash" share/bash-completion/completions/uca
 put 644 "$top/completions/_uca" share/zsh/site-functions/_uca
 put 644 "$top/completions/uca.fish" share/fish/vendor_completions.d/uca.fish
-put_documents 644 LICENSE LICENSE-MIT LICENSE-APACHE NOTICE
-put_documents 644 README.md CHANGELOG.md SECURITY.md bench/README.md bench/time.svg bench/key_bytes.svg
+put_documents LICENSE LICENSE-MIT LICENSE-APACHE NOTICE
+put_documents README.md CHANGELOG.md SECURITY.md bench/README.md bench/time.svg bench/key_bytes.svg
 # three scripts of examples/databases need tests/by_hand, which is not installed
 for page in "$top"/docs/* "$top"/examples/* "$top"/examples/*/*; do
     case $(basename "$page") in
         ARCHITECTURE.md | RECIPES.md | GATE.md | run_all.py | tries_from_keys.py | local_servers.py) ;;
-        *) put_documents 644 "${page#"$top"/}" ;;
+        *) put_documents "${page#"$top"/}" ;;
     esac
 done
-put_documents 755 tools/unicode_files.py tools/languages.py
-put_documents 644 tools/cldr_rules.py tools/profile_rules.py tools/language_tags.py tools/language_tables.py
-put_documents 644 tools/weight_lists.py tools/script_order.py tools/han_order.py tools/kept_changes.py tools/index_labels.py
+put_own 755 tools/uca_files.py tools/unicode_files.py tools/languages.py
+put_own 644 tools/cldr_rules.py tools/profile_rules.py tools/language_tags.py tools/language_tables.py
+put_own 644 tools/weight_lists.py tools/script_order.py tools/han_order.py tools/kept_changes.py tools/index_labels.py tools/language_names.py
+put_link "../$own/tools/uca_files.py" bin/uca-files
+# the pages name these scripts by tools/
+put_link ../../uca/tools "$documents/tools"

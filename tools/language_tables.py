@@ -5,7 +5,7 @@ from itertools import chain
 import han_order
 import script_order
 from cldr_rules import CldrError, Relation, Reset, Setting, items_of, kind_and_rules, members, nfd
-from language_tags import Tag, script_codes
+from language_tags import Tag, rootless, script_codes
 from profile_rules import MOST_CODE_POINTS, MOST_ROUNDS, Translation, continuations, parts
 from weight_lists import Draft, Element, Weight
 
@@ -90,11 +90,12 @@ class Rules:
         self.anchor, self.before = made, 0
         self.relations += 1
         row = [it.copy() for it in chain(made, draft.read(item.expansion))]
+        size = len(row)
         if item.prefix:
             self.prefixes[item.prefix + item.target] = item.prefix
             row = draft.read(item.prefix) + row
+        draft.listed[item.prefix + item.target] = item.target, size
         draft.put(item.prefix + item.target, row)
-        draft.listed.add(item.prefix + item.target)
 
     def contract(self):
         """A target with a prefix is a key of both (UTS #35 Part 5, section 3.10). It has the elements that the prefix has in the end, and then those of the target."""
@@ -138,12 +139,12 @@ def further(added: list[str], keys: set[str], before: set[str], index: dict[str,
 class Made:
     """The table of a tag. It is an error if the tag, or a rule, asks for what a table cannot say."""
 
-    def __init__(self, tag: Tag, table: str, data: str, cldr: str, is_short: bool = False):
-        self.tag = tag
+    def __init__(self, tag: Tag, table: str, data: str, cldr: str, is_short: bool = False, unicode: str = script_order.UNICODE):
+        self.tag, self.unicode = tag, unicode
         self.kind = kind_and_rules(cldr, tag.name, is_short)[0]
         items = list(items_of(cldr, tag.name, is_short))
         self.draft = Draft(table, data)
-        script_order.set_groups(self.draft, script_order.scripts())
+        script_order.set_groups(self.draft, script_order.scripts(unicode))
         script_order.make_root(self.draft)
         han_order.begin(self.draft)
         self.rules = Rules(self.draft)
@@ -173,7 +174,7 @@ class Made:
         order = script_order.reordered(draft, rules.codes)
         if order[-1] != script_order.HAN:
             is_radical = self.kind == "unihan"
-            han_order.add_rest(draft, han_order.by_radical(draft) if is_radical else han_order.by_code(draft), not is_radical)
+            han_order.add_rest(draft, han_order.by_radical(draft, self.unicode) if is_radical else han_order.by_code(draft), not is_radical)
             han_order.follow(draft)
         script_order.reorder(draft, order)
 
@@ -181,15 +182,12 @@ class Made:
         """The table, with comments at its head."""
         version, *rest = self.draft.lines(han_order.single(self.draft, self.kind))
         yield f"# The order of {self.tag.text}, made from Unicode's table and CLDR's files by tools/languages.py."
-        if "ka" in self.tag.settings:
-            yield f"# It names the weighting {self.rules.weighting}."
-        else:
-            yield f"# CLDR takes the weighting {self.rules.weighting} with it: give --weighting {self.rules.weighting}."
+        if not self.tag.has_rules:
+            yield f"# {rootless(self.tag)}"
         yield version
-        if "ka" in self.tag.settings:
-            yield f"@variable {self.rules.weighting}"
-        yield from (it for it in rest if not ("ka" in self.tag.settings and it.startswith("@variable")))
+        yield f"@variable {self.rules.weighting}"
+        yield from (it for it in rest if not it.startswith("@variable"))
 
 
-def table_of(tag: Tag, table: str, data: str, cldr: str, is_short: bool = False) -> str:
-    return "".join(f"{it}\n" for it in Made(tag, table, data, cldr, is_short).lines())
+def table_of(tag: Tag, table: str, data: str, cldr: str, is_short: bool = False, unicode: str = script_order.UNICODE) -> str:
+    return "".join(f"{it}\n" for it in Made(tag, table, data, cldr, is_short, unicode).lines())

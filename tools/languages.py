@@ -41,7 +41,7 @@ from cldr_rules import CldrError, Relation, Reset, items_of
 from index_labels import index_labels
 from kept_changes import kept_changes
 from language_tables import table_of
-from language_tags import read_tag, script_codes
+from language_tags import read_tag, rootless, script_codes
 from profile_rules import MOST_RELATIONS, Table, Translation, chains
 from weight_lists import read_rows
 
@@ -60,8 +60,8 @@ class Judged(NamedTuple):
 
 
 def program(options):
-    built = f"{TOP}/crates/uca/out/uca"
-    found = options.uca or (built if os.path.exists(built) else shutil.which("uca"))
+    built, installed = f"{TOP}/crates/uca/out/uca", f"{TOP}/../../bin/uca" if TOP.endswith("/share/uca") else ""
+    found = options.uca or next((it for it in (built, installed) if os.path.exists(it)), None) or shutil.which("uca")
     if not found:
         raise CldrError("there is no program crates/uca/out/uca or uca: what is made is judged by it before it is printed")
     if not shutil.which(found):
@@ -186,6 +186,7 @@ def print_rules(options):
         error = planned(options, folder, rules, options.table, data).error
     if error:
         raise CldrError(f"{tag.text}: {error}")
+    tell(rootless(tag))
     sys.stdout.write(rules)
 
 
@@ -197,14 +198,27 @@ def check_given(options):
     check_table(options, options.table, options.data)
 
 
+def tell(sentence):
+    """Says a sentence on standard error, where there is one."""
+    if sentence:
+        print(sentence, file=sys.stderr)
+
+
+def judged_table(options, tag, table, data, is_short=False, unicode=unicode_files.FOLDER):
+    """The text of a tag's table, once the program has accepted it."""
+    text = table_of(tag, table, data, options.cldr, is_short, unicode)
+    with tempfile.TemporaryDirectory() as folder:
+        error = changed(options, folder, text, table, data).error
+    if error:
+        raise CldrError(f"{tag.text}: {error}")
+    return text
+
+
 def print_table(options):
     tag = read_tag(options.cldr, options.tag)
     check_given(options)
-    text = table_of(tag, options.table, options.data, options.cldr, options.short)
-    with tempfile.TemporaryDirectory() as folder:
-        error = changed(options, folder, text, options.table, options.data).error
-    if error:
-        raise CldrError(f"{tag.text}: {error}")
+    text = judged_table(options, tag, options.table, options.data, options.short)
+    tell(rootless(tag))
     sys.stdout.write(text)
 
 
@@ -224,6 +238,8 @@ def print_kept(options):
     with tempfile.TemporaryDirectory() as folder:
         names = [write(os.path.join(folder, name), text) for name, text in (("changes", changes), ("certificate", certificate))]
         out, said = run([program(options), "audit-changes", options.table, options.data, options.new, options.data, *names])
+    if "SettingChanged" in out:
+        raise CldrError("the tables name two weightings: make the first one by `tools/unicode_files.py table --weighting non-ignorable`")
     if out != "accepted\n":
         raise CldrError(f"{options.script}: {out.strip() or said}")
     write(options.certificate, certificate)

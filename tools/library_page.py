@@ -12,6 +12,8 @@ import os
 import re
 import sys
 
+import script_help
+
 TOP = os.path.dirname(os.path.dirname(os.path.realpath(__file__)))
 CRATES = [f"{TOP}/crates/{it}" for it in ("uca_sorted_list", "uca_examples")]
 PAGE = f"{TOP}/docs/LIBRARY.md"
@@ -66,4 +68,8 @@ def main():
 
 
 if __name__ == "__main__":
+    if script_help.is_asked(__doc__, sys.argv[1:]):
+        sys.exit()
+    if sys.argv[1:]:
+        script_help.stop(__doc__)
     main()

@@ -1,18 +1,23 @@
 #!/usr/bin/env python3
-"""Prints the manual page of uca, made from the program's help texts.
+"""Prints the manual page of uca, made from the program's help texts, or that of uca-files, made from the head and the help of that script.
 
     tools/man_page.py [--program PATH] > man/uca.1
-    tools/man_page.py --check        compares man/uca.1 with what it would print; the last line is `N passed, M failed`
+    tools/man_page.py --files > man/uca-files.1
+    tools/man_page.py --check        compares both with what it would print; the last line is `N passed, M failed`
 
 The names, usages, texts and options are those of tests/help, and the version is that of docs/FORMATS.md. With `--program` they are what this program prints.
 The sections after them come from man/sections.roff, which is written by hand.
 Debian's help2man makes a page of one help text; this page has a section for each command. tools/packaging.py checks that
 man/uca.1 is what this script prints for the built program.
 """
+import ast
+import os
 import re
+import subprocess
 import sys
 import textwrap
 
+import script_help
 from command_help import TOP, helps_of, printed, program_of, stored_helps, stored_version
 
 DATE = "2026-11-25"
@@ -93,25 +98,71 @@ def page(whole, commands, version):
             made += command_section(command, text, commands[command])
         else:
             made += [f".SS uca {plain(command)}", prose(f"{text}.")]
-    with open(f"{TOP}/man/sections.roff", encoding="utf-8") as file:
-        sections = file.read()
+    sections = text_of(f"{TOP}/man/sections.roff")
     return "\n".join(made) + "\n" + sections + ".SH VERSION\n" + prose(version) + "\n"
 
 
+# ---- The page of uca-files
+
+FILES = f"{TOP}/tools/uca_files.py"
+# How a line of help begins an argument or an option, and what it says of it.
+FILES_ITEM = re.compile(r"  (-\S.*?|[A-Z]+)  +(\S.*)")
+
+
+def block(text):
+    """A paragraph; or a list of calls, which are indented, with what each does."""
+    if not text.startswith("    "):
+        return [".PP", prose(" ".join(text.split("\n")))]
+    return items([re.split("  +", line.strip(), maxsplit=1) for line in text.split("\n")], lambda call: rf"\fB{plain(call)}\fR")
+
+
+def files_option(name):
+    """The name of an option, with its value in italics."""
+    return re.sub(r"[A-Z]{3,}", lambda it: rf"\fI{it[0]}\fR", re.sub(r"-+[a-z]+", lambda it: rf"\fB{plain(it[0])}\fR", name))
+
+
+def files_page(version):
+    title, *blocks = ast.get_docstring(ast.parse(text_of(FILES))).split("\n\n")
+    wide = {**os.environ, "COLUMNS": "1000"}
+    said = subprocess.run([sys.executable, FILES, "--help"], stdout=subprocess.PIPE, encoding="utf-8", env=wide, check=True).stdout
+    found = [FILES_ITEM.fullmatch(line) for line in said.split("\n")]
+    name, number = version.split()[:2]
+    made = [
+        '.\\" Written by tools/man_page.py from tools/uca_files.py. Do not edit.',
+        f'.TH UCA-FILES 1 {DATE} "{name} {number}" "User Commands"',
+        *(".SH NAME", rf"uca\-files \- {plain(title[0].lower() + title[1:].rstrip('.'))}"),
+        *(".SH SYNOPSIS", r"\fBuca\-files\fR [\fIOPTION\fR..] \fITAG\fR.."),
+        *(".SH DESCRIPTION", *(line for it in blocks for line in block(it))),
+        *(".SH OPTIONS", *items([it.groups() for it in found if it and "--help" not in it[1]], files_option)),
+        *(".SH SEE ALSO", r"\fBuca\fR(1)"),
+    ]
+    return "\n".join(made) + "\n"
+
+
 def check():
-    with open(f"{TOP}/man/uca.1", encoding="utf-8") as file:
-        is_same = file.read() == page(*stored_helps(), stored_version())
-    print("1 passed, 0 failed" if is_same else "man/uca.1 is not what tools/man_page.py prints\n0 passed, 1 failed")
-    return 0 if is_same else 1
+    pages = {"uca.1": page(*stored_helps(), stored_version()), "uca-files.1": files_page(stored_version())}
+    others = [name for name, text in pages.items() if text_of(f"{TOP}/man/{name}") != text]
+    for name in others:
+        print(f"man/{name} is not what tools/man_page.py prints")
+    print(f"{len(pages) - len(others)} passed, {len(others)} failed")
+    return 1 if others else 0
+
+
+def text_of(path):
+    with open(path, encoding="utf-8") as file:
+        return file.read()
 
 
 def main(words):
     if words == ["--check"]:
         return check()
+    if words == ["--files"]:
+        print(files_page(stored_version()), end="")
+        return 0
     if words:
         program, others = program_of(words)
         if others:
-            sys.exit(__doc__)
+            script_help.stop(__doc__)
         print(page(*helps_of(program), printed(program, "--version").strip()), end="")
     else:
         print(page(*stored_helps(), stored_version()), end="")
@@ -119,4 +170,6 @@ def main(words):
 
 
 if __name__ == "__main__":
+    if script_help.is_asked(__doc__, sys.argv[1:]):
+        sys.exit()
     sys.exit(main(sys.argv[1:]))

@@ -18,6 +18,7 @@ import subprocess
 import sys
 import tempfile
 
+import script_help
 from command_help import TOP, helps_of, printed, program_of
 from completion_shells import Zsh, bash_offers, fish_offers
 
@@ -26,12 +27,15 @@ WEIGHTINGS = {"non-ignorable", "shifted"}
 FILES = {"data.txt", "table.txt", "my table.txt", "rules"}
 INSTALLED = [
     "bin/uca",
+    "bin/uca-files",
     "share/man/man1/uca.1",
+    "share/man/man1/uca-files.1",
     "share/bash-completion/completions/uca",
     "share/zsh/site-functions/_uca",
     "share/fish/vendor_completions.d/uca.fish",
     *(f"share/doc/uca/{it}" for it in ["LICENSE", "LICENSE-MIT", "LICENSE-APACHE", "NOTICE", "README.md", "CHANGELOG.md", "SECURITY.md"]),
     *(f"share/doc/uca/{it}" for it in ["docs/FORMATS.md", "docs/MESSAGES.md", "examples/table.txt", "tools/unicode_files.py", "installed_files"]),
+    "share/uca/tools/uca_files.py",
 ]
 
 # Pages for those who change uca, which are not installed.
@@ -135,7 +139,7 @@ def options_in(text):
 
 
 def check_man_page(counts, program, whole, helps):
-    """The page has a section for each command and each option, and no other; it is what the script prints."""
+    """The page has a section for each command and each option, and no other; it is what the script prints. The page of uca-files renders too."""
     path = f"{TOP}/man/uca.1"
     with open(path, encoding="utf-8") as file:
         page = file.read()
@@ -148,11 +152,11 @@ def check_man_page(counts, program, whole, helps):
     made = subprocess.run([sys.executable, f"{TOP}/tools/man_page.py", "--program", program], stdout=subprocess.PIPE, text=True, check=False).stdout
     counts.check("man/uca.1 is what tools/man_page.py prints", made == page)
     locale = {**os.environ, "LC_ALL": "C.UTF-8", "MANWIDTH": "80"}
-    for command in (["man", "--warnings", "-l", path], ["mandoc", "-Tlint", "-Wwarning", path]):
-        if is_there(command[0]):
-            ran = subprocess.run(command, stdout=subprocess.PIPE, stderr=subprocess.PIPE, text=True, env=locale, check=False)
+    for command in (["man", "--warnings", "-l"], ["mandoc", "-Tlint", "-Wwarning"]):
+        for name in ("uca.1", "uca-files.1") if is_there(command[0]) else ():
+            ran = subprocess.run([*command, f"{TOP}/man/{name}"], stdout=subprocess.PIPE, stderr=subprocess.PIPE, text=True, env=locale, check=False)
             said = ran.stdout if command[0] == "mandoc" else ran.stderr
-            counts.check(f"{command[0]} renders man/uca.1", ran.returncode == 0 and not said, said)
+            counts.check(f"{command[0]} renders man/{name}", ran.returncode == 0 and not said, said)
 
 
 def check_shell(counts, name, offers, room, whole, helps):
@@ -207,7 +211,7 @@ def check_installed(counts, folder):
     """All files are there, and the program prints keys with the files that were installed beside it."""
     for name in INSTALLED:
         counts.check(f"install.sh: {name}", os.path.isfile(f"{folder}/{name}"))
-    for name in ["bin/uca", "share/doc/uca/tools/unicode_files.py"]:
+    for name in ["bin/uca", "bin/uca-files", "share/doc/uca/tools/unicode_files.py"]:
         counts.check(f"install.sh: {name} may be run", os.access(f"{folder}/{name}", os.X_OK))
     examples = f"{folder}/share/doc/uca/examples"
     if os.access(f"{folder}/bin/uca", os.X_OK):
@@ -217,7 +221,9 @@ def check_installed(counts, folder):
 
 
 def files_below(folder):
-    return sorted(os.path.relpath(f"{at}/{name}", folder) for at, _, names in os.walk(folder) for name in names)
+    """The files below a folder, and the links to folders."""
+    found = [f"{at}/{it}" for at, folders, names in os.walk(folder) for it in [*names, *(one for one in folders if os.path.islink(f"{at}/{one}"))]]
+    return sorted(os.path.relpath(it, folder) for it in found)
 
 
 def check_listed(counts, folder, printed_lines):
@@ -234,18 +240,18 @@ def check_listed(counts, folder, printed_lines):
 
 def check_uninstall(counts, program, room):
     """What was installed is taken away, and nothing else. An installation takes the place of an earlier one."""
-    folder, other = f"{room}/with blanks", "share/doc/uca/mine"
+    folder, others = f"{room}/with blanks", ["share/doc/uca/mine", "share/uca/15.0.0-cldr41/pl/table.txt"]
     install(folder, PROGRAM=program)
     with open(f"{folder}/share/doc/uca/installed_files", "a", encoding="utf-8") as file:
         file.write("share/doc/uca/old/page.md\n")
-    for name in [other, "share/doc/uca/old/page.md"]:
+    for name in [*others, "share/doc/uca/old/page.md"]:
         os.makedirs(os.path.dirname(f"{folder}/{name}"), exist_ok=True)
         open(f"{folder}/{name}", "w", encoding="utf-8").close()
     ran = install(folder, PROGRAM=program)
     counts.check("install.sh takes the place of an earlier one", ran.returncode == 0 and not os.path.exists(f"{folder}/share/doc/uca/old"), ran.stdout)
     ran = install("--uninstall", folder)
     counts.check("install.sh --uninstall ends well", ran.returncode == 0 and f"{folder}/bin/uca\n" in ran.stdout, ran.stdout)
-    counts.same("install.sh --uninstall leaves", {*files_below(folder)}, {other})
+    counts.same("install.sh --uninstall leaves", {*files_below(folder)}, {*others})
     ran = install("--uninstall", folder)
     counts.check("install.sh --uninstall of nothing fails", ran.returncode == 1 and "nothing is known" in ran.stdout, ran.stdout)
     with open(f"{folder}/share/doc/uca/installed_files", "w", encoding="utf-8") as file:
@@ -299,7 +305,7 @@ def check_version(counts, program):
 def main(arguments):
     program, others = program_of(arguments)
     if others:
-        sys.exit(__doc__)
+        script_help.stop(__doc__)
     counts = Counts()
     whole, helps = helps_of(program)
     check_version(counts, program)
@@ -311,4 +317,6 @@ def main(arguments):
 
 
 if __name__ == "__main__":
+    if script_help.is_asked(__doc__, sys.argv[1:]):
+        sys.exit()
     sys.exit(main(sys.argv[1:]))

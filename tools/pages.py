@@ -19,6 +19,8 @@ import subprocess
 import sys
 import tempfile
 
+import script_help
+
 TOP = os.path.dirname(os.path.dirname(os.path.realpath(__file__)))
 PAGES = ["README.md", "examples/README.md", "examples/books/README.md", *(f"docs/{it}" for it in sorted(os.listdir(f"{TOP}/docs")) if it.endswith(".md"))]
 END = "== end of output"
@@ -27,8 +29,11 @@ ALLKEYS, CLDR = "/usr/share/unicode/allkeys.txt", "/usr/share/unicode/cldr/commo
 
 def commands_of(page, head="console"):
     """The commands of a page, each with the output that the page shows. The head is a pattern of what a block begins with."""
-    with open(f"{TOP}/{page}", encoding="utf-8") as it:
-        text = it.read()
+    try:
+        with open(f"{TOP}/{page}", encoding="utf-8") as it:
+            text = it.read()
+    except OSError as error:
+        sys.exit(f"{page}: {error.strerror}")
     found = []
     for block in re.findall(rf"^```{head}\n(.*?)^```", text, re.M | re.S):
         for part in re.split(r"^\$ ", block, flags=re.M)[1:]:
@@ -80,4 +85,6 @@ def main(pages):
 
 
 if __name__ == "__main__":
+    if script_help.is_asked(__doc__, sys.argv[1:]):
+        sys.exit()
     sys.exit(main(sys.argv[1:]))

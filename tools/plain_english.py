@@ -15,6 +15,8 @@ import os
 import re
 import sys
 
+import script_help
+
 TOP = os.path.dirname(os.path.dirname(os.path.realpath(__file__)))
 MOST_WORDS = 30
 CODE = "CODE"
@@ -131,8 +133,11 @@ def docstrings_of(text):
 
 
 def text_of(name):
-    with open(f"{TOP}/{name}", encoding="utf-8") as file:
-        return file.read()
+    try:
+        with open(f"{TOP}/{name}", encoding="utf-8") as file:
+            return file.read()
+    except (OSError, UnicodeDecodeError) as error:
+        sys.exit(f"{name}: {getattr(error, 'strerror', None) or 'this is no text in UTF-8'}")
 
 
 def prose_of(name):
@@ -164,4 +169,6 @@ def main(names):
 
 
 if __name__ == "__main__":
+    if script_help.is_asked(__doc__, sys.argv[1:]):
+        sys.exit()
     sys.exit(main(sys.argv[1:]))

@@ -18,7 +18,8 @@ FIRSTS = {" ": "space", "_": "punct", "`": "symbol", "\u09f4": "number", "\u02d0
 CURRENCIES = "\u20a8\ufdfc"  # Unicode's table sorts these as their letters
 INDICATOR = "\U00010a7f"  # Unicode's table has it among the numbers
 KANA, HAN = "Kana", "Hani"
-UPPER = {0x08, 0x09, 0x0A, 0x0B, 0x0C, 0x1D}  # the tertiary weights of capitals (UTS #10, table 17)
+# The tertiary weights of capitals, and of large kana and narrow signs, which count as capitals (UTS #10, table 17, and UTS #35 Part 5, section 3.14)
+UPPER = {0x08, 0x09, 0x0A, 0x0B, 0x0C, 0x0E, 0x11, 0x12, 0x1D}
 CASES = {"upper": (0, 1, 2), "lower": (2, 1, 0)}  # capitals are 0, mixed texts 1, and all others 2
 
 
@@ -34,7 +35,7 @@ def fields_of(folder: str, name: str):
                 if len(fields) > 1:
                     yield fields
     except OSError as error:
-        raise CldrError(f"{name}: {error.strerror}. Debian has it in the package unicode-data.") from error
+        raise CldrError(f"{name}: {error.strerror}. Debian has it in the package unicode-data: apt install unicode-data") from error
 
 
 def scripts(folder: str = UNICODE) -> dict[int, str]:
@@ -132,22 +133,34 @@ def reorder(draft: Draft, order: list[str]):
 # ---- Upper or lower case first
 
 
-def case_of_text(text: str) -> int:
-    has_upper, has_lower = (any(test(it) for it in text) for test in (str.isupper, str.islower))
-    return 2 if not has_upper else 1 if has_lower else 0
+def case_of(element: Element) -> int:
+    """The case of an element of the old table, by its tertiary weight."""
+    weight = element.weights[2]
+    return 0 if weight and weight.old in UPPER else 2
 
 
-def case_of(draft: Draft, key: str, element: Element) -> int:
-    """The case of an element: that of the letters of a rule's target, and of the tertiary weight in a row of the old table."""
-    return case_of_text(key) if key in draft.listed else 0 if element.weights[2].old in UPPER else 2
+def cases_of(draft: Draft, key: str, row: list[Element]) -> list[int]:
+    """The case of each element of a row. In a row of a rule it is that of the target's letters in the old table: the last element has that of all the rest."""
+    if key not in draft.listed:
+        return [case_of(it) for it in row]
+    target, size = draft.listed[key]
+    own = row[len(row) - size :]
+    letters = [case_of(it) for it in draft.read_old(target) if it.weights[0]]
+    count = sum(bool(it.weights[0]) for it in own)
+    if 0 < count < len(letters):
+        rest = set(letters[count - 1 :])
+        letters = [*letters[: count - 1], rest.pop() if len(rest) == 1 else 1]
+    left = iter(letters)
+    return [2] * (len(row) - size) + [next(left, 2) if it.weights[0] else 2 for it in own]
 
 
 def put_case_first(draft: Draft, first: str):
     """Upper or lower case first (UTS #35 Part 5, section 3.14). Elements of the first case stay. Of letters with capitals, those of the other cases get new tertiary weights."""
     level, order = draft.levels[2], CASES[first]
-    cases = [(it, case_of(draft, key, it)) for key, row in draft.rows.items() for it in row if it.weights[0] and it.weights[2]]
-    cased = {it.weights[0] for it, case in cases if case < 2}
-    moved = [(it, case) for it, case in cases if it.weights[0] in cased and case != order[0]]
+    pairs = [pair for key, row in draft.rows.items() for pair in zip(row, cases_of(draft, key, row))]
+    cases = [(it, it.weights[0] or it.weights[1], case) for it, case in pairs if any(it.weights[:2]) and it.weights[2]]
+    cased = {letter for _, letter, case in cases if case < 2}
+    moved = [(it, case) for it, letter, case in cases if letter in cased and case != order[0]]
     wanted, copies = {(case, it.weights[2]) for it, case in moved}, {}
     # a mark of level 3 alone weighs more than all others there (UTS #10, section 9.2, WF2)
     marks = {it.weights[2] for row in draft.rows.values() for it in row if not any(it.weights[:2]) and it.weights[2]}

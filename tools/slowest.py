@@ -12,9 +12,11 @@ searches for, and `Answers` those with a proof in a file. `Tie` is the code agai
 own lines.
 """
 import collections
+import re
 import sys
 
 import kit
+import script_help
 
 
 def main(crate, count):
@@ -27,6 +29,8 @@ def main(crate, count):
 
 
 if __name__ == "__main__":
-    if len(sys.argv) < 2 or sys.argv[1].startswith("-"):
-        sys.exit(__doc__)
+    if script_help.is_asked(__doc__, sys.argv[1:]):
+        sys.exit()
+    if not re.fullmatch(r"[^-]\S*( \d+)?", " ".join(sys.argv[1:])):
+        script_help.stop(__doc__)
     main(sys.argv[1], int(sys.argv[2]) if len(sys.argv) > 2 else 20)

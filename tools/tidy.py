@@ -22,6 +22,7 @@ import time
 from concurrent.futures import ThreadPoolExecutor
 
 import kit
+import script_help
 
 # The most columns of a line of a page.
 COLUMNS = 120
@@ -108,6 +109,8 @@ def main(names):
 
 
 if __name__ == "__main__":
+    if script_help.is_asked(__doc__, sys.argv[1:]):
+        sys.exit()
     if any(it.startswith("-") for it in sys.argv[1:]):
-        sys.exit(__doc__)
+        script_help.stop(__doc__)
     sys.exit(main(sys.argv[1:]))

@@ -22,12 +22,15 @@ from concurrent.futures import ThreadPoolExecutor
 import build
 import check
 import kit
+import script_help
 
 EDITS = f"{kit.TOP}/edits"
 
 
 def edits_of(crate):
     folder = f"{EDITS}/{crate}"
+    if not os.path.isdir(folder):
+        sys.exit(f"there is no folder edits/{crate}")
     return sorted(f"{folder}/{it}" for it in os.listdir(folder) if it.endswith(".edit"))
 
 
@@ -150,4 +153,6 @@ def main(names):
 
 
 if __name__ == "__main__":
+    if script_help.is_asked(__doc__, sys.argv[1:]):
+        sys.exit()
     sys.exit(main(sys.argv[1:]))

@@ -8,7 +8,8 @@ Both come from the files of Debian's package unicode-data in /usr/share/unicode,
 with Unicode's files, and `table ALLKEYS` another `allkeys.txt`.
 
 `table` prints a weight table: `allkeys.txt` with rows added after its own. As it is published it is not well-formed (UTS #10, section 9.2, WF5),
-since the rows of two keys are missing. These are added, and four more that keep what the file says of the signs after them.
+since the rows of two keys are missing. These are added, and four more that keep what the file says of the signs after them. `--weighting WEIGHTING` writes a weighting
+into it, as tables of languages have one: `uca changes` takes two tables of one weighting.
 
 `data` prints a data file: combining classes and Han ranges, from DerivedCombiningClass.txt, PropList.txt and Blocks.txt. Without these files it takes both from
 Python's `unicodedata`, and says so on standard error: that may be another edition. docs/UNICODE.md says more.
@@ -37,7 +38,7 @@ def content(name):
         with open(name, encoding="utf-8") as file:
             return file.read()
     except OSError as error:
-        sys.exit(f"{name}: {error.strerror}. Debian has it in the package unicode-data.")
+        sys.exit(f"{name}: {error.strerror}. Debian has it in the package unicode-data: apt install unicode-data")
     except UnicodeDecodeError:
         sys.exit(f"{name} is not in UTF-8, so it is no file of Unicode.")
 
@@ -147,8 +148,10 @@ def missing(rows):
                     yield f"{letter} {key} ; {rows[letter]}{rows[key]}\n"
 
 
-def print_table(name):
+def print_table(name, weighting=""):
     published = content(name)
+    if weighting:
+        published = re.sub("^(@version .*\n)", rf"\1@variable {weighting}\n", published, count=1, flags=re.M)
     sys.stdout.write(published + ("" if published.endswith("\n") else "\n"))
     sys.stdout.writelines(missing(rows_of(published)))
 
@@ -159,12 +162,13 @@ def main():
     parser = argparse.ArgumentParser(description=__doc__.split("\n")[0], epilog="docs/UNICODE.md says more.")
     parser.add_argument("what", choices=("table", "data"))
     parser.add_argument("--folder", default=FOLDER, help=f"the folder with Unicode's files ({FOLDER})")
+    parser.add_argument("--weighting", choices=("non-ignorable", "shifted"), default="", help="for `table`, the weighting that is written into it")
     parser.add_argument("allkeys", nargs="?", help="for `table`, another allkeys.txt than that of the folder")
     options = parser.parse_args()
     if options.what == "data":
         print_data(options.folder)
     else:
-        print_table(options.allkeys or os.path.join(options.folder, "allkeys.txt"))
+        print_table(options.allkeys or os.path.join(options.folder, "allkeys.txt"), options.weighting)
 
 
 if __name__ == "__main__":

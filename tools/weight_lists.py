@@ -99,7 +99,8 @@ class Draft:
 
     def __init__(self, table: str, data: str):
         self.rows, self.longest = {}, {}
-        self.listed, self.shared, self.made = set(), {}, set()  # the targets of rules; weights below a plain one; elements that were made
+        self.listed = {}  # the keys of rules: the target of each, and how many elements it has
+        self.shared, self.made = {}, set()  # weights below a plain one; elements that were made
         self.classes, self.leads = {}, {}  # combining classes, and the lead of each Han character
         self.han = {}  # the weight of each Han character that no rule names
         self.read_data(data)
@@ -109,6 +110,7 @@ class Draft:
         self.plain = [self.levels[1].by_old[PLAIN[0]], self.levels[2].by_old[PLAIN[1]]]
         for key, row in parsed:
             self.put(key, [Element(it[0], [self.old(level, weight) for level, weight in enumerate(it[1:])]) for it in row])
+        self.old_rows = dict(self.rows)
 
     def read_data(self, path: str):
         with open(path, encoding="utf-8") as file:
@@ -155,6 +157,14 @@ class Draft:
             else:
                 found += self.implicit(rest.pop(0))
         return found
+
+    def read_old(self, text: str) -> list[Element]:
+        """The elements of a text in the table as it was before all rules."""
+        now, self.rows = self.rows, self.old_rows
+        try:
+            return self.read(text)
+        finally:
+            self.rows = now
 
     def extended(self, key: str, rest: list[str]) -> tuple[str, list[str]]:
         """The key with the non-starters after it that make a longer one, and what is left of the rest."""

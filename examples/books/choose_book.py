@@ -221,6 +221,22 @@ def mean(total, keys):
     return "%d.%02d" % divmod((200 * total + keys) // (2 * keys), 100)
 
 
+def book_by(sample, weighting, others, variables, letters):
+    """The text of a book for the keys of a sample, and what it takes: the table's weights are those of variable elements and all others."""
+    starts, taken = level_one(sample, weighting, others, variables, letters)
+    book, said = [f"1 {start:04X}\n" for start in starts[1:]], f"level 1 {mean(taken, sample.keys)}"
+    if sample.has_fourth:
+        starts, taken = level_four(sample, others, variables)
+        book += [f"4 {start:04X}\n" for start in starts[1:]]
+        said += f", level 4 {mean(taken, sample.keys)}"
+    return "@book 1\n" + "".join(book), f"{sample.keys} keys, mean bytes a key: {said}"
+
+
+def starts_in(book, level):
+    """The starts of a level in the text of a book, the first one too."""
+    return [1, *(int(line[2:], 16) for line in book.splitlines() if line.startswith(f"{level} "))]
+
+
 def positive(digits):
     """A number of at least 1, for argparse."""
     if not re.fullmatch("[0-9]{1,9}", digits) or not int(digits):
@@ -237,14 +253,9 @@ def main():
     given = parser.parse_args()
     variables, letters = table_weights(given.table)
     sample = read_sample(sys.stdin.buffer, given.weighting)
-    starts, taken = level_one(sample, given.weighting, given.others, variables, letters)
-    book, said = [f"1 {start:04X}\n" for start in starts[1:]], f"level 1 {mean(taken, sample.keys)}"
-    if sample.has_fourth:
-        starts, taken = level_four(sample, given.others, variables)
-        book += [f"4 {start:04X}\n" for start in starts[1:]]
-        said += f", level 4 {mean(taken, sample.keys)}"
-    sys.stdout.write("@book 1\n" + "".join(book))
-    print(f"{sample.keys} keys, mean bytes a key: {said}", file=sys.stderr)
+    book, said = book_by(sample, given.weighting, given.others, variables, letters)
+    sys.stdout.write(book)
+    print(said, file=sys.stderr)
 
 
 if __name__ == "__main__":

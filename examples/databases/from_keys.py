@@ -175,8 +175,12 @@ def buckets(labels, path):
 def main(words):
     calls = {"turn": (turn, 0, 0), "merge": (lambda *paths: merge(paths), 2, 99), "find": (find, 1, 1), "letters": (letters, 0, 0), "buckets": (buckets, 2, 2)}
     call, least, most = calls.get(words[0] if words else "", (None, 0, 0))
+    if words[:1] in (["-h"], ["--help"]):
+        print(__doc__)
+        return
     if not call or not least <= len(words) - 1 <= most:
-        sys.exit(__doc__)
+        print(__doc__, file=sys.stderr)
+        sys.exit(2)
     try:
         call(*words[1:])
     except (WrongKeys, OSError, ValueError) as error:

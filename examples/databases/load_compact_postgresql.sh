@@ -7,6 +7,7 @@
 # The options are --weighting, --identical and --numeric. It needs `uca` and `psql` on the path (Debian:
 # postgresql-client); PGHOST, PGDATABASE and so on name the database.
 set -euo pipefail
+. "$(dirname "$0")/usage.sh" 4 "$@"
 table=$1 data=$2 book=$3 lines=$4
 shift 4
 

@@ -6,6 +6,7 @@
 #
 # The options are --weighting, --identical and --numeric. It needs `uca` on the path, and the Debian package sqlite3.
 set -euo pipefail
+. "$(dirname "$0")/usage.sh" 5 "$@"
 table=$1 data=$2 book=$3 lines=$4 database=$5
 shift 5
 

@@ -6,6 +6,7 @@
 #
 # It needs `uca` and `psql` on the path (Debian: postgresql-client); PGHOST, PGDATABASE and so on name the database.
 set -euo pipefail
+. "$(dirname "$0")/usage.sh" 3 "$@"
 table=$1 data=$2 lines=$3
 shift 3
 

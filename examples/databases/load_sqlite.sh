@@ -6,6 +6,7 @@
 #
 # It needs `uca` on the path, and the Debian package sqlite3.
 set -euo pipefail
+. "$(dirname "$0")/usage.sh" 4 "$@"
 table=$1 data=$2 lines=$3 database=$4
 shift 4
 

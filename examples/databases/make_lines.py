@@ -6,6 +6,7 @@
 The same COUNT gives the same lines each time. There are capitals, accents as one code point and as two, blanks, hyphens, quotes,
 backslashes, tabs and carriage returns, empty lines, and texts that occur more than once.
 """
+import argparse
 import random
 import sys
 import unicodedata
@@ -41,12 +42,15 @@ def made_line(source):
     return text
 
 
-def main(count):
+def main():
+    parser = argparse.ArgumentParser(description=__doc__, formatter_class=argparse.RawDescriptionHelpFormatter)
+    parser.add_argument("count", type=int, metavar="COUNT", help="how many lines")
+    count = parser.parse_args().count
+    sys.stdout.reconfigure(encoding="utf-8", newline="\n")
     source = random.Random(10)
     for _ in range(count):
         sys.stdout.write(made_line(source) + "\n")
 
 
 if __name__ == "__main__":
-    sys.stdout.reconfigure(encoding="utf-8", newline="\n")
-    main(int(sys.argv[1]))
+    main()

@@ -7,6 +7,7 @@
 # accept the tailoring. The certificate may move no weight, since old keys would not mix with new ones. No text may have a line feed.
 # Otherwise the script changes nothing and ends with status 1.
 set -euo pipefail
+. "$(dirname "$0")/usage.sh" 5 "$@"
 table=$1 data=$2 rules=$3 tailored=$4 certificate=$5
 shift 5
 

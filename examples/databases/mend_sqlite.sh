@@ -7,6 +7,7 @@
 # tailoring. The certificate may move no weight, since old keys would not mix with new ones. No text may have a line feed or U+0000.
 # Otherwise the script changes nothing and ends with status 1.
 set -euo pipefail
+. "$(dirname "$0")/usage.sh" 6 "$@"
 table=$1 data=$2 rules=$3 tailored=$4 certificate=$5 database=$6
 shift 6
 

@@ -6,6 +6,7 @@
 # The file is cut into parts of COUNT lines (at most 1,000,000). Each part is keyed and sorted alone, and goes to a file. Then the
 # parts are merged. It needs `uca` on the path. TMPDIR names the folder for the parts.
 set -euo pipefail
+. "$(dirname "$0")/usage.sh" 4 "$@"
 export TABLE=$1 DATA=$2
 lines=$3 count=$4
 shift 4

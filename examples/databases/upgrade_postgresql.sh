@@ -11,6 +11,7 @@
 # With `texts` the keys of affected texts are made again from the column `word`. With `none-affected` no text is read, and this column need
 # not be there. Then you have to know that no text is affected: keys alone do not say so, and the script cannot find out.
 set -euo pipefail
+. "$(dirname "$0")/usage.sh" 7 "$@"
 case $1 in
 texts) column=', word' ;;
 none-affected) column= ;;

@@ -2,13 +2,18 @@
 # Makes the compact keys of the rows of a table under a new edition. upgrade_sqlite.sh and upgrade_postgresql.sh call it inside of their
 # transaction, in a folder of its own, with these variables:
 #
-#     TEXTS NEW NEW_DATA CHANGES CERTIFICATE OPTIONS EACH
+#     TEXTS=.. NEW=.. NEW_DATA=.. CHANGES=.. CERTIFICATE=.. OPTIONS=.. EACH=.. upgraded_keys.sh < ROWS
 #
 # Standard input has a line for each row: the compact key in hexadecimal digits, a tab, and the number of the row. Where TEXTS is `texts`,
 # a tab and the text follow. The file old.book has the book of these keys. It writes new.book, and last of all `changed`: a line for each
 # row whose key has other bytes now, with the new key, a tab, and the number, put through the commands EACH of sed. After an error there
 # is no such file.
 set -euo pipefail
+. "$(dirname "$0")/usage.sh" 0 "$@"
+if [ -z "${EACH+set}" ]; then
+    usage >&2
+    exit 2
+fi
 export SHELL=/bin/bash LC_ALL=C
 
 # What is made of keys does not depend on --numeric, so `uca compact` and others do not take it.

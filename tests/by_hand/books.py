@@ -1,14 +1,24 @@
 #!/usr/bin/env python3
-"""Tries examples/books/choose_book.py, and the book of that folder.
+"""Tries examples/books/choose_book.py, the book of that folder, and the books that tools/table_books.py makes for the tables of languages.
 
-    tests/by_hand/books.py       # from the top of the repository
+    tests/by_hand/books.py               from the top of the repository (four minutes, on four processors)
+    tests/by_hand/books.py Grek Thai     these scripts alone
 
 It tries the cells that are chosen against all that there may be, for short levels. It runs the script over keys that are made here, and over keys that it
 has to reject. Where the program has the command `compact`, that command has to read the books, and the lengths that the script expects have to be those of the
 compact keys. Otherwise these checks are not run. It needs no package but Python. Where the packages are here that examples/books/README.md names, in those
-editions, it makes general.book again. The last line is `N passed, M failed`, and how many were not run if there are any.
+editions, it makes general.book again.
+
+For each script it makes the table of a language, and its book. Compact keys of real lines by them have to be at most as long as ICU4C's by the root collation. The
+lines are those of CLDR's subdivisions and of iso-codes that the book was not chosen by. Where there are fewer than 100, the book is chosen by half of the lines, and the
+others are measured. This needs unicode-data, unicode-cldr-core, gcc and libicu-dev.
+
+The last line is `N passed, M failed`, and how many were not run if there are any.
 """
 import argparse
+import collections
+import gettext
+import glob
 import hashlib
 import itertools
 import os
@@ -18,6 +28,8 @@ import subprocess
 import sys
 import tempfile
 import time
+import types
+from concurrent.futures import ProcessPoolExecutor
 
 TOP = os.path.dirname(os.path.dirname(os.path.dirname(os.path.realpath(__file__))))
 BOOKS = f"{TOP}/examples/books"
@@ -25,12 +37,20 @@ SCRIPT, TABLE, DATA = f"{BOOKS}/choose_book.py", f"{TOP}/examples/table.txt", f"
 COUNTS = {"passed": 0, "failed": 0, "not run": 0}
 
 sys.dont_write_bytecode = True
-sys.path.insert(0, BOOKS)
+sys.path[:0] = [BOOKS, f"{TOP}/tools"]
 
 import choose_book  # noqa: E402
 import packages  # noqa: E402
+import table_books  # noqa: E402
+from language_tables import table_of  # noqa: E402
+from language_tags import read_tag  # noqa: E402
+from languages import CLDR  # noqa: E402
+from script_order import scripts  # noqa: E402
+from unicode_files import FOLDER  # noqa: E402
 
-NEEDS, WANTS = [], ["unicode-data", "iso-codes", "wamerican", *(name for name in packages.LISTS if name != "wamerican-large")]
+OF_GENERAL = ["unicode-data", "iso-codes", "wamerican", *(name for name in packages.LISTS if name != "wamerican-large")]
+OF_SCRIPTS = ["unicode-data", "unicode-cldr-core", "gcc", "libicu-dev"]
+NEEDS, WANTS = [], list(dict.fromkeys(OF_GENERAL + OF_SCRIPTS))
 # The SHA-256 of what general_lines.py prints, and of the table, by which general.book was chosen.
 GENERAL_LINES, GENERAL_TABLE = "02ff4f8a90f1b18484ff0fe6b29d9b25634ebb5b4130d4bc156162b8c4e99069", "335df88b8159baa48567ded2c5756178815f4d7c3fd494f7a8c659d0ba51be3b"
 
@@ -223,7 +243,7 @@ def try_general(program, folder):
     with open(f"{BOOKS}/general.book", encoding="utf-8") as file:
         general = file.read()
     see("general.book is a book", is_book(general))
-    if lacking := packages.missing(WANTS):
+    if lacking := packages.missing(OF_GENERAL):
         not_run(f"general.book is not made again, for lack of Debian's {', '.join(lacking)}")
         return
     run = lambda *words: subprocess.run([sys.executable, *words], stdout=subprocess.PIPE, check=True).stdout
@@ -276,18 +296,115 @@ def try_program(program, folder):
                 see(f"{weighting}: they take as many bytes as were expected", abs(100 * total - expected * len(LINES)) <= len(LINES), what)
 
 
+# ---- The books of languages, beside ICU
+
+# A language of each script, by whose table and book its lines are measured. Zyyy are lines of numbers and signs alone.
+LANGUAGES = dict(Adlm="ff-Adlm", Arab="fa", Armn="hy", Beng="bn", Cakm="ccp", Cher="chr", Cyrl="ru", Deva="hi", Ethi="am", Geor="ka", Grek="el")
+LANGUAGES |= dict(Gujr="gu", Guru="pa", Hang="ko", Hani="zh", Hebr="he", Jpan="ja", Khmr="km", Knda="kn", Laoo="lo", Latn="de", Mlym="ml", Mymr="my")
+LANGUAGES |= dict(Olck="sat", Orya="or", Sinh="si", Taml="ta", Telu="te", Tfng="zgh", Thai="th", Tibt="dz", Vaii="vai", Zyyy="und")
+# How many lines of a script are measured, and how few are too few.
+MOST_LINES, FEWEST_LINES = 1_500, 100
+
+
+class Setup(types.SimpleNamespace):
+    """The program, CLDR's and Unicode's files, Unicode's table and data file, ICU's program, a folder for other files, and the script of each character."""
+
+
+def script_of(setup, line):
+    """The script of most letters of a line. One with kana is Japanese."""
+    found = collections.Counter(setup.scripts.get(ord(it)) for it in line)
+    found = collections.Counter({script: count for script, count in found.items() if script not in (None, "Zyyy", "Zinh")})
+    return "Jpan" if found["Kana"] else found.most_common(1)[0][0] if found else "Zyyy"
+
+
+def translated(locale):
+    """What iso-codes has in a language."""
+    found = set()
+    for path in glob.glob(f"/usr/share/locale/{locale}/LC_MESSAGES/iso_*.mo"):
+        with open(path, "rb") as file:
+            found.update(it for it in gettext.GNUTranslations(file)._catalog.values() if isinstance(it, str))
+    return {it for it in found if 0 < len(it) <= table_books.LONGEST and "\n" not in it}
+
+
+def lines_to_measure(setup, script, tag):
+    """Lines of a script that its book is not chosen by, and the lines that it is chosen by: None stands for those of the language."""
+    own, wanted = table_books.lines_of(CLDR, tag.locale), lambda lines: sorted(it for it in lines if script_of(setup, it) == script)
+    if script == "Zyyy":
+        others = set().union(*(table_books.texts_in(path) for path in glob.glob(f"{CLDR}/main/*.xml")))
+    else:
+        others = table_books.texts_in(f"{CLDR}/subdivisions/{tag.locale}.xml") | translated({"zh": "zh_CN"}.get(tag.locale, tag.locale))
+    found = wanted(others - {*own})
+    if len(found) >= FEWEST_LINES:
+        return found, None
+    return wanted(own[1::2]), own[::2]
+
+
+def icu_size(setup, tag, text):
+    """The mean bytes of ICU's keys by the collation of a tag, without their last byte 00."""
+    keys = subprocess.run([setup.icu, tag, "own", "non-ignorable"], input=text, stdout=subprocess.PIPE, check=True).stdout.split()[2:]
+    return sum(len(it) // 2 - 1 for it in keys) / len(keys)
+
+
+def measured(setup, script):
+    """A script, how many lines there are, the mean bytes of ICU's keys by the root and by the language, and of compact keys. Whether the keys come back is the last."""
+    tag = read_tag(CLDR, LANGUAGES[script])
+    lines, chosen_by = lines_to_measure(setup, script, tag)
+    text = "".join(f"{it}\n" for it in table_books.evenly(lines, MOST_LINES)).encode()
+    table, book = f"{setup.folder}/{script}.table", f"{setup.folder}/{script}.book"
+    with open(table, "w", encoding="utf-8") as file:
+        file.write(table_of(tag, setup.table, setup.data, CLDR))
+    table_books.write_book(setup, tag, table, setup.data, book, chosen_by)
+    run = lambda *words, given: subprocess.run([setup.uca, *words], input=given, stdout=subprocess.PIPE, check=True).stdout
+    settings = "--weighting", "non-ignorable"
+    compact = run("keys", *settings, "--compact", book, table, setup.data, given=text)
+    keys = run("keys", *settings, table, setup.data, given=text)
+    sizes = [icu_size(setup, it, text) for it in ("und", tag.text)]
+    total = sum(map(len, compact.split())) / 2
+    return script, compact.count(b"\n"), *sizes, total / text.count(b"\n"), run("expand", *settings, book, given=compact) == keys.replace(b" ", b"")
+
+
+def set_up(program, folder):
+    """What the scripts are measured with."""
+    table, data = f"{folder}/unicode_table", f"{folder}/unicode_data"
+    for path, what in ((table, "table"), (data, "data")):
+        with open(path, "wb") as file:
+            subprocess.run([sys.executable, f"{TOP}/tools/unicode_files.py", what], stdout=file, check=True)
+    icu = f"{folder}/icu_lines"
+    subprocess.run(["gcc", "-std=gnu11", "-O2", "-o", icu, f"{TOP}/tests/by_hand/icu_lines.c", "-licui18n", "-licuuc"], check=True)
+    return Setup(uca=program, cldr=CLDR, unicode=FOLDER, table=table, data=data, icu=icu, folder=folder, scripts=scripts())
+
+
+def try_scripts(program, folder, names):
+    """Compact keys by the books of languages, beside ICU's keys."""
+    if lacking := packages.missing(OF_SCRIPTS):
+        not_run(f"compact keys by the books of languages, for lack of Debian's {', '.join(lacking)}")
+        return
+    setup = set_up(program, folder)
+    with ProcessPoolExecutor() as pool:
+        for script, count, root, own, ours, come_back in pool.map(measured, itertools.repeat(setup), names):
+            said = f"{count} lines, {ours:.1f} bytes by the book of {LANGUAGES[script]}, ICU {root:.1f} by the root and {own:.1f} by its own collation"
+            see(f"{script}: compact keys are no longer than ICU's", ours <= root, said)
+            see(f"{script}: the keys come back", come_back and count >= FEWEST_LINES)
+
+
 def main():
     parser = argparse.ArgumentParser(description=__doc__.split("\n")[0])
     parser.add_argument("--uca", default=f"{TOP}/crates/uca/out/uca", help="the program, crates/uca/out/uca unless named")
-    program = parser.parse_args().uca
-    try_cells()
-    try_books()
-    try_inputs()
-    try_errors()
-    try_time()
+    parser.add_argument("names", nargs="*", metavar="SCRIPT", help=f"scripts: {', '.join(LANGUAGES)}")
+    given = parser.parse_args()
+    program = os.path.abspath(given.uca)
+    if unknown := {*given.names} - {*LANGUAGES}:
+        parser.error(f"no script here is named {', '.join(sorted(unknown))}: they are {', '.join(LANGUAGES)}")
     with tempfile.TemporaryDirectory(prefix="uca-books-") as folder:
-        try_general(program, folder)
-        try_program(program, folder)
+        if not given.names:
+            try_cells()
+            try_books()
+            try_inputs()
+            try_errors()
+            try_time()
+            try_general(program, folder)
+            try_program(program, folder)
+        try_scripts(program, folder, given.names or LANGUAGES)
     print(f"{COUNTS['passed']} passed, {COUNTS['failed']} failed" + (f", {COUNTS['not run']} not run" if COUNTS["not run"] else ""))
     return 1 if COUNTS["failed"] else 0
 

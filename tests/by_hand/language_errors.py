@@ -36,7 +36,7 @@ TAGS = [
     ("sr-Latx", BOTH, "`Latx` is no script of CLDR"),
     ("de-XX", BOTH, "`XX` is no region of CLDR"),
     ("xx", BOTH, "`xx` is no language of CLDR"),
-    ("eu", BOTH, "has no collation of this name"),
+    ("eu-u-co-trad", BOTH, "has no such collation"),
     ("", BOTH, "is no language tag"),
     ("fr-CA", TABLE, "fr-CA-u-kb-false is the order without this"),
 ]
@@ -93,7 +93,7 @@ FILES = [
 
 # Whole files of collations, and what the error says. The locale is `sv`.
 FOLDERS = [
-    ({"da": "&a < x"}, "sv: CLDR has no collation of this name"),
+    ({"sv": "[import da]"}, "da-u-co-standard: CLDR has no collation of this name"),
     ({"sv": "[import da]", "da": "[import nb]", "nb": "&a < x [import sv]"}, "themselves: sv > da-u-co-standard > nb-u-co-standard > sv-u-co-standard > da-u-co-standard"),
     ({"sv": "[import a0]", **{f"a{n}": f"[import a{n + 1}][import a{n + 1}]" for n in range(30)}, "a30": "&a < x"}, "more than 100 imports"),
     ({"sv": "[import a0]", **{f"a{n}": f"[import a{n + 1}]" for n in range(200)}}, "more than 100 imports"),
@@ -114,7 +114,7 @@ def as_file(text):
 def cldr_folder(folder, files):
     """A folder of CLDR that has these collations and that of the root."""
     os.makedirs(f"{folder}/collation")
-    for part in ("validity", "main", "dtd", "collation/root.xml"):
+    for part in ("validity", "supplemental", "main", "dtd", "collation/root.xml"):
         os.symlink(f"{CLDR}/{part}", f"{folder}/{part}")
     for name, text in files.items():
         with open(f"{folder}/collation/{name}.xml", "w", encoding="utf-8", errors="surrogateescape") as file:
@@ -134,7 +134,7 @@ def rejects(setup, see, words, wanted):
 def missing_files(setup, see, folder):
     """Files and folders of CLDR that are missing, or of another kind."""
     words = ["--cldr", folder, "table", "sv", setup.table, setup.data]
-    for name, wanted in (("collation/root.xml", "there is no file collation/root.xml"), ("validity", "validity/language.xml: [Errno 2]")):
+    for name, wanted in (("collation/root.xml", "there is no file collation/root.xml"), ("validity", "validity/language.xml: there is no such file")):
         cldr_folder(folder, {"sv": "&a < x"})
         os.remove(f"{folder}/{name}")
         rejects(setup, see, words, wanted)
@@ -143,7 +143,7 @@ def missing_files(setup, see, folder):
     os.mkdir(f"{folder}/collation/sv.xml")
     rejects(setup, see, words, "sv.xml: [Errno 21]")
     shutil.rmtree(folder)
-    rejects(setup, see, words, "validity/language.xml: [Errno 2]")
+    rejects(setup, see, words, "supplementalMetadata.xml: there is no such file")
     rejects(setup, see, ["table", "sv", "/none", setup.data], "the table that is given")
     rejects(setup, see, ["table", "sv", setup.table, "/none"], "the table that is given")
 

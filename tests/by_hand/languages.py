@@ -36,7 +36,8 @@ import language_errors
 import language_lines
 import languages
 import packages
-from cldr_rules import KINDS, CldrError, Relation, collations, escaped, imported_name, items_of, kind_and_rules, nfd, rules_text
+from cldr_rules import CldrError, Relation, escaped, imported_name, items_of, nfd, rules_text
+from language_names import collation_names
 from language_tables import Made
 from language_tags import read_tag
 from profile_rules import LEFT_OUT, Table
@@ -46,9 +47,9 @@ NEEDS, WANTS = ["unicode-data", "unicode-cldr-core"], ["gcc", "libicu-dev"]
 PAGE = f"{TOP}/docs/LANGUAGES.md"
 BEGIN, END = "<!-- made by tests/by_hand/languages.py -->", "<!-- end -->"
 QUICK = ["da", "de-u-co-phonebk", "el", "ja", "ko", "my", "sv", "und-u-co-eor", "zh", "el-u-kf-upper", "en-u-kr-grek-digit"]
-# Tags with settings.
+# Tags with settings, and of other languages and regions.
 SETTINGS = ["da-u-kf-false", "el-u-kf-upper", "en-u-ka-shifted", "en-u-kf-lower", "en-u-kr-grek-digit", "ja-u-kr-latn-kana", "ru-u-kf-upper"]
-SETTINGS += ["sv-u-kf-upper", "und-u-kr-zzzz-latn-symbol", "vi-u-kf-lower", "zh-u-kr-latn-hani"]
+SETTINGS += ["ja-u-kf-lower", "ja-u-kf-upper", "sv-u-kf-upper", "und-u-kr-zzzz-latn-symbol", "vi-u-kf-lower", "yue", "zh-Hant-TW", "zh-u-kr-latn-hani"]
 # Numbers by their values.
 DIGITS, NUMBERS = "0123456789", [f"{it}a" for it in (0, 1, 2, 9, 10, 19, 99, 100, 12_345_678, 123_456_789, 10**20, 10**20 + 1)]
 # An order with keys that begin with a digit.
@@ -117,16 +118,8 @@ class Tried(NamedTuple):
 
 
 def all_names():
-    """The tags of all collations of CLDR, and some with settings. A table cannot count accents from the end, so such a collation has `kb-false`."""
-    found, short = [], {kind: key for key, kind in KINDS.items()}
-    for file in sorted(os.listdir(os.path.join(LOCALES, "collation"))):
-        locale = file.removesuffix(".xml")
-        kinds = {it for it in collations(LOCALES, locale)[0] if not it.startswith("private-")}
-        base = "und" if locale == "root" else locale.replace("_", "-")
-        default, rules = kind_and_rules(LOCALES, locale)
-        found.append(base + ("-u-kb-false" if "[backwards 2]" in rules else ""))
-        found += [f"{base}-u-co-{short.get(kind, kind)}" for kind in sorted(kinds - {default})]
-    return found + SETTINGS
+    """The tags of all collations of CLDR, and some others."""
+    return [tag for _, tag in collation_names(LOCALES)] + SETTINGS
 
 
 def language_of(tag):

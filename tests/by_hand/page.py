@@ -5,7 +5,7 @@
     tests/by_hand/page.py --browser firefox    in this one alone
     tests/by_hand/page.py --pictures FOLDER    keeps pictures of the page there
 
-`page/make.py modules`, `page/make.py files` and `page/make.py languages sv` make what the page needs before. The commands of page_cases.py run over real lists and over
+`page/make.py modules`, `page/make.py files` and `page/make.py languages sv zh` make what the page needs before. The commands of page_cases.py run over real lists and over
 broken files: status, output, errors and the file that is made are compared with those of crates/uca/out/uca. Then a browser types rules, makes an error, drops a file and
 follows a link. It goes through the page by the keyboard, and looks at narrow windows and at dark colours. It needs Debian's chromium, chromium-driver and firefox-esr. The
 last line is `N passed, M failed`.
@@ -335,18 +335,28 @@ def see_odd_words(browser, counts):
 
 
 def choose_language(browser, counts):
-    """Loads the rules of a language, and then its table."""
+    """Takes the rules of a language, and then the table of one that has no rules. Languages have plain names, each its own."""
+    names = browser.evaluate("[...document.querySelectorAll('#language option')].map((it) => it.textContent)")
+    counts.see("Swedish" in names and len({*names}) == len(names) and not any(re.search(r"\[|-u-", it) for it in names), f"the names of languages: {names}")
     write(browser, "words", "ö\nz\n")
     write(browser, "language", "sv", "change")
-    click(browser, "load-rules")
+    counts.see("into the field of rules" in text(browser, "language-help"), f"what is said of Swedish: {text(browser, 'language-help')}")
+    click(browser, "take-order")
     browser.wait("document.getElementById('rules').value.includes('ö')")
     settled(browser)
     counts.see(text(browser, "verdict").startswith("accepted"), f"the rules of Swedish: {text(browser, 'verdict')}")
     counts.same((order(browser, "before"), order(browser, "after")), (["ö", "z"], ["z", "ö"]), "the orders by the rules of Swedish")
     counts.same(browser.evaluate("document.getElementById('weighting').value"), "non-ignorable", "the weighting of a language")
-    click(browser, "use-table")
-    settled(browser)
+    write(browser, "table", "made/languages/sv.txt", "change")
     counts.same(order(browser, "before"), ["z", "ö"], "the order by the table of Swedish")
+    write(browser, "words", "Łapka\nLutek\n张\n李\nA\n")
+    write(browser, "language", "zh", "change")
+    counts.see("takes the place of Unicode's" in text(browser, "language-help"), f"what is said of Chinese: {text(browser, 'language-help')}")
+    click(browser, "take-order")
+    settled(browser)
+    # by pinyin, li comes before zhang; by Unicode's table the code points decide, U+5F20 before U+674E
+    counts.same(order(browser, "before"), ["A", "Łapka", "Lutek", "李", "张"], "the order of Chinese")
+    counts.same(browser.evaluate("document.getElementById('rules').value"), "", "the rules beside the table of Chinese")
     write(browser, "table", "made/table.txt", "change")
     write(browser, "weighting", "")
 
@@ -407,7 +417,7 @@ FOCUSED = """(() => {
   const name = it.id || it.closest("ol")?.id || it.dataset.save || it.className || it.tagName;
   return [name, it === document.body || getComputedStyle(shown).outlineStyle !== "none"];
 })()"""
-BY_TAB = ["skip", "rules", "rules-file", "language", "table", "weighting", "identical", "numeric", "words", "words-file", "before", "after", "copy", "rules.txt", "table-link"]
+BY_TAB = ["skip", "words", "words-file", "language", "rules", "rules-file", "table", "weighting", "identical", "numeric", "before", "after", "copy", "rules.txt", "table-link"]
 
 
 def use_keyboard(browser, address, counts):
@@ -435,7 +445,10 @@ def use_keyboard(browser, address, counts):
 
 
 def see_layout(browser, counts):
-    """Looks at a narrow window, and whether each field has a name."""
+    """Looks at narrow windows, at what is seen of a window of 1280 x 1000, and whether each field has a name."""
+    browser.resize(1280, 1000)
+    ends = browser.evaluate("['words', 'take-order', 'rules'].map((id) => document.getElementById(id).getBoundingClientRect().bottom + scrollY)")
+    counts.see(ends == sorted(ends) and ends[-1] < 1000, f"where words, language and rules end in a window of 1000 lines: {ends}")
     for width in (320, 360, 800):
         browser.resize(width, 740)
         wide = browser.evaluate("document.documentElement.scrollWidth - innerWidth")
@@ -502,6 +515,13 @@ def as_a_person(browser, server, program, counts):
     see_layout(browser, counts)
     see_other_module(browser, address, counts)
     see_requests(server, since, counts)
+    open_as_file(browser, counts)
+
+
+def open_as_file(browser, counts):
+    """Opened as a file, the page says what to do."""
+    browser.visit(f"file://{TOP}/page/index.html")
+    counts.see("needs a server" in text(browser, "summary"), f"the page as a file: {text(browser, 'summary')}")
 
 
 def pictures(browser, name, address, folder):
@@ -565,7 +585,7 @@ if __name__ == "__main__":
     parser.add_argument("--browser", action="append", choices=["chromium", "firefox"], help="this browser alone")
     parser.add_argument("--pictures", metavar="FOLDER", help="keeps pictures there")
     given = parser.parse_args()
-    lacking = [it for it in ("uca.wasm", "uca32.wasm", "table.txt", "data.txt", "languages/sv.rules", "languages/sv.txt") if not os.path.exists(f"{MADE}/{it}")]
+    lacking = [it for it in ("uca.wasm", "uca32.wasm", "table.txt", "data.txt", "languages/sv.rules", "languages/sv.txt", "languages/zh.txt") if not os.path.exists(f"{MADE}/{it}")]
     if lacking or not os.access(given.uca, os.X_OK):
         print(f"page/made lacks {', '.join(lacking) or 'nothing'}, or there is no program: tools/build.py and page/make.py make them\n0 passed, 1 failed")
         sys.exit(1)

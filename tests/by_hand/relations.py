@@ -5,14 +5,17 @@ one weight at each level comes between. A relation is not tried in four cases. I
 target comes again. Both are one text in Normalization Form D.
 """
 import bisect
+import re
+import unicodedata
 from typing import NamedTuple
 
 from cldr_rules import Relation, Reset
 from profile_rules import holds as occurs
 from language_tables import FIRST
-from script_order import CASES, case_of_text
+from script_order import CASES
 
 LEVELS = 3
+LARGE_KANA = re.compile("(HALFWIDTH )?(HIRAGANA|KATAKANA) LETTER (?!SMALL)")  # counts as a capital (UTS #35 Part 5, section 3.14)
 
 
 class Text(NamedTuple):
@@ -36,6 +39,13 @@ class Counts(NamedTuple):
     hold: int
     not_tried: int
     failed: list[str]
+
+
+def case_of_text(text):
+    """0 for capitals alone, 1 where some letters are capitals, 2 for all others. Marks do not count."""
+    letters = [it for it in text if it.isalpha()]
+    capitals = [it.isupper() or bool(LARGE_KANA.match(unicodedata.name(it, ""))) for it in letters]
+    return 2 if not any(capitals) else 0 if all(capitals) else 1
 
 
 def said_by(items):
