@@ -1752,7 +1752,7 @@ def keys_of_language(work, program, environment, made_by):
             program_of_keys = (f"import sys, uca\ncollator = uca.Collator.of_language({tag!r}, weighting={weighting!r})\n"
                                "for it in sys.stdin.buffer.read().removesuffix(b'\\n').split(b'\\n'): print(collator.key(it).hex().upper())")
             wanted = run(words, input=lines)
-            same(run([sys.executable, "-c", program_of_keys], input=lines, env=environment), wanted, f"keys of {tag}, {weighting}, in Python")
+            same(run([sys.executable, "-c", program_of_keys], input=lines, env=environment), wanted.replace(b" ", b""), f"keys of {tag}, {weighting}, in Python")
             same(run([f"{C}/out/keys", *paths, *([weighting] if weighting else [])], input=lines), wanted, f"keys of {tag}, {weighting}, in C")
 
 
