@@ -60,7 +60,7 @@ uninstall() {
     done < "$to/$list"
     rm "$to/$list"
     # an administrator's tables are in $own too
-    for folder in "$documents" "$own/tools" "$own/books"; do
+    for folder in "$documents" "$own/tools" "$own/examples"; do
         [ ! -d "$to/$folder" ] || find "$to/$folder" -depth -type d -empty -delete
     done
     [ ! -d "$to/$own" ] || rmdir --ignore-fail-on-non-empty "$to/$own"
@@ -141,6 +141,7 @@ done
 put_own 755 tools/uca_files.py tools/unicode_files.py tools/languages.py
 put_own 644 tools/cldr_rules.py tools/profile_rules.py tools/language_tags.py tools/language_tables.py
 put_own 644 tools/weight_lists.py tools/script_order.py tools/han_order.py tools/kept_changes.py tools/index_labels.py tools/language_names.py
+put_own 644 tools/table_books.py examples/books/choose_book.py examples/books/general.book
 put_link "../$own/tools/uca_files.py" bin/uca-files
 # the pages name these scripts by tools/
 put_link ../../uca/tools "$documents/tools"

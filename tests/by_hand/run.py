@@ -9,7 +9,7 @@ packages without which a part of a test is not run. What is not run never counts
 them, and how many were not run if there are any: tests, and parts of tests.
 """
 import argparse
-import importlib
+import importlib.util
 import os
 import re
 import subprocess
@@ -42,6 +42,14 @@ TESTS = {
 }
 
 
+def module_of(name):
+    """The module of a test. It may have the name of a script of tools/ that it imports."""
+    spec = importlib.util.spec_from_file_location(f"by_hand_{name}", f"{HERE}/{name}.py")
+    sys.modules[spec.name] = found = importlib.util.module_from_spec(spec)
+    spec.loader.exec_module(found)
+    return found
+
+
 def counts_of(name, program):
     """Runs a test, and returns how many of its checks passed, failed, and were not run. Its last line says so; without such a line it failed."""
     words = [sys.executable, f"{HERE}/{name}.py", "--uca", program, *TESTS[name]]
@@ -61,7 +69,7 @@ def counts_of(name, program):
 def main(names, program):
     sums = [0, 0, 0]
     for name in names or TESTS:
-        test = importlib.import_module(name)
+        test = module_of(name)
         lacking, wanted = packages.missing(test.NEEDS), packages.missing(test.WANTS)
         print(f"== {name}" + (f": not run, for lack of Debian's {', '.join(lacking)}" if lacking else ""), flush=True)
         if wanted and not lacking:
