@@ -354,8 +354,8 @@ def choose_language(browser, counts):
     counts.see("takes the place of Unicode's" in text(browser, "language-help"), f"what is said of Chinese: {text(browser, 'language-help')}")
     click(browser, "take-order")
     settled(browser)
-    # by pinyin, li comes before zhang; by Unicode's table the code points decide, U+5F20 before U+674E
-    counts.same(order(browser, "before"), ["A", "Łapka", "Lutek", "李", "张"], "the order of Chinese")
+    # CLDR's rules have [reorder Hani], and by pinyin li comes before zhang; by Unicode's table Han come last, U+5F20 before U+674E
+    counts.same(order(browser, "before"), ["李", "张", "A", "Łapka", "Lutek"], "the order of Chinese")
     counts.same(browser.evaluate("document.getElementById('rules').value"), "", "the rules beside the table of Chinese")
     write(browser, "table", "made/table.txt", "change")
     write(browser, "weighting", "")
