@@ -285,7 +285,7 @@ def measured(binary, folder, run):
         child = subprocess.Popen([binary, *words], stdin=given, stdout=out, stderr=subprocess.PIPE, cwd=folder.path)
         watcher = threading.Thread(target=figures.peak_of, args=(child.pid, done, peak))
         watcher.start()
-        said = child.stderr.read().decode("utf-8", "replace").strip()
+        said = child.stderr.read().decode("utf-8", "replace").partition("\nhelp: ")[0].strip()
         _, status, used = os.wait4(child.pid, 0)
         seconds = time.perf_counter() - start
         done.set()

@@ -68,7 +68,7 @@ def fill_program(root, _):
     documents = f"{root}/usr/share/doc/uca"
     os.remove(f"{documents}/installed_files")
     made.run("strip", "--strip-unneeded", f"{root}/usr/bin/uca")
-    move(f"{root}/usr/share/zsh/site-functions/_uca", f"{root}/usr/share/zsh/vendor-completions/_uca")
+    move(f"{root}/usr/share/zsh/site-functions", f"{root}/usr/share/zsh/vendor-completions")
     for name in made.LICENSES:
         os.remove(f"{documents}/{name}")
     for name in ("LICENSE", "NOTICE"):

@@ -21,8 +21,9 @@ class Done {
     return decoder.decode(this.out);
   }
 
+  // The line of an error, without the line of help after it: the page has sentences of its own.
   message() {
-    return decoder.decode(this.err);
+    return decoder.decode(this.err).replace(/\nhelp: [^\n]*\n$/, "\n");
   }
 }
 

@@ -5,6 +5,8 @@ import tempfile
 import unittest
 from typing import NamedTuple
 
+from helps import said
+
 TOP = os.path.dirname(os.path.dirname(os.path.realpath(__file__)))
 
 # The program under test: that of the gate, unless the environment names another.
@@ -97,9 +99,9 @@ class ProgramTest(unittest.TestCase):
         return Ended(ran.returncode, ran.stdout, ran.stderr)
 
     def expect(self, arguments, given=b"", status=0, out=b"", err=b""):
-        """A run ends so. The arguments are a list, or a line that is cut at its blanks."""
+        """A run ends so. The arguments are a list, or a line that is cut at its blanks. What is said after an error line is added to it."""
         words = arguments.split() if isinstance(arguments, str) else arguments
-        wanted = Ended(status, as_bytes(out), as_bytes(err))
+        wanted = Ended(status, as_bytes(out), said(err, words))
         with self.subTest(arguments=words, given=given[:80]):
             found = self.run_uca(*words, given=given)
             if len(found.out) + len(wanted.out) < LONG_OUTPUT:

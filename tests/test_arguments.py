@@ -3,6 +3,7 @@ import os
 import random
 import re
 
+from helps import said
 from program import DATA, TABLE, ProgramTest
 
 HELP = os.path.join(os.path.dirname(os.path.realpath(__file__)), "help")
@@ -189,9 +190,9 @@ class Lines(ProgramTest):
         ended = self.run_uca(*line, given="a b\n")
         with self.subTest(line=line):
             if model.is_taken and not model.is_weighting_known:
-                self.assertEqual(ended, (2, b"", b"weighting: unknown\n"))
+                self.assertEqual(ended, (2, b"", said("weighting: unknown\n")))
             elif model.is_taken and not model.are_fingerprints_known:
-                self.assertEqual(ended, (2, b"", b"fingerprint: unknown\n"))
+                self.assertEqual(ended, (2, b"", said("fingerprint: unknown\n")))
             elif model.is_taken:
                 self.assertFalse(ended.err.startswith(b"error: "), ended)
                 self.assertEqual(ended, self.run_uca(*model.plainly(), given="a b\n"))
@@ -222,6 +223,12 @@ class Lines(ProgramTest):
             command = numbers.choice(COMMANDS)
             count = Model.TAKES[command][0] + numbers.randrange(3)
             self.judge([command, *(numbers.choice(PUT_IN if numbers.randrange(4) == 0 else texts) for _ in range(count))])
+
+    def test_names_in_help(self):
+        """A name is printed as it is. An error about a file whose name has an LF has no help."""
+        for name in "\u00e9 '\"$(x)\t", "x" * 5000, "a\nb":
+            self.expect(["check", name, "d"], status=3, err="table: Open\n")
+            self.expect(["tailor", "t", "d", name, name], status=2, err="certificate: SameAs rules\n")
 
     def test_names_that_look_like_options(self):
         """After `--` all are names or texts."""

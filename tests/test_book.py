@@ -1,4 +1,5 @@
 """`uca book`: the image of a book under the map of level 1 of a certificate."""
+from helps import said
 from program import ProgramTest
 
 # What a certificate has of levels 2 and 3 at least.
@@ -92,4 +93,4 @@ class Images(ProgramTest):
         self.expect("book c .", status=3, err="book line 1: Read\n")
         with open("/dev/full", "wb") as full:
             ended = self.run_uca("book", "c", "k", stdout=full)
-        self.assertEqual((ended.status, ended.err), (3, b"output: Write\n"))
+        self.assertEqual((ended.status, ended.err), (3, said("output: Write\n")))

@@ -1,6 +1,7 @@
 """`uca changes`, `uca audit-changes`, `uca affected --changes` and `uca rekey`: from one edition of a table to another."""
 import os
 
+from helps import said
 from program import ACUTE, DATA, DOT_BELOW, GRAVE, TABLE, TOP, ProgramTest
 from test_audits import cases_of, edited, unescaped
 from test_tailor import ILL_FORMED, MOVED, NARROW, UNMOVED, WIDENED
@@ -215,7 +216,7 @@ class Changes(ProgramTest):
         self.write(t=TABLE, d=DATA, n=TABLE, e=DATA)
         with open("/dev/full", "wb") as full:
             ended = self.run_uca("changes", "t", "d", "n", "e", "c", stdout=full)
-        self.assertEqual((ended.status, ended.err), (3, b"output: Write\n"))
+        self.assertEqual((ended.status, ended.err), (3, said("output: Write\n")))
         self.assertEqual(self.read("c").decode(), UNMOVED)
         self.expect("changes t d n e /no/such/folder/c", status=3, err="certificate: Write\n")
 
@@ -394,7 +395,7 @@ class Rekey(ProgramTest):
     def test_streams(self):
         with open("/dev/full", "wb") as full:
             ended = self.run_uca("rekey", "c", given="1C60 0000 0020 0000 0002 0000 FFFF\n", stdout=full)
-        self.assertEqual((ended.status, ended.err), (3, b"output: Write\n"))
+        self.assertEqual((ended.status, ended.err), (3, said("output: Write\n")))
 
 
 class Editions(ProgramTest):

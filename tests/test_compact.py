@@ -2,6 +2,7 @@
 once."""
 import hashlib
 
+from helps import said
 from program import DATA, TABLE, TOP, ProgramTest
 
 # Cells of one weight: 1C47, 1C60 and, at level 4, 0209. So level 1 has the cells 0001 to 1C46, 1C47, 1C48 to 1C5F, 1C60,
@@ -206,7 +207,7 @@ class Keys(ProgramTest):
         for command, line in ("compact", "0000 0000 0000\n"), ("expand", "03\n"):
             with open("/dev/full", "wb") as full:
                 ended = self.run_uca(command, "k", given=line, stdout=full)
-            self.assertEqual((ended.status, ended.err), (3, b"output: Write\n"))
+            self.assertEqual((ended.status, ended.err), (3, said("output: Write\n")))
 
     def test_more_than_a_million_lines(self):
         lines, compact = b"1C60000000200000000200000209\n" * 1_000_001, b"0C02010100\n" * 1_000_001

@@ -2,6 +2,7 @@
 the line and the error of each other one."""
 import random
 
+from helps import said
 from program import DATA, TABLE, ProgramTest
 from readers import read_certificate, read_data, read_table
 
@@ -57,7 +58,7 @@ def damaged(file, count, seed):
         yield bytes(numbers.choice(PUT_IN) for _ in range(numbers.randrange(40)))
 
 
-def said(role, error):
+def line_of(role, error):
     """The line of an error."""
     return f"{role} line {error[0]}: {error[1]}\n".encode() if error else b""
 
@@ -67,6 +68,7 @@ class DamagedFiles(ProgramTest):
         """The error of a run over a file is this one. Returns what the run printed."""
         self.write(**{name: file})
         ended = self.run_uca(*arguments.split())
+        wanted = said(wanted, arguments.split())
         if ended.err != wanted or wanted and (ended.status, ended.out) != (1, b""):
             self.fail(f"{file!r}: {ended}, and not {wanted}")
         return ended
@@ -77,10 +79,10 @@ class DamagedFiles(ProgramTest):
         accepted = 0
         for file in damaged(TABLE_FILE, 300, 1):
             error, text = read_table(file)
-            self.judge("t", file, "keys t d", said("table", error))
+            self.judge("t", file, "keys t d", line_of("table", error))
             if error is None:
                 ended = self.run_uca("tailor", "t", "d", "r", "c")
-                self.assertIn(ended.err, (b"", b"tailor: BaseIllFormed\n"))
+                self.assertIn(ended.err, (b"", said("tailor: BaseIllFormed\n")))
                 if not ended.err:
                     accepted += 1
                     self.assertEqual(ended.out, text)
@@ -90,7 +92,7 @@ class DamagedFiles(ProgramTest):
         self.write(t=TABLE)
         errors = [read_data(file) for file in damaged(DATA_FILE, 300, 2)]
         for file, error in zip(damaged(DATA_FILE, 300, 2), errors):
-            self.judge("d", file, "keys t d", said("data", error))
+            self.judge("d", file, "keys t d", line_of("data", error))
         self.assertGreater(errors.count(None), 100)
 
     def test_certificates(self):
@@ -100,7 +102,7 @@ class DamagedFiles(ProgramTest):
         for file in damaged(CERTIFICATE, 300, 3):
             error = read_certificate(file)
             accepted += error is None
-            self.judge("c", file, "audit t d r n c", said("certificate", error))
+            self.judge("c", file, "audit t d r n c", line_of("certificate", error))
         self.assertGreater(accepted, 10)
 
     def test_as_many_runs_as_weights(self):

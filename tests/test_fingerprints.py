@@ -1,6 +1,7 @@
 """`uca fingerprint`: the SHA-256 of a text that names what keys are made by."""
 import hashlib
 
+from helps import said
 from program import DATA, TABLE, TOP, ProgramTest
 
 # What `sha256sum` printed of the text for examples/table.txt and examples/data.txt, after it had printed the sum of each.
@@ -115,7 +116,7 @@ class Fingerprints(ProgramTest):
         self.write(t=TABLE, d=DATA)
         with open("/dev/full", "wb") as full:
             ended = self.run_uca("fingerprint", "t", "d", stdout=full)
-        self.assertEqual((ended.status, ended.err), (3, b"output: Write\n"))
+        self.assertEqual((ended.status, ended.err), (3, said("output: Write\n")))
 
 
 class CompactFingerprints(ProgramTest):
@@ -166,4 +167,4 @@ class CompactFingerprints(ProgramTest):
     def test_an_output_that_fails(self):
         with open("/dev/full", "wb") as full:
             ended = self.run_uca("fingerprint", "--compact", "b", "t", "d", stdout=full)
-        self.assertEqual((ended.status, ended.err), (3, b"output: Write\n"))
+        self.assertEqual((ended.status, ended.err), (3, said("output: Write\n")))

@@ -1,6 +1,7 @@
 """The header of key lines: `uca keys --header` writes it. `rekey`, `compact` and `expand` test it, and write another one."""
 import hashlib
 
+from helps import said
 from program import DATA, TABLE, ProgramTest
 
 MAPS = "1 0209 0209 0001\n1 1C47 1C47 0001\n1 1C60 1C61 0001\n2 0020 0020 0001\n2 0024 0024 0002\n2 002C 002C 0001\n3 0002 0002 0001\n3 0008 0008 0001\n"
@@ -61,7 +62,7 @@ class Keys(ProgramTest):
     def test_a_full_device(self):
         with open("/dev/full", "wb") as full:
             ended = self.run_uca("keys", "--header", "t", "d", given="b\n", stdout=full)
-            self.assertEqual((ended.status, ended.err), (3, b"output: Write\n"))
+            self.assertEqual((ended.status, ended.err), (3, said("output: Write\n")))
 
     def test_order_of_bytes(self):
         """The header stays first where lines are sorted by their bytes. The key of the empty line begins with zeros."""
@@ -125,7 +126,7 @@ class Rekey(ProgramTest):
         self.expect(f"{self.ask} missing", header(), status=3, err="certificate: Open\n")
         with open("/dev/full", "wb") as full:
             ended = self.run_uca(*self.ask.split(), "c", given=header() + KEY + "\n", stdout=full)
-            self.assertEqual((ended.status, ended.err), (3, b"output: Write\n"))
+            self.assertEqual((ended.status, ended.err), (3, said("output: Write\n")))
 
     def test_fingerprints(self):
         """The arguments are judged before a file is opened."""
@@ -222,7 +223,7 @@ class Compact(ProgramTest):
         self.expect(f"compact --from {OTHER} x", header(), status=1, err="book line 1: Order\n")
         with open("/dev/full", "wb") as full:
             ended = self.run_uca("compact", *self.ask.split(), given=header() + KEY + "\n", stdout=full)
-            self.assertEqual((ended.status, ended.err), (3, b"output: Write\n"))
+            self.assertEqual((ended.status, ended.err), (3, said("output: Write\n")))
 
     def test_fingerprints(self):
         """The arguments are judged before a file is opened. The fingerprint of compact keys is no argument."""

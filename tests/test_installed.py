@@ -48,7 +48,8 @@ class Installed(unittest.TestCase):
         for path in scripts:
             folder, name = os.path.split(path)
             others = imported(path) - sys.stdlib_module_names - OF_PACKAGES.get(name, set())
-            lacking = sorted(it for it in others if f"{folder}/{it}.py" not in self.files)
+            places = (folder, f"{self.own}/examples/books")
+            lacking = sorted(it for it in others if not any(f"{at}/{it}.py" in self.files for at in places))
             with self.subTest(script=os.path.relpath(path, self.prefix)):
                 self.assertEqual(lacking, [])
 
@@ -61,14 +62,17 @@ class Installed(unittest.TestCase):
                 done = subprocess.run([path, "--help"], cwd="/", capture_output=True, text=True, check=False)
                 self.assertEqual((done.returncode, done.stderr), (0, ""))
                 self.assertNotEqual(done.stdout, "")
+        modules = sorted(it.removesuffix(".py") for it in os.listdir(f"{self.own}/tools"))
+        subprocess.run([sys.executable, "-B", "-c", f"import {', '.join(modules)}"], cwd=f"{self.own}/tools", check=True)
         self.assertFalse([it for it, _, _ in os.walk(self.prefix) if it.endswith("__pycache__")])
 
     def test_own_folder(self):
         """What a command needs is not in the folder of documents: Debian lets an administrator take that away. No module is there twice."""
-        modules = [os.path.basename(it) for it in self.files if it.endswith(".py") and not it.startswith(f"{self.top}/examples/")]
+        modules = [os.path.basename(it) for it in self.files if it.endswith(".py")]
         self.assertEqual(sorted(modules), sorted({*modules}))
         self.assertTrue(os.path.realpath(f"{self.prefix}/bin/uca-files").startswith(f"{self.own}/"))
-        self.assertEqual([it for it in self.files if it.startswith(f"{self.top}/tools/")], [])
+        self.assertEqual(os.path.realpath(f"{self.top}/tools"), f"{self.own}/tools")
+        self.assertEqual(os.path.realpath(f"{self.top}/examples/books/general.book"), f"{self.own}/examples/books/general.book")
 
     def test_pages(self):
         """Each relative link and each picture of a page leads to a file or a folder that is installed."""

@@ -3,6 +3,7 @@ import os
 import subprocess
 import unittest
 
+from helps import said
 from program import DATA, TABLE, UCA, Ended, ProgramTest
 
 KEY_OF_A = b"1C47 0000 0020 0000 0002 0000 FFFF\n"
@@ -16,7 +17,7 @@ class Streams(ProgramTest):
     @unittest.skipUnless(os.path.exists("/dev/full"), "there is no /dev/full")
     def test_full_output(self):
         """Help that does not go out changes neither the status nor standard error."""
-        for arguments, wanted in ("keys", (3, b"output: Write\n")), ("sort", (3, b"output: Write\n")), ("--help", (0, b"")):
+        for arguments, wanted in ("keys", (3, said("output: Write\n"))), ("sort", (3, said("output: Write\n"))), ("--help", (0, b"")):
             words = [arguments] if arguments.startswith("-") else [arguments, "t", "d"]
             with open("/dev/full", "wb") as full:
                 ended = self.run_uca(*words, given="a\n", stdout=full)
@@ -36,7 +37,7 @@ class Streams(ProgramTest):
         os.close(read)
         with os.fdopen(write, "wb") as out:
             ended = self.run_uca("keys", "t", "d", given="a\n", stdout=out)
-        self.assertEqual((ended.status, ended.err), (3, b"output: Write\n"))
+        self.assertEqual((ended.status, ended.err), (3, said("output: Write\n")))
 
     def test_input_that_cannot_be_read(self):
         """A folder as standard input."""
@@ -47,7 +48,7 @@ class Streams(ProgramTest):
                     ran = subprocess.run([UCA, command, "t", "d"], stdin=folder, cwd=self.folder, capture_output=True)
                 finally:
                     os.close(folder)
-                self.assertEqual((ran.returncode, ran.stdout, ran.stderr), (3, b"", b"input line 1: Read\n"))
+                self.assertEqual((ran.returncode, ran.stdout, ran.stderr), (3, b"", said("input line 1: Read\n")))
 
     def test_files_that_cannot_be_read(self):
         """A folder in place of a file."""
@@ -72,11 +73,11 @@ class Streams(ProgramTest):
         """No file takes the number of a closed stream. Reading and writing a closed stream fails."""
         self.write(r="&a < x", c="old")
         cases = [
-            ("keys t d", [0], Ended(3, b"", b"input line 1: Read\n")),
+            ("keys t d", [0], Ended(3, b"", said("input line 1: Read\n"))),
             ("check t d", [0], Ended(0, b"well-formed\n", b"")),
-            ("keys t d", [1], Ended(3, b"", b"output: Write\n")),
+            ("keys t d", [1], Ended(3, b"", said("output: Write\n"))),
             ("keys missing d", [2], Ended(3, b"", b"")),
-            ("tailor t d r c", [1], Ended(3, b"", b"output: Write\n")),
+            ("tailor t d r c", [1], Ended(3, b"", said("output: Write\n"))),
             ("tailor t d r c", [0, 1, 2], Ended(3, b"", b"")),
         ]
         for arguments, numbers, wanted in cases:
@@ -87,4 +88,4 @@ class Streams(ProgramTest):
 
     def test_an_argument_that_is_not_utf8(self):
         ended = self.run_uca(b"keys", b"\xff", b"d")
-        self.assertEqual((ended.status, ended.out), (4, b""))
+        self.assertEqual(ended, (4, b"", b"memory\nhelp: give the program more memory. Or is an argument not UTF-8?\n"))

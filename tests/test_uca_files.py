@@ -217,10 +217,10 @@ Traditional Chinese, by strokes: zh-Hant
                 ran.send_signal(signal.SIGKILL)
             ran.communicate()
             paths = self.paths("pl", home=f"{self.folder}/{part}")
-            if os.path.exists(os.path.dirname(paths[0])):
+            if part == 1:
+                self.assertEqual(self.call("pl", **streams).status, 0)
+            if part == 1 or os.path.exists(os.path.dirname(paths[0])):
                 self.assertEqual(self.contents(paths), whole)
-            self.assertEqual(self.call("pl", **streams).status, 0)
-            self.assertEqual(self.contents(paths), whole)
 
     def test_old_folders_of_killed_calls(self):
         """They are taken away a day later, and not before."""
@@ -235,7 +235,7 @@ Traditional Chinese, by strokes: zh-Hant
         self.made("de")
         size = len(self.contents(self.paths("de"))[0])
         for limit in (1, 50, size // 2, size - 1):
-            found = self.fails("pl", said="File too large", preexec_fn=lambda limit=limit: resource.setrlimit(resource.RLIMIT_FSIZE, (limit, limit)))
+            found = self.fails("pl", said=f"{self.home}/uca: File too large\n", preexec_fn=lambda limit=limit: resource.setrlimit(resource.RLIMIT_FSIZE, (limit, limit)))
             self.assertEqual(found.err.count(b"\n"), 1)
             self.assertFalse(os.path.exists(os.path.dirname(self.paths("pl")[0])))
             self.nothing_is_left()

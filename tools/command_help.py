@@ -1,11 +1,11 @@
-"""What the scripts of this folder share about the program's help: its parts, read from what `--help` prints."""
+"""What the scripts of this folder share about the program's help: its parts, read from what `--help` prints. Also those of uca-files."""
 import os
 import re
 import subprocess
 import sys
 
 TOP = os.path.dirname(os.path.dirname(os.path.realpath(__file__)))
-PROGRAM = f"{TOP}/crates/uca/out/uca"
+PROGRAM, FILES = f"{TOP}/crates/uca/out/uca", f"{TOP}/tools/uca_files.py"
 HEADINGS = ["Usage", "Arguments", "Commands", "Options"]
 
 
@@ -89,3 +89,11 @@ def stored_version():
 def stored_helps():
     """The helps of tests/help, which tests/run.py compares with what the program prints."""
     return helps_by(stored_text)
+
+
+def files_items():
+    """The argument of uca-files and its options but for help: each name, which a value may follow, and a text."""
+    wide = {**os.environ, "COLUMNS": "1000"}
+    said = subprocess.run([sys.executable, FILES, "--help"], stdout=subprocess.PIPE, encoding="utf-8", env=wide, check=True).stdout
+    found = [re.fullmatch(r"  (-\S.*?|[A-Z]+)  +(\S.*)", line) for line in said.split("\n")]
+    return [it.groups() for it in found if it and "--help" not in it[1]]

@@ -15,8 +15,8 @@ from command_help import TOP
 BASH = """
 source "$1"; shift
 COMP_WORDS=("$@"); COMP_CWORD=$(($# - 1)); COMP_LINE="$*"; COMP_POINT=${#COMP_LINE}
-function=$(complete -p uca | sed 's/.*-F \\([^ ]*\\) .*/\\1/')
-"$function" uca "${COMP_WORDS[COMP_CWORD]}" "${COMP_WORDS[COMP_CWORD - 1]}"
+function=$(complete -p "$1" | sed 's/.*-F \\([^ ]*\\) .*/\\1/')
+"$function" "$1" "${COMP_WORDS[COMP_CWORD]}" "${COMP_WORDS[COMP_CWORD - 1]}"
 ((${#COMPREPLY[@]})) && printf '%s\\n' "${COMPREPLY[@]}"
 """
 
@@ -52,12 +52,12 @@ def printed_by(arguments, room):
 def bash_offers(line, room):
     """bash cuts a line at blanks, and at `=`, `<` and `>` too."""
     words = re.findall(r"[^\s=<>]+|[=<>]", line) + ([""] if line.endswith(" ") else [])
-    return names(printed_by(["bash", "--norc", "-c", BASH, "bash", f"{TOP}/completions/uca.bash", *words], room))
+    return names(printed_by(["bash", "--norc", "-c", BASH, "bash", f"{TOP}/completions/{words[0]}.bash", *words], room))
 
 
 def fish_offers(line, room):
     """fish offers a value together with the option before its `=`."""
-    lines = printed_by(["fish", "--no-config", "-c", FISH, f"{TOP}/completions/uca.fish", line], room).splitlines()
+    lines = printed_by(["fish", "--no-config", "-c", FISH, f"{TOP}/completions/{line.split()[0]}.fish", line], room).splitlines()
     return names("\n".join(re.sub(r"^--\w+=", "", offer.partition("\t")[0]) for offer in lines))
 
 

@@ -1,7 +1,7 @@
 #!/usr/bin/env python3
-"""Writes the completions of uca for bash, zsh and fish, made from the program's help texts.
+"""Writes the completions of uca for bash, zsh and fish, made from the program's help texts, and those of uca-files, made from its help.
 
-    tools/completions.py            writes the three files of completions/
+    tools/completions.py            writes the six files of completions/
     tools/completions.py --check    compares them with what it would write; the last line is `N passed, M failed`
 
 The commands, their options and their arguments are those of tests/help, which tests/run.py compares with what the program prints. An argument is a file
@@ -12,8 +12,9 @@ import re
 import sys
 from typing import NamedTuple
 
+import files_completions
 import script_help
-from command_help import TOP, stored_helps
+from command_help import TOP, files_items, stored_helps
 
 # The arguments that are no files.
 TEXTS = {"LEFT", "RIGHT"}
@@ -356,10 +357,11 @@ def fish(top, commands):
 def main(words):
     if words not in ([], ["--check"]):
         script_help.stop(__doc__)
-    failed, made = 0, {"uca.bash": bash, "_uca": zsh, "uca.fish": fish}
-    parts = commands_of(*stored_helps())
-    for name, write in made.items():
-        path, text = f"{TOP}/completions/{name}", write(*parts)
+    failed, parts, items = 0, commands_of(*stored_helps()), files_items()
+    made = {"uca.bash": bash(*parts), "_uca": zsh(*parts), "uca.fish": fish(*parts)}
+    made |= {"uca-files.bash": files_completions.bash(items), "_uca-files": files_completions.zsh(items), "uca-files.fish": files_completions.fish(items)}
+    for name, text in made.items():
+        path = f"{TOP}/completions/{name}"
         if words:
             with open(path, encoding="utf-8") as file:
                 is_same = file.read() == text

@@ -81,11 +81,14 @@ put_link() {
     echo "$to/$2"
 }
 
-# Installs files of tools/ in a folder of their own: MODE FILE...
+# Installs what the commands need, in a folder of their own: FILE...
 put_own() {
-    mode=$1
-    shift
-    for file; do put "$mode" "$top/$file" "$own/$file"; done
+    for file; do put "$(mode_of "$file")" "$top/$file" "$own/$file"; done
+}
+
+# The mode of an installed file: FILE.
+mode_of() {
+    if [ -x "$top/$1" ]; then echo 755; else echo 644; fi
 }
 
 # Installs a page, without links to the pages that are not installed: PAGE.
@@ -97,11 +100,9 @@ put_page() {
 # Installs those of some files that are there, with their paths below the top of the repository: FILE...
 put_documents() {
     for file; do
-        mode=644
-        [ ! -x "$top/$file" ] || mode=755
         case $file in
             *.md) put_page "$file" ;;
-            *) [ ! -f "$top/$file" ] || put "$mode" "$top/$file" "$documents/$file" ;;
+            *) [ ! -f "$top/$file" ] || put "$(mode_of "$file")" "$top/$file" "$documents/$file" ;;
         esac
     done
 }
@@ -126,22 +127,27 @@ chmod 644 "$to/$list"
 put 755 "$program" bin/uca
 put 644 "$top/man/uca.1" share/man/man1/uca.1
 put 644 "$top/man/uca-files.1" share/man/man1/uca-files.1
-put 644 "$top/completions/uca.bash" share/bash-completion/completions/uca
-put 644 "$top/completions/_uca" share/zsh/site-functions/_uca
-put 644 "$top/completions/uca.fish" share/fish/vendor_completions.d/uca.fish
+for name in uca uca-files; do
+    put 644 "$top/completions/$name.bash" "share/bash-completion/completions/$name"
+    put 644 "$top/completions/_$name" "share/zsh/site-functions/_$name"
+    put 644 "$top/completions/$name.fish" "share/fish/vendor_completions.d/$name.fish"
+done
 put_documents LICENSE LICENSE-MIT LICENSE-APACHE NOTICE
 put_documents README.md CHANGELOG.md SECURITY.md bench/README.md bench/time.svg bench/key_bytes.svg
-# three scripts of examples/databases need tests/by_hand, which is not installed
+# three scripts of examples/databases need tests/by_hand, which is not installed; two files of examples/books are in a folder of their own
 for page in "$top"/docs/* "$top"/examples/* "$top"/examples/*/*; do
     case $(basename "$page") in
-        ARCHITECTURE.md | RECIPES.md | GATE.md | run_all.py | tries_from_keys.py | local_servers.py) ;;
+        ARCHITECTURE.md | RECIPES.md | GATE.md | run_all.py | tries_from_keys.py | local_servers.py | choose_book.py | general.book) ;;
         *) put_documents "${page#"$top"/}" ;;
     esac
 done
-put_own 755 tools/uca_files.py tools/unicode_files.py tools/languages.py
-put_own 644 tools/cldr_rules.py tools/profile_rules.py tools/language_tags.py tools/language_tables.py
-put_own 644 tools/weight_lists.py tools/script_order.py tools/han_order.py tools/kept_changes.py tools/index_labels.py tools/language_names.py
-put_own 644 tools/table_books.py examples/books/choose_book.py examples/books/general.book
+put_own tools/uca_files.py tools/unicode_files.py tools/languages.py
+put_own tools/cldr_rules.py tools/profile_rules.py tools/language_tags.py tools/language_tables.py tools/language_names.py
+put_own tools/weight_lists.py tools/script_order.py tools/han_order.py tools/kept_changes.py tools/index_labels.py
+put_own tools/table_books.py examples/books/choose_book.py examples/books/general.book
 put_link "../$own/tools/uca_files.py" bin/uca-files
-# the pages name these scripts by tools/
+# the pages name these by tools/ and examples/
 put_link ../../uca/tools "$documents/tools"
+for name in choose_book.py general.book; do
+    put_link "../../../../uca/examples/books/$name" "$documents/examples/books/$name"
+done

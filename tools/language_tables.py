@@ -90,11 +90,12 @@ class Rules:
         self.anchor, self.before = made, 0
         self.relations += 1
         row = [it.copy() for it in chain(made, draft.read(item.expansion))]
-        size = len(row)
+        first = 0
         if item.prefix:
             self.prefixes[item.prefix + item.target] = item.prefix
-            row = draft.read(item.prefix) + row
-        draft.listed[item.prefix + item.target] = item.target, size
+            before = draft.read(item.prefix)
+            row, first = before + row, len(before)
+        draft.listed[item.prefix + item.target] = item.target, slice(first, first + len(made))
         draft.put(item.prefix + item.target, row)
 
     def contract(self):

@@ -47,16 +47,23 @@ def parsed(folder, name):
         raise CldrError(f"{path}: {error}") from error
 
 
-def valid(folder, what, code):
-    """Whether CLDR lists a code of `language`, `script` or `region`. Its lists have ranges, such as `aa~c` for aa, ab and ac."""
+@functools.cache
+def listed(folder, what):
+    """The codes of `language`, `script` or `region` that CLDR lists, and its ranges of them, such as `aa~c` for aa, ab and ac."""
     root = parsed(folder, os.path.join("validity", f"{what}.xml"))
-    for it in " ".join(one.text or "" for one in root.iter("id") if one.get("idStatus") in REAL).split():
+    return " ".join(one.text or "" for one in root.iter("id") if one.get("idStatus") in REAL).split()
+
+
+def valid(folder, what, code):
+    """Whether CLDR lists a code of `language`, `script` or `region`."""
+    for it in listed(folder, what):
         low, _, end = it.partition("~")
         if len(low) == len(code) and low <= code <= low[: len(low) - len(end)] + end:
             return True
     return False
 
 
+@functools.cache
 def pairs_of(folder, name, element, key, value):
     """What elements of a file of CLDR say, as a dictionary."""
     return {it.get(key): it.get(value) for it in parsed(folder, os.path.join("supplemental", name)).iter(element)}

@@ -72,7 +72,7 @@ def program(options):
 def run(words, lines=""):
     """What a command prints, and its errors."""
     done = subprocess.run(words, input=lines.encode(), stdout=subprocess.PIPE, stderr=subprocess.PIPE, check=False)
-    return done.stdout.decode(), done.stderr.decode().strip()
+    return done.stdout.decode(), done.stderr.decode().partition("\nhelp: ")[0].strip()
 
 
 def write(path, text):

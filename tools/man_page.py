@@ -11,14 +11,12 @@ Debian's help2man makes a page of one help text; this page has a section for eac
 man/uca.1 is what this script prints for the built program.
 """
 import ast
-import os
 import re
-import subprocess
 import sys
 import textwrap
 
 import script_help
-from command_help import TOP, helps_of, printed, program_of, stored_helps, stored_version
+from command_help import FILES, TOP, files_items, helps_of, printed, program_of, stored_helps, stored_version
 
 DATE = "2026-11-25"
 
@@ -104,10 +102,6 @@ def page(whole, commands, version):
 
 # ---- The page of uca-files
 
-FILES = f"{TOP}/tools/uca_files.py"
-# How a line of help begins an argument or an option, and what it says of it.
-FILES_ITEM = re.compile(r"  (-\S.*?|[A-Z]+)  +(\S.*)")
-
 
 def block(text):
     """A paragraph; or a list of calls, which are indented, with what each does."""
@@ -123,9 +117,6 @@ def files_option(name):
 
 def files_page(version):
     title, *blocks = ast.get_docstring(ast.parse(text_of(FILES))).split("\n\n")
-    wide = {**os.environ, "COLUMNS": "1000"}
-    said = subprocess.run([sys.executable, FILES, "--help"], stdout=subprocess.PIPE, encoding="utf-8", env=wide, check=True).stdout
-    found = [FILES_ITEM.fullmatch(line) for line in said.split("\n")]
     name, number = version.split()[:2]
     made = [
         '.\\" Written by tools/man_page.py from tools/uca_files.py. Do not edit.',
@@ -133,7 +124,7 @@ def files_page(version):
         *(".SH NAME", rf"uca\-files \- {plain(title[0].lower() + title[1:].rstrip('.'))}"),
         *(".SH SYNOPSIS", r"\fBuca\-files\fR [\fIOPTION\fR..] \fITAG\fR.."),
         *(".SH DESCRIPTION", *(line for it in blocks for line in block(it))),
-        *(".SH OPTIONS", *items([it.groups() for it in found if it and "--help" not in it[1]], files_option)),
+        *(".SH OPTIONS", *items(files_items(), files_option)),
         *(".SH SEE ALSO", r"\fBuca\fR(1)"),
     ]
     return "\n".join(made) + "\n"

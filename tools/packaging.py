@@ -33,6 +33,9 @@ INSTALLED = [
     "share/bash-completion/completions/uca",
     "share/zsh/site-functions/_uca",
     "share/fish/vendor_completions.d/uca.fish",
+    "share/bash-completion/completions/uca-files",
+    "share/zsh/site-functions/_uca-files",
+    "share/fish/vendor_completions.d/uca-files.fish",
     *(f"share/doc/uca/{it}" for it in ["LICENSE", "LICENSE-MIT", "LICENSE-APACHE", "NOTICE", "README.md", "CHANGELOG.md", "SECURITY.md"]),
     *(f"share/doc/uca/{it}" for it in ["docs/FORMATS.md", "docs/MESSAGES.md", "examples/table.txt", "tools/unicode_files.py", "installed_files"]),
     "share/uca/tools/uca_files.py",
@@ -104,6 +107,17 @@ LINES = [
 LINES_BUT_FISH = [("uca sort < table.txt table.txt ", FILES)]
 
 
+# Those of uca-files. The tags are those that --names lists by a stand-in, and no language of CLDR.
+FILES_LINES = [
+    ("uca-files --la", {"--labels"}),
+    ("uca-files --u", {"--unicode", "--uca"}),
+    ("uca-files --into ru", {"rules"}),
+    ("uca-files xx-", {"xx-u-co-yyy"}),
+    ("uca-files --book xx-", {"xx-u-co-yyy"}),
+]
+NAMES_STAND_IN = "#!/bin/sh\n[ \"$1\" = --names ] && echo 'Plain, of two: xx-u-co-yyy' && echo 'Other: zz'\n"
+
+
 class Counts:
     """How many checks passed and failed. One that fails is printed."""
 
@@ -172,6 +186,8 @@ def check_shell(counts, name, offers, room, whole, helps):
         if line.endswith(" "):
             given = {it for it in given if not it.startswith("-")}
         counts.same(f"{name}: `{line}`", given, wanted)
+    for line, wanted in FILES_LINES:
+        counts.same(f"{name}: `{line}`", offers(line, room), wanted)
 
 
 def check_names(counts, whole, helps):
@@ -185,14 +201,23 @@ def check_names(counts, whole, helps):
         counts.same(f"completions/{name}: options", set(re.findall(options_in_text, text, re.M)), options)
 
 
+def put_stand_in(folder):
+    """Puts a command `uca-files` into a folder, and the folder on the path. The command needs no files of CLDR."""
+    os.environ["PATH"] = f"{folder}:{os.environ['PATH']}"
+    with open(f"{folder}/uca-files", "w", encoding="utf-8") as file:
+        file.write(NAMES_STAND_IN)
+    os.chmod(f"{folder}/uca-files", 0o755)
+
+
 def check_completions(counts, whole, helps):
     check_names(counts, whole, helps)
     ran = subprocess.run([sys.executable, f"{TOP}/tools/completions.py", "--check"], stdout=subprocess.PIPE, text=True, check=False)
     counts.check("completions/ is what tools/completions.py writes", ran.returncode == 0, ran.stdout)
-    with tempfile.TemporaryDirectory(prefix="uca-room-") as room:
+    with tempfile.TemporaryDirectory(prefix="uca-room-") as room, tempfile.TemporaryDirectory(prefix="uca-commands-") as commands:
         for name in FILES - {"rules"}:
             open(f"{room}/{name}", "w", encoding="utf-8").close()
         os.mkdir(f"{room}/rules")
+        put_stand_in(commands)
         check_shell(counts, "bash", bash_offers, room, whole, helps)
         if is_there("fish"):
             check_shell(counts, "fish", fish_offers, room, whole, helps)

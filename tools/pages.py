@@ -5,7 +5,7 @@
 
 A command is a line of a block ```console that begins with `$ `; what follows it up to the next one is its output. The blocks
 of a page run in turn in one shell. They run in a fresh folder that has a copy of examples/, and links to tools/ and crates/; a page
-of examples/ runs in that copy. The program is crates/uca/out/uca, which tools/build.py builds.
+of examples/ runs in that copy. The program is crates/uca/out/uca, which tools/build.py builds. `uca-files` keeps its files in a folder of this run.
 
 A block ```console unicode needs files of Debian's packages unicode-data and unicode-cldr-core. Without them
 it is not run, and a line says so. docs/FROM_KEYS.md needs the package sqlite3. So does docs/STORED_KEYS.md. Its blocks ```console postgresql need a server, so
@@ -58,28 +58,41 @@ def runnable(page):
     return commands_of(page, "console" if missing else "console(?: unicode)?"), len(others) if missing else 0
 
 
+def commands_folder(folder):
+    """Puts `uca-files` into a folder, and returns an environment that has it and the program on the path."""
+    os.symlink(f"{TOP}/tools/uca_files.py", f"{folder}/uca-files")
+    kept = {"XDG_DATA_HOME": f"{folder}/data", "XDG_DATA_DIRS": f"{folder}/data"}
+    return {**os.environ, **kept, "PATH": f"{TOP}/crates/uca/out:{folder}:{os.environ['PATH']}"}
+
+
+def tried(page, is_named, environment):
+    """How many commands of a page print what it shows, how many do not, and how many cannot be run here."""
+    passed = failed = 0
+    commands, missing = runnable(page)
+    if is_named and not commands and not missing:
+        failed += 1
+        print(f"{page}: it shows no command")
+    with tempfile.TemporaryDirectory(prefix="uca-page-") as room:
+        shutil.copytree(f"{TOP}/examples", f"{room}/examples")
+        for name in ("tools", "crates"):
+            os.symlink(f"{TOP}/{name}", f"{room}/{name}")
+        given = outputs_of(commands, f"{room}/examples" if page.startswith("examples/") else room, environment)
+    for (command, wanted), got in zip(commands, given + [None] * len(commands)):
+        if got == wanted:
+            passed += 1
+        else:
+            failed += 1
+            print(f"{page}: $ {command}\n-- printed:\n{got}\n-- the page shows:\n{wanted}")
+    return passed, failed, missing
+
+
 def main(pages):
     if not os.path.exists(f"{TOP}/crates/uca/out/uca"):
         sys.exit("there is no crates/uca/out/uca: run tools/build.py first")
-    passed = failed = skipped = 0
-    environment = {**os.environ, "PATH": f"{TOP}/crates/uca/out:{os.environ['PATH']}"}
-    for page in pages or PAGES:
-        commands, missing = runnable(page)
-        skipped += missing
-        if page in pages and not commands and not missing:
-            failed += 1
-            print(f"{page}: it shows no command")
-        with tempfile.TemporaryDirectory(prefix="uca-page-") as room:
-            shutil.copytree(f"{TOP}/examples", f"{room}/examples")
-            for name in ("tools", "crates"):
-                os.symlink(f"{TOP}/{name}", f"{room}/{name}")
-            given = outputs_of(commands, f"{room}/examples" if page.startswith("examples/") else room, environment)
-        for (command, wanted), got in zip(commands, given + [None] * len(commands)):
-            if got == wanted:
-                passed += 1
-            else:
-                failed += 1
-                print(f"{page}: $ {command}\n-- printed:\n{got}\n-- the page shows:\n{wanted}")
+    with tempfile.TemporaryDirectory(prefix="uca-commands-") as folder:
+        environment = commands_folder(folder)
+        found = [tried(page, page in pages, environment) for page in pages or PAGES]
+    passed, failed, skipped = map(sum, zip(*found))
     print(f"{passed} passed, {failed} failed" + (f", {skipped} not run" if skipped else ""))
     return 1 if failed else 0
 

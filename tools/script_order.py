@@ -140,18 +140,18 @@ def case_of(element: Element) -> int:
 
 
 def cases_of(draft: Draft, key: str, row: list[Element]) -> list[int]:
-    """The case of each element of a row. In a row of a rule it is that of the target's letters in the old table: the last element has that of all the rest."""
-    if key not in draft.listed:
-        return [case_of(it) for it in row]
-    target, size = draft.listed[key]
-    own = row[len(row) - size :]
-    letters = [case_of(it) for it in draft.read_old(target) if it.weights[0]]
-    count = sum(bool(it.weights[0]) for it in own)
-    if 0 < count < len(letters):
-        rest = set(letters[count - 1 :])
-        letters = [*letters[: count - 1], rest.pop() if len(rest) == 1 else 1]
-    left = iter(letters)
-    return [2] * (len(row) - size) + [next(left, 2) if it.weights[0] else 2 for it in own]
+    """The case of each element of a row. The elements of a rule's target have the cases of its letters in the old table, and the last one that of all the rest."""
+    cases = [case_of(it) for it in row]
+    if key in draft.listed:
+        target, own = draft.listed[key]
+        letters = [case_of(it) for it in draft.read_old(target) if it.weights[0]]
+        count = sum(bool(it.weights[0]) for it in row[own])
+        if 0 < count < len(letters):
+            rest = set(letters[count - 1 :])
+            letters = [*letters[: count - 1], rest.pop() if len(rest) == 1 else 1]
+        left = iter(letters)
+        cases[own] = [next(left, 2) if it.weights[0] else 2 for it in row[own]]
+    return cases
 
 
 def put_case_first(draft: Draft, first: str):

@@ -18,6 +18,7 @@ The status is 0, or 1 after an error with a sentence, or 2 for wrong arguments. 
 """
 import argparse
 import bisect
+import contextlib
 import errno
 import glob
 import itertools
@@ -132,12 +133,22 @@ def settle(paths):
         sync(path)
 
 
+@contextlib.contextmanager
 def room_in(folder):
-    """A hidden folder beside what is kept, for files that are not whole yet. Those of calls that were killed are taken away a day later."""
+    """A hidden folder beside what is kept, for all files that are not whole yet. Those of calls that were killed are taken away a day later."""
     for left in glob.glob(os.path.join(glob.escape(folder), f"{HIDDEN}*")):
-        if os.path.getmtime(left) < time.time() - LEFT:
-            shutil.rmtree(left, ignore_errors=True)
-    return tempfile.TemporaryDirectory(prefix=HIDDEN, dir=folder)
+        with contextlib.suppress(OSError):  # such as that another call has taken its own away
+            if os.path.getmtime(left) < time.time() - LEFT:
+                shutil.rmtree(left)
+    try:
+        with tempfile.TemporaryDirectory(prefix=HIDDEN, dir=folder) as room:
+            tempfile.tempdir = room
+            yield room
+    except OSError as error:
+        error.filename = error.filename or folder  # the disk is full, for example
+        raise
+    finally:
+        tempfile.tempdir = None
 
 
 def check_packages(options):
@@ -199,9 +210,11 @@ def book_of(options, kept):
     if not os.path.exists(path):
         try:
             import table_books
-        except ModuleNotFoundError:
-            raise CldrError("there is no module table_books.py beside this script: it makes books") from None
+        except ModuleNotFoundError as error:
+            raise CldrError(f"there is no module {error.name}: books are not made without it") from error
         check_packages(options)
+        if not os.access(kept.path, os.W_OK):
+            raise CldrError(f"{kept.path} has no book, and you cannot write there: whoever can makes it by uca-files --into {kept.folder} --book {kept.tag}")
         with room_in(kept.folder) as room:
             made = os.path.join(room, "book.txt")
             table_books.write_book(options, read_tag(options.cldr, kept.tag), *kept.files, made)

@@ -99,7 +99,7 @@ class Draft:
 
     def __init__(self, table: str, data: str):
         self.rows, self.longest = {}, {}
-        self.listed = {}  # the keys of rules: the target of each, and how many elements it has
+        self.listed = {}  # the keys of rules: the target of each, and which of its elements are those of the target
         self.shared, self.made = {}, set()  # weights below a plain one; elements that were made
         self.classes, self.leads = {}, {}  # combining classes, and the lead of each Han character
         self.han = {}  # the weight of each Han character that no rule names

@@ -1125,8 +1125,8 @@ static uca_bytes file_of(const char *text)
     return (uca_bytes){(const uint8_t *)text, strlen(text)};
 }
 
-/* Whether the line of a status and an error is this one, as the audit of a command writes it about the same files. Before the word
-   `line` a command has a name of its own for a file. */
+/* Whether the line of a status and an error is this one, as the audit of a command writes it about the same files in its first line.
+   Before the word `line` a command has a name of its own for a file. */
 static bool is_line(const six *six, uint32_t status, const uca_upgrade_error *error, const char *line)
 {
     char said[128], small[8];
@@ -1145,7 +1145,7 @@ static bool is_line(const six *six, uint32_t status, const uca_upgrade_error *er
         printed = of_file ? of_file : "";
         line = ours ? ours : "none";
     }
-    return is_whole && is_begun && audited == 1 && strlen(printed) == strlen(line) + 1 && !strncmp(printed, line, strlen(line));
+    return is_whole && is_begun && audited == 1 && strcspn(printed, "\n") == strlen(line) && printed[strlen(line)] && !strncmp(printed, line, strlen(line));
 }
 
 /* Whether the files with this one in place of another are no upgrade: the file is rejected there, and the line says so. */
@@ -1484,11 +1484,19 @@ static bool holds(const uint8_t *bytes, size_t length, const char *text)
     return length == strlen(text) && memcmp(bytes, text, length) == 0 && bytes[length] == 0xEE;
 }
 
-/* Whether a command wrote this output and these errors, and made this file, or none. */
+/* Whether a command wrote this line of an error, and after it one line that begins with `help: `; or no line, and nothing. */
+static bool says(const written *it, const char *err)
+{
+    size_t first = strlen(err), length = it->lengths.err;
+    bool has_help = length > first + 6 && memcmp(it->err, err, first) == 0 && memcmp(it->err + first, "help: ", 6) == 0;
+    return first == 0 ? holds(it->err, length, "") : has_help && memchr(it->err + first, '\n', sizeof it->err - first) == it->err + length - 1;
+}
+
+/* Whether a command wrote this output and this error, and made this file, or none. */
 static bool wrote(const written *it, const char *out, const char *err, const char *kept)
 {
     bool is_file = it->lengths.files == (kept != NULL) && holds(it->kept, it->lengths.kept, kept ? kept : "");
-    return is_file && holds(it->out, it->lengths.out, out) && holds(it->err, it->lengths.err, err);
+    return is_file && holds(it->out, it->lengths.out, out) && says(it, err);
 }
 
 static written unwritten(void)

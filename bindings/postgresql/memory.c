@@ -24,14 +24,21 @@
 #include <unistd.h>
 
 #include "access/genam.h"
+#include "access/htup_details.h"
 #include "access/table.h"
 #include "access/tableam.h"
+#include "access/xact.h"
 #include "catalog/dependency.h"
 #include "executor/spi.h"
+#include "executor/tuptable.h"
+#include "funcapi.h"
 #include "lib/stringinfo.h"
+#include "storage/fd.h"
+#include "storage/lmgr.h"
 #include "utils/acl.h"
 #include "utils/builtins.h"
 #include "utils/guc.h"
+#include "utils/inval.h"
 #include "utils/lsyscache.h"
 #include "utils/snapmgr.h"
 #include "utils/syscache.h"
@@ -132,11 +139,13 @@ static void need_memory(void)
     }
 
 TAKES_MEMORY(void *, palloc, (Size size), (size))
+TAKES_MEMORY(void *, MemoryContextAllocZero, (MemoryContext context, Size size), (context, size))
 TAKES_MEMORY(void *, repalloc, (void *block, Size size), (block, size))
 TAKES_MEMORY(char *, pstrdup, (const char *given), (given))
 TAKES_MEMORY(char *, pnstrdup, (const char *given, Size length), (given, length))
 TAKES_MEMORY(text *, cstring_to_text, (const char *given), (given))
 TAKES_MEMORY(char *, text_to_cstring, (const text *given), (given))
+TAKES_MEMORY(void, text_to_cstring_buffer, (const text *given, char *made, size_t size), (given, made, size))
 TAKES_MEMORY(void, initStringInfo, (StringInfo bytes), (bytes))
 TAKES_MEMORY(void, enlargeStringInfo, (StringInfo bytes, int needed), (bytes, needed))
 TAKES_MEMORY(Relation, table_open, (Oid table, LOCKMODE lock), (table, lock))
@@ -161,6 +170,16 @@ TAKES_MEMORY(bool, type_is_multirange, (Oid type), (type))
 TAKES_MEMORY(bool, type_is_rowtype, (Oid type), (type))
 TAKES_MEMORY(Oid, get_opfamily_proc, (Oid family, Oid left, Oid right, int16 number), (family, left, right, number))
 TAKES_MEMORY(bool, get_collation_isdeterministic, (Oid collation), (collation))
+TAKES_MEMORY(List *, lappend, (List *list, void *datum), (list, datum))
+TAKES_MEMORY(DIR *, AllocateDir, (const char *folder), (folder))
+TAKES_MEMORY(void, LockRelationOid, (Oid table, LOCKMODE lock), (table, lock))
+TAKES_MEMORY(void, CacheInvalidateCatalog, (Oid catalog), (catalog))
+TAKES_MEMORY(void, RegisterXactCallback, (XactCallback called, void *given), (called, given))
+TAKES_MEMORY(void, RegisterSubXactCallback, (SubXactCallback called, void *given), (called, given))
+TAKES_MEMORY(TypeFuncClass, get_call_result_type, (FunctionCallInfo call, Oid *type, TupleDesc *row), (call, type, row))
+TAKES_MEMORY(TupleDesc, BlessTupleDesc, (TupleDesc row), (row))
+TAKES_MEMORY(HeapTuple, heap_form_tuple, (TupleDesc row, Datum *values, bool *are_null), (row, values, are_null))
+TAKES_MEMORY(Datum, HeapTupleHeaderGetDatum, (HeapTupleHeader row), (row))
 TAKES_MEMORY(int, SPI_connect, (void), ())
 TAKES_MEMORY(int, SPI_execute, (const char *statement, bool only_reads, long most), (statement, only_reads, most))
 TAKES_MEMORY(int, NewGUCNestLevel, (void), ())

@@ -2,7 +2,7 @@
 
      memory EXTENSION TABLE DATA FINGERPRINT BOOK FINGERPRINT EDITIONS FINGERPRINT
 
-   The files are those of examples/. The fingerprints are theirs, shifted, without the book and with it, and that of the table and the data
+   The folder beside the extension has the same table as two editions of Polish. The files are those of examples/. The fingerprints are theirs, shifted, without the book and with it, and that of the table and the data
    file in the folder EDITIONS. Each statement is right then, or has an error, and the
    connection can be closed. Where one allocation failed, the connection can load all again, and each stored key is right. Where one
    failed in a comparison, no index is damaged, no row is lost, and a later transaction is committed. Prints a line for each check that
@@ -14,6 +14,8 @@
 #include <string.h>
 
 #define ROOM 2048
+#define OF_LANGUAGE "SELECT uca_use_language('pl', '16.0.0-cldr46', 'shifted')"
+#define OF_NO_EDITION "SELECT uca_use_language('pl')"
 #define CHECK(fact) check((fact), __LINE__, #fact)
 
 static long asked, first_failing, last_failing, failed;
@@ -114,6 +116,8 @@ static void use(sqlite3 *database, const char *extension, char *fingerprint)
         sqlite3_exec(database, check_texts, is_wanted, "none Utf8 at 1", NULL);
         sqlite3_exec(database, rejected, is_wanted, "an error", NULL);
         sqlite3_exec(database, "SELECT uca_load('none', 'none')", is_wanted, "an error", NULL);
+        sqlite3_exec(database, OF_LANGUAGE, is_wanted, fingerprint, NULL);
+        sqlite3_exec(database, OF_NO_EDITION, is_wanted, "an error", NULL);
         sqlite3_exec(database, "SELECT uca_key('a', '')", is_wanted, "an error", NULL);
     }
 }
@@ -132,6 +136,8 @@ static void use_again(sqlite3 *database, const char *extension, char *fingerprin
     CHECK(sqlite3_exec(database, is_mended, is_wanted, "yes", NULL) == SQLITE_OK);
     CHECK(sqlite3_exec(database, check_texts, is_wanted, "none Utf8 at 1", NULL) == SQLITE_OK);
     CHECK(sqlite3_exec(database, rejected, is_wanted, "an error", NULL) == SQLITE_ERROR && !strcmp(sqlite3_errmsg(database), "uca_key: Utf8 at 1"));
+    CHECK(sqlite3_exec(database, OF_LANGUAGE, is_wanted, fingerprint, NULL) == SQLITE_OK);
+    CHECK(sqlite3_exec(database, OF_NO_EDITION, is_wanted, "an error", NULL) == SQLITE_ERROR && strstr(sqlite3_errmsg(database), "several editions"));
     CHECK(sqlite3_exec(database, "PRAGMA integrity_check", is_wanted, "ok", NULL) == SQLITE_OK);
 }
 

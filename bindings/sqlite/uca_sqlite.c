@@ -25,6 +25,11 @@
    Each use says by which files. So an index, a generated column or a CHECK keeps the fingerprint in the schema, and where these
    files are not loaded, it is an error. No name means "the files that are loaded". A connection may load several, and keeps all.
 
+     SELECT uca_use_language('de-u-co-phonebk' [, edition [, weighting [, depth [, fingerprint [, 'book']]]]]);
+
+   does so with the files of a language, which uca_language.c finds in the folders that an administrator has filled. An edition is named
+   where there are several. With 'book', keys are compact by the book of the language.
+
      SELECT uca_load_upgrade('old.txt', 'old_data.txt', 'new.txt', 'new_data.txt', 'changes', 'certificate'
                              [, weighting [, depth [, fingerprint]]]);
 
@@ -43,6 +48,7 @@
    end before that, so hooks reject the commit of a transaction that has written. */
 #define _POSIX_C_SOURCE 200809L
 #include "uca.h"
+#include "uca_language.h"
 
 #include <errno.h>
 #include <fcntl.h>
@@ -119,6 +125,7 @@ typedef struct file {
 
 /* What a collator is opened by. */
 typedef struct files {
+    const char *name; /* of the function that reads them */
     file table, data, book;
     uint32_t weighting, depth;
 } files;
@@ -698,13 +705,13 @@ static void digits_error(sqlite3_context *context, const char *name, const char 
     give_error(context, row ? sqlite3_mprintf("%s: the %s: row %u: Digits", name, role, row) : sqlite3_mprintf("%s: the %s: Digits", name, role));
 }
 
-static void open_error(sqlite3_context *context, uint32_t status, const uca_error *error)
+static void open_error(sqlite3_context *context, const char *name, uint32_t status, const uca_error *error)
 {
     const char *role = status == UCA_TABLE ? "table" : status == UCA_DATA ? "data file" : status == UCA_BOOK ? "book" : NULL;
     if (role && error->kind != UCA_KIND_MEMORY) {
-        give_error(context, sqlite3_mprintf("uca_load: the %s: line %u: %s", role, error->line, KINDS[error->kind]));
+        give_error(context, sqlite3_mprintf("%s: the %s: line %u: %s", name, role, error->line, KINDS[error->kind]));
     } else if (status == UCA_DIGITS) {
-        digits_error(context, "uca_load", "table", error->line);
+        digits_error(context, name, "table", error->line);
     } else {
         sqlite3_result_error_nomem(context);
     }
@@ -740,9 +747,9 @@ static int add(sqlite3_context *context, const files *by, const char *fingerprin
         status = uca_share(&it->collator, &it->other);
     }
     if (status != UCA_OK) {
-        open_error(context, status, &error);
+        open_error(context, by->name, status, &error);
     } else if (sqlite3_create_collation_v2(here->database, name, SQLITE_UTF8, it, collate, let_go_of_collation)) {
-        give_error(context, sqlite3_mprintf("uca_load: %s", sqlite3_errmsg(here->database)));
+        give_error(context, sqlite3_mprintf("%s: %s", by->name, sqlite3_errmsg(here->database)));
     } else {
         here->users++;
         here->first = it;
@@ -782,9 +789,9 @@ static void load_files(sqlite3_context *context, const files *by, const char *wa
     uca_error error;
     uint32_t status = write_fingerprints(by, fingerprint, whole, &error);
     if (status != UCA_OK) {
-        open_error(context, status, &error);
+        open_error(context, by->name, status, &error);
     } else if (strcmp(wanted, UNCHECKED) && strcmp(wanted, fingerprint)) {
-        give_error(context, sqlite3_mprintf("uca_load: the files and settings have the fingerprint %s, and %s is wanted", fingerprint, wanted));
+        give_error(context, sqlite3_mprintf("%s: the files and settings have the fingerprint %s, and %s is wanted", by->name, fingerprint, wanted));
     } else if (find(sqlite3_user_data(context), fingerprint) || add(context, by, fingerprint, whole)) {
         sqlite3_result_text(context, fingerprint, DIGITS, SQLITE_TRANSIENT);
     }
@@ -793,12 +800,12 @@ static void load_files(sqlite3_context *context, const files *by, const char *wa
 /* Reads the files of these paths, and loads them. The path of no book is empty. */
 static void load_paths(sqlite3_context *context, const char *const *paths, const char *book, files *by, const char *wanted)
 {
-    by->table = read_file(context, "uca_load", "table", paths[0]);
+    by->table = read_file(context, by->name, "table", paths[0]);
     if (by->table.bytes) {
-        by->data = read_file(context, "uca_load", "data file", paths[1]);
+        by->data = read_file(context, by->name, "data file", paths[1]);
     }
     if (by->data.bytes && *book) {
-        by->book = read_file(context, "uca_load", "book", book);
+        by->book = read_file(context, by->name, "book", book);
     }
     if (by->data.bytes && (by->book.bytes || !*book)) {
         load_files(context, by, wanted);
@@ -865,18 +872,63 @@ static int is_shared(sqlite3 *database)
     return cache && !strcmp(cache, "shared");
 }
 
+/* The texts of six arguments at most, of which the last four are a weighting, a depth, a fingerprint and a book. It returns 0 after an error. */
+static int read_load(sqlite3_context *context, int count, int least, sqlite3_value **values, const char **texts, files *by)
+{
+    if (count < least || count > 6) {
+        give_error(context, sqlite3_mprintf("%s: it takes %d to 6 arguments", by->name, least));
+    } else if (is_shared(sqlite3_context_db_handle(context))) {
+        give_error(context, sqlite3_mprintf("%s: the database has a shared cache, which is no place for a collation", by->name));
+    } else {
+        return read_arguments(context, by->name, count, values, texts) &&
+               read_settings(context, by->name, "fifth", &texts[2], &by->weighting, &by->depth);
+    }
+    return 0;
+}
+
 static void load(sqlite3_context *context, int count, sqlite3_value **values)
 {
     const char *texts[] = {"", "", "", "", UNCHECKED, ""};
-    files by = {.weighting = 0};
-    if (count < 2 || count > 6) {
-        sqlite3_result_error(context, "uca_load: it takes 2 to 6 arguments", -1);
-    } else if (is_shared(sqlite3_context_db_handle(context))) {
-        sqlite3_result_error(context, "uca_load: the database has a shared cache, which is no place for a collation", -1);
-    } else if (read_arguments(context, "uca_load", count, values, texts) &&
-               read_settings(context, "uca_load", "fifth", &texts[2], &by.weighting, &by.depth)) {
+    files by = {.name = "uca_load"};
+    if (read_load(context, count, 2, values, texts, &by)) {
         load_paths(context, texts, texts[5], &by, texts[4]);
     }
+}
+
+/* Loads the files of this folder of a language. */
+static void load_folder(sqlite3_context *context, const char *folder, int has_book, files *by, const char *wanted)
+{
+    char *table = sqlite3_mprintf("%s/table.txt", folder), *data = sqlite3_mprintf("%s/data.txt", folder);
+    char *book = has_book ? sqlite3_mprintf("%s/book.txt", folder) : sqlite3_mprintf("");
+    if (table && data && book) {
+        load_paths(context, (const char *[]){table, data}, book, by, wanted);
+    } else {
+        sqlite3_result_error_nomem(context);
+    }
+    sqlite3_free(table);
+    sqlite3_free(data);
+    sqlite3_free(book);
+}
+
+static void use_language(sqlite3_context *context, int count, sqlite3_value **values)
+{
+    const char *texts[] = {"", "", "", "", UNCHECKED, ""};
+    files by = {.name = "uca_use_language"};
+    char *folder, *error;
+    if (!read_load(context, count, 1, values, texts, &by)) {
+        return;
+    }
+    if (*texts[5] && strcmp(texts[5], "book")) {
+        give_error(context, sqlite3_mprintf("%s: the sixth argument is %!.60Q, not 'book'", by.name, texts[5]));
+        return;
+    }
+    folder = find_language(texts[0], texts[1], &error);
+    if (folder) {
+        load_folder(context, folder, *texts[5], &by, texts[4]);
+    } else {
+        give_error(context, error ? sqlite3_mprintf("%s: %z", by.name, error) : NULL);
+    }
+    sqlite3_free(folder);
 }
 
 static void upgrade_error(sqlite3_context *context, uint32_t status, const uca_upgrade_error *error)
@@ -995,6 +1047,7 @@ static const struct {
     {"uca_affected", 3, UPGRADE_FLAGS, make_affected},
     {"uca_rekey", 3, UPGRADE_FLAGS, make_rekeyed},
     {"uca_load_upgrade", -1, LOAD_FLAGS, load_upgrade},
+    {"uca_use_language", -1, LOAD_FLAGS, use_language},
     {"uca_load", -1, LOAD_FLAGS, load},
 };
 

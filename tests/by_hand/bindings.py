@@ -16,6 +16,7 @@ First prove and build the static library: `tools/build.py uca_c uca_run`. Then t
 - the tests of the module for Python, as it is and from a wheel with the library inside, and those of keys, threads, signals and forks under valgrind;
 - statements of SQLite with the extension, over files that are the same or others, and those of docs/BINDINGS.md; also in threads, and where each allocation fails in turn;
 - upgrades from the edition of examples/ to that of examples/editions/, in Python, SQLite and PostgreSQL. upgrades.py does the same with Unicode's tables;
+- languages by their tags, by files of examples/ and by those that tools/uca_files.py makes: in Python, C, SQLite and PostgreSQL, with sessions, dumps and folders of a second administrator;
 - statements, dumps and replication of PostgreSQL with its extension, roles that make functions to be run by a superuser, and the commands, settings and statements of docs/BINDINGS.md. The extension is installed to a copy of the server's programs in a temporary folder. Each server
   has a folder of its own, listens on a Unix socket there, and is stopped afterwards;
 - all four over Unicode's table, and over that table tailored for Danish: 100,000 words of nine languages have the keys of `uca keys` and the order of `uca sort`.
@@ -41,11 +42,14 @@ import zipfile
 import packages
 
 TOP = os.path.dirname(os.path.dirname(os.path.dirname(os.path.realpath(__file__))))
+sys.path.append(f"{TOP}/tests")
+import helps
+
 C, PYTHON, EXAMPLES = f"{TOP}/bindings/c", f"{TOP}/bindings/python", f"{TOP}/examples"
 ARCHIVES = [f"{TOP}/crates/{it}/out/lib{it}.a" for it in ("uca_c", "uca_run")]
 
 NEEDS = ["gcc", "make"]
-WANTS = ["g++", "pkgconf", "valgrind", "sqlite3", "libsqlite3-dev", "postgresql", "postgresql-server-dev-15", "unicode-data", *packages.LISTS]
+WANTS = ["g++", "pkgconf", "valgrind", "sqlite3", "libsqlite3-dev", "postgresql", "postgresql-server-dev-15", "unicode-data", "unicode-cldr-core", *packages.LISTS]
 
 FLAGS = ["-std=c11", "-Wall", "-Wextra", "-Wpedantic", "-Werror", "-D_POSIX_C_SOURCE=200809L", f"-I{C}/include"]
 LINES = ["lines.txt", "words_danish.txt", "words_spanish.txt", "words_swedish.txt"]
@@ -221,7 +225,7 @@ NEW_EDITION_ERRORS = [
     ([("key[256]", "key[13]")], "d: there is too little room\n"),
     ([('"examples/table.txt"', '"examples/none.txt"')], "examples/none.txt is not read: it is not there, or it is too large\n"),
     ([('"examples/table.txt"', '"examples/data.txt"')], "line 1: Line: uca_open: the table is rejected\n"),
-    ([('"examples/editions/table.txt"', '"examples/data.txt"')], "uca_find_changes: status 1\nnew line 1: Line\n"),
+    ([('"examples/editions/table.txt"', '"examples/data.txt"')], "uca_find_changes: status 1\n" + helps.said("new line 1: Line\n", ["changes", *"old old-data new new-data certificate".split()]).decode()),
     ([("certificate[1 << 20]", "certificate[8]")], "uca_find_changes: status 258\n"),
     ([("changes, lengths.out,", "changes, 10,")], "uca_open_upgrade: file of changes line 1: Line\n"),
     # no change lists the eighth old row, that of `ch`, whose weight has no image
@@ -547,6 +551,87 @@ def sqlite_files(work):
     sqlite_fails(work, "uca_load: the table: line 1: ", f"SELECT uca_load('{work}/limit', '{DATA}');", load="")
 
 
+# What is no tag of a language: it could be a path, a setting of a program, or a statement of a shell.
+NO_TAGS = ["", "../pl", "..", ".", "pl/..", "a/b", "a.b", "a b", "-pl", "pl-", "a--b", "de_DE", "pl\n", "é", "$(id)", "pl;", "%s", "a" * 101]
+NO_EDITIONS = ["..", "../15.0.0-cldr41", "15.0.0/pl", ".making", "15..0", "15.0.0-", "15 0", "a" * 101]
+PHONE_BOOK = "de-u-co-phonebk"
+
+
+def keep_language(folder, tag, table, data=DATA, edition="15.0.0-cldr41", book=None):
+    """Puts the files of a language where an administrator keeps them."""
+    place = f"{folder}/{edition}/{tag}"
+    os.makedirs(place, mode=0o755)
+    for file, name in ((table, "table.txt"), (data, "data.txt"), (book, "book.txt")):
+        if file:
+            shutil.copyfile(file, f"{place}/{name}")
+            os.chmod(f"{place}/{name}", 0o644)
+    return place
+
+
+def keep_languages(folder):
+    """A phone book whose bz comes before bh, and two editions of Polish, whose bh comes before bz."""
+    keep_language(folder, PHONE_BOOK, TAILORED, book=BOOK)
+    for edition in ("15.0.0-cldr41", "16.0.0-cldr46"):
+        keep_language(folder, "pl", TABLE, edition=edition)
+
+
+def language_says(work, *statements, fails=False, **environment):
+    """What the statements print, or their first error, in a connection with a copy of the extension. Languages are in the folder uca beside the copy."""
+    sqlite_says(work, "SELECT 1;")
+    folder = f"{work}/languages"
+    if not os.path.exists(folder):
+        keep_languages(f"{folder}/uca")
+        shutil.copy(f"{TOP}/bindings/sqlite/out/uca.so", folder)
+    # It is loaded by a relative path, and looks for its own folder after the program has gone to another one too.
+    words = ["sqlite3", ":memory:", ".load ./uca", f".cd {work}", *statements]
+    ran = subprocess.run(words, capture_output=True, text=True, cwd=folder, env={**os.environ, **environment}, timeout=60)
+    if bool(ran.returncode) != fails:
+        raise AssertionError(f"{statements!r:.200}: status {ran.returncode}: {ran.stdout:.200}{ran.stderr:.200}")
+    return ran.stderr.split("\n")[0] if fails else ran.stdout
+
+
+def sqlite_languages(work):
+    """uca_use_language loads the files of a language, and no others."""
+    compact, non_ignorable = fingerprint_of(TAILORED, DATA, book=BOOK), fingerprint_of(TAILORED, DATA, "non-ignorable", "identical")
+    for arguments, wanted in (
+        (f"'{PHONE_BOOK}'", OTHER), (f"'{PHONE_BOOK}', '15.0.0-cldr41', 'shifted'", OTHER), (f"'{PHONE_BOOK}', NULL, '', '', '{OTHER}', ''", OTHER),
+        ("'pl', '16.0.0-cldr46'", USED), (f"'{PHONE_BOOK}', '', '', '', 'unchecked', 'book'", compact), (f"'{PHONE_BOOK}', '', 'non-ignorable', 'identical'", non_ignorable),
+    ):
+        same(language_says(work, f"SELECT uca_use_language({arguments});"), f"{wanted}\n", f"uca_use_language({arguments})")
+    words = "CREATE TABLE words(word TEXT); INSERT INTO words VALUES ('bh'), ('bz'), ('b');"
+    for order in (f"word COLLATE uca_{OTHER}", f"uca_key(word, '{OTHER}')"):
+        found = language_says(work, f"SELECT 0 WHERE uca_use_language('{PHONE_BOOK}') IS NULL; {words} SELECT group_concat(word, ' ') FROM (SELECT word FROM words ORDER BY {order});")
+        same(found, "b bz bh\n", f"the order by {order}")
+    folder = os.path.realpath(f"{work}/languages/uca")
+    no_files = "uca_use_language: no folder has files of the language"
+    made_by = "an administrator makes them by: uca-files --into /usr/local/share/uca"
+    errors = [(quoted(it), "uca_use_language: the tag of a language has letters, digits") for it in NO_TAGS]
+    errors += [(f"{quoted('pl')}, {quoted(it)}", "uca_use_language: the tag of a language has letters, digits") for it in NO_EDITIONS]
+    errors += [
+        ("'pl'", f"uca_use_language: {folder} has several editions of the language pl: 15.0.0-cldr41, 16.0.0-cldr46; name one as the second argument"),
+        ("'qaa-x-none'", f"{no_files} qaa-x-none; {made_by} qaa-x-none"), ("'PL'", f"{no_files} PL; {made_by} PL"),
+        ("'pl', '14.0.0-cldr40'", f"{no_files} pl, edition 14.0.0-cldr40; {made_by} pl"),
+        ("'pl', '15.0.0-cldr41', '', '', 'unchecked', 'book'", "uca_use_language: the book "), (f"'{PHONE_BOOK}', '', '', '', 'unchecked', '1'", "uca_use_language: the sixth argument is '1', not 'book'"),
+        (f"'{PHONE_BOOK}', '', 'blanked'", "uca_use_language: the weighting is 'blanked'"), (f"'{PHONE_BOOK}', '', '', 'numeric'", "uca_use_language: the table: Digits"),
+        (f"'{PHONE_BOOK}', '', '', '', '{USED}'", f"uca_use_language: the files and settings have the fingerprint {OTHER}, and {USED} is wanted"),
+        ("'pl' || char(0)", "uca_use_language: argument 1 has a zero byte"), ("", "uca_use_language: it takes 1 to 6 arguments"), ("NULL", "uca_use_language: the tag of a language"),
+    ]
+    for arguments, error in errors:
+        found = language_says(work, f"SELECT uca_use_language({arguments});", fails=True)
+        if error not in found:
+            raise AssertionError(f"uca_use_language({arguments}): {found}\n  in place of {error}")
+    for schema in ("CREATE VIEW v AS SELECT uca_use_language('pl', '16.0.0-cldr46'); SELECT * FROM v;", "CREATE TABLE c(word TEXT CHECK (uca_use_language(word) > '')); INSERT INTO c VALUES ('pl');"):
+        same("unsafe use of uca_use_language()" in language_says(work, schema, fails=True), True, schema)
+    keep_language(f"{work}/homes/uca", "xx", TABLE)
+    homes = {it: f"{work}/homes" for it in ("HOME", "XDG_DATA_HOME", "XDG_DATA_DIRS")}
+    same(no_files in language_says(work, "SELECT uca_use_language('xx');", fails=True, **homes), True, "folders that the environment names")
+    broken = keep_language(f"{work}/languages/uca", "broken", TABLE)
+    os.remove(f"{broken}/data.txt")
+    same(": it is not found" in language_says(work, "SELECT uca_use_language('broken');", fails=True), True, "a language without a data file")
+    os.mkfifo(f"{broken}/data.txt")
+    same(": it is not a regular file" in language_says(work, "SELECT uca_use_language('broken');", fails=True), True, "a language whose data file is a pipe")
+
+
 # Each makes a table `words` whose schema names the files, and the error of a new row where other files are loaded.
 SQLITE_SCHEMAS = [
     (f"CREATE TABLE words(word TEXT); CREATE INDEX i ON words(uca_key(word, '{USED}'));", MADE_BY_OTHERS),
@@ -798,9 +883,9 @@ def sqlite_moved(work):
 
 def sqlite_memory(work):
     """Each allocation fails in turn."""
-    sqlite_says(work, "SELECT 1;")
+    language_says(work, "SELECT 1;")
     run(["gcc", "-O2", "-std=c11", "-Wall", "-Wextra", "-Werror", "-o", f"{work}/memory", f"{TOP}/bindings/sqlite/memory.c", "-lsqlite3", "-ldl"])
-    run([f"{work}/memory", f"{TOP}/bindings/sqlite/out/uca", TABLE, DATA, USED, BOOK, COMPACT, f"{EXAMPLES}/editions", NEXT])
+    run([f"{work}/memory", f"{work}/languages/uca", TABLE, DATA, USED, BOOK, COMPACT, f"{EXAMPLES}/editions", NEXT])
 
 
 # Rows of the ten digits, whose weights rise from 1C3D on. In the next edition the digit 2 has another weight.
@@ -1438,6 +1523,246 @@ BY_INDEX = "SET enable_seqscan = off; SELECT string_agg(word, ' ') FROM (SELECT 
 USES = ("SELECT uca_key('a');", "INSERT INTO words VALUES ('d');", "SELECT FROM plain WHERE key = uca_key(word);", "INSERT INTO parts VALUES ('bh');")
 
 
+UCA_FILES = f"{TOP}/tools/uca_files.py"
+BARE = "shared_preload_libraries = 'uca'\n"
+BY_NAME = "SELECT string_agg(name::text, ' ') FROM (SELECT name FROM words ORDER BY name) it;"
+BY_KEY = "SELECT string_agg(name::text, ' ') FROM (SELECT name FROM words ORDER BY uca_key(name)) it;"
+THREE_NAMES = "CREATE TABLE words(name uca_text); INSERT INTO words VALUES ('bz'), ('bh'), ('b');"
+HAVE_CHANGED = "ERROR:  uca: the files by which this database's keys are made have changed"
+NOT_FOUND = "ERROR:  uca: by the server's settings, no folder has files of the language"
+
+
+@contextlib.contextmanager
+def language_server(work):
+    """A server whose settings name no files, with the extension, what runs statements in it, and its folder of languages."""
+    with postgresql_server(work) as (server, says, settings):
+        folder = f"{work}/server{run([os.environ.get('PG_CONFIG', 'pg_config'), '--sharedir']).decode().strip()}/uca"
+        shutil.rmtree(folder, ignore_errors=True)
+        keep_languages(folder)
+        says("DROP EXTENSION uca;")
+        server.restart(BARE)
+        says("CREATE EXTENSION uca;")
+        yield server, says, folder
+
+
+def postgresql_languages(work):
+    """uca_use_language: what it takes, what it returns, and by which files keys are made then."""
+    with language_server(work) as (server, says, folder):
+        none = "ERROR:  uca: the server has not read the files of uca.table_file and uca.data_file"
+        same(says("SELECT count(*) FROM uca_files;"), "0\n", "files before a language is used")
+        for it in ("uca_key('a')", "uca_fingerprint()", "uca_use_files()", f"uca_key('a', '{USED}')", "'a'::uca_text < 'b'"):
+            same(says(f"SELECT {it};", fails=True), none, f"{it} without files")
+        says(THREE_NAMES)
+        same(says(f"SELECT uca_use_language('{PHONE_BOOK}'); {BY_NAME} {BY_KEY} SELECT uca_fingerprint(); SELECT fingerprint FROM uca_files;"),
+             f"0\nb bz bh\nb bz bh\n{OTHER}\n{OTHER}\n", "a phone book")
+        same(says(f"SELECT * FROM uca_languages; SELECT uca_key('a', '{OTHER}') = uca_key('a'), uca_server_fingerprint() IS NULL;"), f"{OTHER}|{PHONE_BOOK}|15.0.0-cldr41|f\nt|t\n", "what is recorded")
+        same(says(f"SELECT uca_key('a', '{USED}');", fails=True), none, "a fingerprint that was not used")
+        same(says(f"SELECT encode(uca_key('a'), 'hex'), uca_key('a') = decode('1c4700000020000000020000ffff', 'hex');"), "1c4700000020000000020000ffff|t\n", "a key by the weighting of the table")
+        for number in (1, 2):
+            same(says(f"SELECT uca_use_language('{PHONE_BOOK}'); SELECT count(*) FROM uca_languages;"), "0\n1\n", "the same language again")
+            server.restart(BARE)
+        says("CREATE INDEX by_name ON words(name); CREATE INDEX by_key ON words(uca_key(name));")
+        by_index = "SET enable_seqscan = off; SET enable_sort = off;"
+        same(says(f"{by_index} {BY_NAME} {BY_KEY}"), "b bz bh\nb bz bh\n", "indexes")
+        for tag in NO_TAGS:
+            same(says(f"SELECT uca_use_language({quoted(tag)});", fails=True), "ERROR:  uca: the tag of a language has letters, digits, and single hyphens between them", repr(tag))
+        for edition in NO_EDITIONS:
+            found = says(f"SELECT uca_use_language('pl', {quoted(edition)});", fails=True)
+            same(found, "ERROR:  uca: the name of an edition has letters, digits, and single hyphens or dots between them", repr(edition))
+        for arguments, error in (("NULL", "the tag of the language, or whether its book is wanted, is NULL"), ("'pl'", "there are several editions of the language pl"),
+                                 ("'qaa-x-none'", "no folder of the server has files of the language qaa-x-none"), ("'PL'", "no folder of the server has files of the language PL"),
+                                 ("'pl', '14.0.0-cldr40'", "no folder of the server has files of the language pl, edition 14.0.0-cldr40"),
+                                 ("'pl', '16.0.0-cldr46', book => true", "the file of book.txt cannot be read: No such file or directory")):
+            same(says(f"SELECT uca_use_language({arguments});", fails=True), f"ERROR:  uca: {error}", arguments)
+        same(says("SELECT uca_use_language('pl', '16.0.0-cldr46');", fails=True), KEYS_ARE_KEPT, "another language, while there are indexes")
+        same(says(f"SELECT uca_use_language('pl', '16.0.0-cldr46', again => true); {by_index} {BY_NAME} {BY_KEY}"), "2\nb bh bz\nb bh bz\n", "another language")
+        compact = fingerprint_of(TAILORED, DATA, book=BOOK)
+        same(says(f"SELECT uca_use_language('{PHONE_BOOK}', book => true, again => true); {by_index} {BY_NAME} {BY_KEY} SELECT uca_fingerprint(), uca_expand(uca_key('a'));"),
+             f"2\nb bz bh\nb bz bh\n{compact}|\\x1c4700000020000000020000ffff\n", "a book")
+        for role in ("", "GRANT EXECUTE ON FUNCTION uca_use_language TO joe;"):
+            found = says(f"{role and 'SET ROLE postgres;'}{role or 'CREATE ROLE joe; GRANT ALL ON words TO joe;'} SET ROLE joe; SELECT uca_use_language('pl', '16.0.0-cldr46');", fails=True)
+            same("permission denied" in found, True, f"a role without rights: {found}")
+        for it in (f"uca_find_language('{PHONE_BOOK}', NULL, false)", "uca_lock_files('')", "uca_change_files('', false)"):
+            same("permission denied for function" in says(f"SET ROLE joe; SELECT {it};", fails=True), True, it)
+        same(says(f"SET ROLE joe; {BY_NAME} SELECT uca_fingerprint();"), f"b bz bh\n{compact}\n", "a role without rights that sorts")
+        parallel = "SET max_parallel_workers_per_gather = 4; SET parallel_setup_cost = 0; SET parallel_tuple_cost = 0; SET min_parallel_table_scan_size = 0;"
+        same(says(f"CREATE TABLE numbers AS SELECT i::text AS n FROM generate_series(1, 100000) i; {parallel} SELECT count(*) FROM numbers WHERE uca_key(n) > '\\x00';"), "100000\n", "parallel workers")
+        same(says(f"DROP TABLE numbers; {parallel} BEGIN; SELECT uca_use_language('pl', '15.0.0-cldr41', again => true); CREATE TABLE numbers AS SELECT i::text AS n FROM generate_series(1, 100000) i;"
+                  " CREATE INDEX ON numbers(uca_key(n)); SELECT count(*) FROM numbers WHERE uca_key(n) > '\\x00'; ROLLBACK;"), "2\n100000\n", "parallel workers of a transaction that uses another language")
+        same(says(f"{by_index} {BY_NAME}"), "b bz bh\n", "a language that is not used after all")
+
+
+def postgresql_language_settings(work):
+    """A language beside files that the settings name, and by settings of the server."""
+    with language_server(work) as (server, says, folder):
+        says(f"{THREE_NAMES} SELECT uca_use_language('{PHONE_BOOK}'); CREATE INDEX by_name ON words(name);")
+        files = f"{BARE}uca.table_file = '{folder}/15.0.0-cldr41/pl/table.txt'\nuca.data_file = '{folder}/15.0.0-cldr41/pl/data.txt'\n"
+        server.restart(files)
+        same(says(f"{BY_NAME} SELECT uca_fingerprint(), uca_server_fingerprint();"), f"b bz bh\n{OTHER}|{USED}\n", "a language beside the files of the settings")
+        same(says("CREATE DATABASE plain;") + says(f"CREATE EXTENSION uca; {THREE_NAMES} {BY_NAME} SELECT uca_fingerprint();", database="plain"), f"b bh bz\n{USED}\n", "another database")
+        same(says("SELECT uca_use_files();", fails=True), KEYS_ARE_KEPT, "the files of the settings, while there are indexes")
+        same(says(f"SELECT uca_use_files(again => true); {BY_NAME} SELECT uca_fingerprint();"), f"1\nb bh bz\n{USED}\n", "the files of the settings")
+        same(says(f"SELECT uca_use_language('{PHONE_BOOK}', again => true); {BY_NAME}"), "1\nb bz bh\n", "the language again")
+        server.restart(files.replace(f"pl/table.txt", f"{PHONE_BOOK}/table.txt"))
+        same(says(f"{BY_NAME} SELECT uca_fingerprint() = uca_server_fingerprint();"), "b bz bh\nt\n", "the files of the language in the settings")
+        for setting in ("uca.weighting = 'non-ignorable'", "uca.identical = on"):
+            server.restart(f"{BARE}{setting}\n")
+            same(says(BY_NAME, fails=True), f"{NOT_FOUND} {PHONE_BOOK}, edition 15.0.0-cldr41, with the database's fingerprint", setting)
+            same(says("SET enable_sort = off; SET enable_seqscan = off; SELECT name FROM words ORDER BY name;", fails=True)[:60], NOT_FOUND[:60], f"an index by other settings: {setting}")
+        same(says(f"SELECT uca_use_language('{PHONE_BOOK}', again => true); SELECT uca_fingerprint();"), f"1\n{fingerprint_of(TAILORED, DATA, depth='identical')}\n", "other settings from now on")
+        server.restart(f"{BARE}uca.numeric = on\n")
+        same(says(f"SELECT uca_use_language('{PHONE_BOOK}', again => true);", fails=True), "ERROR:  uca: table: Digits", "a table without digits, by value")
+
+
+def postgresql_language_sessions(work):
+    """While one session uses the order of a language, another one changes it. Nobody gets another order without an error."""
+    with language_server(work) as (server, says, folder):
+        says(f"SELECT uca_use_language('{PHONE_BOOK}'); {THREE_NAMES} CREATE INDEX by_name ON words(name); CREATE INDEX by_key ON words(uca_key(name));")
+        polish, german = "SELECT uca_use_language('pl', '16.0.0-cldr46', again => true)", f"SELECT uca_use_language('{PHONE_BOOK}', again => true)"
+        other = "\\! psql -XAtqc \"{}\" 2>&1 | head -1\n".format
+        waits = "ERROR:  canceling statement due to lock timeout\n"
+        hurried = other("SET lock_timeout = '500ms'; " + polish)
+        for begun in (BY_NAME, "SELECT uca_key('a') IS NULL;", "SELECT max(name) FROM words;", "SAVEPOINT s; SELECT uca_key('a') IS NULL; RELEASE s;"):
+            found = says(f"BEGIN; {begun}\n{hurried}{BY_NAME} COMMIT;")
+            same(found.splitlines()[-2:], [waits.strip(), "b bz bh"], f"a change while a transaction goes on that has run {begun}")
+        by_index = "SET enable_seqscan = off; SET enable_sort = off;"
+        for asked in (BY_NAME, BY_KEY, by_index + BY_NAME, by_index + BY_KEY, "SELECT uca_key('a') IS NULL;", "INSERT INTO words VALUES ('c');", "SELECT max(name) FROM words;"):
+            # The snapshot of the transaction is from before the change.
+            found = says(f"BEGIN ISOLATION LEVEL REPEATABLE READ; SELECT count(*) FROM pg_class WHERE relname = 'words';\n{other(polish)}{asked}", fails=True)
+            same(found, HAVE_CHANGED, f"{asked} by an older snapshot")
+            says(german)
+        asked = "PREPARE k AS SELECT encode(uca_range_low('bh', 1), 'hex'); PREPARE n AS SELECT count(*) FROM words WHERE uca_key(name) >= uca_range_low('bh', 1);"
+        executed = "EXECUTE k; EXECUTE n;"
+        before, after = says(f"{asked} {executed}"), says(f"{polish}; {asked} {executed} {german};").splitlines()[1:3]
+        same(before.splitlines() == after, False, "the bounds of both languages")
+        # Plans with constants are made again. Whoever has used the earlier order gets an error, once.
+        kept = f"SET plan_cache_mode = force_generic_plan; {asked} {executed * 6}\n{other(polish)}"
+        same(says(f"{kept} EXECUTE n;", fails=True), HAVE_CHANGED, "a prepared statement after a change")
+        says(german)
+        found = says(f"\\set ON_ERROR_STOP 0\n{kept} EXECUTE k;\nEXECUTE k;\n{executed} {BY_NAME} {BY_KEY}").splitlines()
+        same(found[-4:], [*after, "b bh bz", "b bh bz"], "prepared statements after a change, once more")
+        same(found.count(before.splitlines()[0]), 6, "bounds by the earlier language")
+        says(german)
+        own = f"{asked} {executed} {polish}; {executed} {BY_NAME} BEGIN; {german}; {executed} {BY_NAME} COMMIT; {executed}"
+        found = says(own).splitlines()
+        same([found[3:5], found[5], found[7:9], found[9], found[10:12]], [after, "b bh bz", before.splitlines(), "b bz bh", before.splitlines()], "a session that changes the language itself")
+        begun = "BEGIN ISOLATION LEVEL {};"
+        for level in ("REPEATABLE READ", "SERIALIZABLE"):
+            same(says(f"{begun.format(level)} {polish};", fails=True), "ERROR:  uca: the files are changed in a transaction with the isolation level READ COMMITTED", level)
+            same(says(f"{begun.format(level)} SELECT uca_use_language('{PHONE_BOOK}'); COMMIT;"), "0\n", f"the same language, {level}")
+        found = says(f"BEGIN; {polish};\n{other('SET lock_timeout = 500; ' + BY_NAME)}ROLLBACK; {BY_NAME}")
+        same(found.splitlines()[-2:], [waits.strip(), "b bz bh"], "an order that another session asks for during a change")
+        same(says(f"{BY_NAME} BEGIN; {polish}; {BY_NAME} ROLLBACK; {BY_NAME}"), "b bz bh\n2\nb bh bz\nb bz bh\n", "a change that is taken back")
+        inside = f"BEGIN; SAVEPOINT s; {polish}; {BY_NAME} ROLLBACK TO s; {BY_NAME} COMMIT; {BY_NAME}"
+        same(says(inside), "2\nb bh bz\nb bz bh\nb bz bh\n", "the same inside a transaction")
+        by_cursor = f"BEGIN; DECLARE c CURSOR FOR SELECT name FROM words ORDER BY name; FETCH 1 FROM c; {polish}; FETCH 2 FROM c; COMMIT;"
+        same("cannot REINDEX INDEX" in says(f"{by_index} {by_cursor}", fails=True), True, "a cursor over an index")
+
+
+def postgresql_language_dumps(work):
+    """A database with a language elsewhere: the same order, or an error."""
+    with language_server(work) as (server, says, folder):
+        table = "CREATE TABLE words(name uca_text, plain text, key bytea); INSERT INTO words SELECT it, it, uca_key(it) FROM (VALUES ('bz'), ('bh'), ('b')) its(it);"
+        says(f"CREATE DATABASE german;")
+        german = lambda statements, **named: says(statements, database="german", **named)
+        german(f"CREATE EXTENSION uca; SELECT uca_use_language('{PHONE_BOOK}'); {table} CREATE INDEX by_name ON words(name); CREATE INDEX by_key ON words(uca_key(plain));")
+        dump = run([f"{server.programs}/pg_dump", "german"], env={**os.environ, **server.environment}).decode()
+        by_index = "SET enable_seqscan = off; SET enable_sort = off;"
+        in_order = f"{by_index} {BY_NAME} {BY_KEY} SELECT uca_fingerprint();"
+        wanted = f"b bz bh\nb bz bh\n{OTHER}\n"
+        same(german(in_order), wanted, "the first database")
+        for at, prepared in enumerate(("", f"CREATE EXTENSION uca; SELECT uca_use_language('{PHONE_BOOK}');")):
+            says(f"CREATE DATABASE copy{at};")
+            says(prepared, database=f"copy{at}")
+            says(dump, database=f"copy{at}")
+            same(says(in_order, database=f"copy{at}"), wanted, f"a restored database, {prepared}")
+        says("CREATE DATABASE by_template TEMPLATE german;")
+        same(says(in_order, database="by_template"), wanted, "a database from a template")
+        # A CHECK and a generated column are made before the rows of uca_files are in. So they need the language before.
+        german("CREATE TABLE a(name uca_text CHECK (name < 'bz'), key bytea GENERATED ALWAYS AS (uca_key(name)) STORED); INSERT INTO a VALUES ('b');")
+        dump = run([f"{server.programs}/pg_dump", "german"], env={**os.environ, **server.environment}).decode()
+        says("CREATE DATABASE copy2; CREATE DATABASE copy3;")
+        same(says(dump, database="copy2", fails=True).startswith("ERROR:  uca: "), True, "keys that are made before the language is known")
+        says(f"CREATE EXTENSION uca; SELECT uca_use_language('{PHONE_BOOK}');\n{dump}", database="copy3")
+        same(says(in_order + "SELECT key = uca_key('b') FROM a;", database="copy3"), wanted + "t\n", "keys that are made after it")
+        # The same in a folder that a second administrator has filled otherwise.
+        place = f"{folder}/15.0.0-cldr41/{PHONE_BOOK}"
+        shutil.copyfile(TABLE, f"{place}/table.txt")
+        for database in ("german", "copy1", "by_template"):
+            for it in (BY_NAME, BY_KEY, by_index + BY_NAME, by_index + BY_KEY, "SELECT uca_fingerprint();", f"SELECT uca_key('a', '{OTHER}');", "INSERT INTO words VALUES ('c');"):
+                same(says(it, database=database, fails=True), f"{NOT_FOUND} {PHONE_BOOK}, edition 15.0.0-cldr41, with the database's fingerprint", f"{it} by another table")
+        same(german(f"SELECT uca_use_language('{PHONE_BOOK}');", fails=True), KEYS_ARE_KEPT, "another table of the same name")
+        shutil.copyfile(TAILORED, f"{place}/table.txt")
+        same(german(in_order), wanted, "the first table again")
+        os.rename(place, f"{place}-x-gone")
+        same(german(BY_NAME, fails=True), f"{NOT_FOUND} {PHONE_BOOK}, edition 15.0.0-cldr41, with the database's fingerprint", "a language that is gone")
+        same(german(f"SELECT uca_use_language('{PHONE_BOOK}-x-gone'); {in_order}"), f"0\n{wanted}", "the same files under another tag")
+        os.rename(f"{place}-x-gone", place)
+        os.chmod(f"{place}/table.txt", 0)
+        found = german(f"SELECT uca_use_language('{PHONE_BOOK}');", fails=True)
+        same(found, "ERROR:  uca: the file of table.txt cannot be read: Permission denied", "a table that the server may not read")
+        os.chmod(f"{place}/table.txt", 0o644)
+        # What is written to uca_languages names no other folder, and an order by other files is not found.
+        for tag, edition in (("../pl", "15.0.0-cldr41"), ("pl", "15.0.0-cldr41/../16.0.0-cldr46"), ("..", ".."), (f"../15.0.0-cldr41/{PHONE_BOOK}", "16.0.0-cldr46"),
+                             (PHONE_BOOK, "16.0.0-cldr46/../15.0.0-cldr41"), (f"./{PHONE_BOOK}", "15.0.0-cldr41"), ("pl", "16.0.0-cldr46")):
+            written = f"DELETE FROM uca_languages; INSERT INTO uca_languages VALUES ('{OTHER}', '{tag}', '{edition}', false);"
+            same(german(f"{written} {BY_NAME}", fails=True).startswith("ERROR:  uca: "), True, f"the tag {tag} and the edition {edition}")
+        german("DELETE FROM uca_languages;")
+        same(german(BY_NAME, fails=True), "ERROR:  uca: the server has not read the files of uca.table_file and uca.data_file", "no row of the language")
+
+
+def language_page(program):
+    """What docs/BINDINGS.md says of languages from nothing, by the files that tools/uca_files.py makes."""
+
+    def check(work):
+        for it in (program, UCA_FILES, "/usr/share/unicode/allkeys.txt", "/usr/share/unicode/cldr/common/collation"):
+            if not os.path.exists(it):
+                raise NotHere(f"there is no {it}")
+        section = re.search(r"^## A language by its tag\n(.*?)^## ", content(f"{TOP}/docs/BINDINGS.md").decode(), re.S | re.M).group(1)
+        blocks = {language: it for language, it in re.findall(r"^```(\w+) (?:language|postgresql)\n(.*?)^```$", section, re.S | re.M)}
+        environment = {**python_environment(), "UCA_FILES": UCA_FILES, "XDG_DATA_HOME": f"{work}/home", "XDG_DATA_DIRS": f"{work}/none"}
+        made_by = [sys.executable, UCA_FILES, "--uca", program]
+        for tag in ("zh", "pl"):
+            run([*made_by, tag], env=environment)
+        said = run([sys.executable, "-W", "error", "-c", blocks["python"]], env=environment).decode()
+        same(said.splitlines(), re.findall(r"# (\S.*)", blocks["python"]), "the page's program in Python")
+        with open(f"{work}/language.c", "w", encoding="utf-8") as it:
+            it.write(blocks["c"])
+        run(["gcc", *FLAGS, *SANITIZERS, "-o", f"{work}/language", it.name, f"{C}/out/libuca.a"])
+        paths = run([*made_by, "pl"], env=environment).decode().split()
+        same(run([f"{work}/language", *paths]).decode().splitlines(), re.findall(r"/\* (.*?) \*/", blocks["c"]), "the page's program in C")
+        same(subprocess.run([f"{work}/language"], capture_output=True).returncode, 1, "the page's program in C without files")
+        keys_of_language(work, program, environment, made_by)
+        with language_server(work) as (server, says, folder):
+            shutil.rmtree(folder)
+            run([*made_by, "--into", folder, "pl", PHONE_BOOK], env=environment)
+            says("DROP EXTENSION uca;")
+            same(says(blocks["sql"]).splitlines(), re.findall(r"^-- (.*)", blocks["sql"], re.M), "the page's statements")
+            same(says("SELECT uca_fingerprint();"), run([program, "fingerprint", *kept_in(folder, PHONE_BOOK)]).decode(), "the fingerprint of the phone book")
+
+    return check
+
+
+def kept_in(folder, tag):
+    """The table and the data file of the only edition of a language in a folder."""
+    editions = [it for it in os.listdir(folder) if os.path.isdir(f"{folder}/{it}/{tag}")]
+    same(len(editions), 1, f"editions of {tag} in {folder}")
+    return [f"{folder}/{editions[0]}/{tag}/{it}.txt" for it in ("table", "data")]
+
+
+def keys_of_language(work, program, environment, made_by):
+    """Keys of a collator of a language are those of `uca keys $(uca-files TAG)`, by the weighting of the table and by each other one."""
+    lines = content(f"{EXAMPLES}/lines.txt")
+    for tag in ("pl", PHONE_BOOK):
+        paths = run([*made_by, tag], env=environment).decode().split()
+        for weighting in (None, "shifted", "non-ignorable"):
+            words = [program, "keys", *(["--weighting", weighting] if weighting else []), *paths]
+            program_of_keys = (f"import sys, uca\ncollator = uca.Collator.of_language({tag!r}, weighting={weighting!r})\n"
+                               "for it in sys.stdin.buffer.read().removesuffix(b'\\n').split(b'\\n'): print(collator.key(it).hex().upper())")
+            found = run([sys.executable, "-c", program_of_keys], input=lines, env=environment)
+            same(found, run(words, input=lines), f"keys of {tag}, {weighting}")
+
+
 def named(fingerprint):
     """Tables whose keys name their files."""
     key = f"uca_key(word, '{fingerprint}')"
@@ -1647,7 +1972,7 @@ END $$;
 def names_in_sql():
     """The operators and the functions that the script of the extension, the strings of its code in C, and the objects above name."""
     folder = f"{TOP}/bindings/postgresql"
-    code = "".join(content(f"{folder}/{it}").decode() for it in ("uca_postgresql.c", "uca_text.c"))
+    code = "".join(content(f"{folder}/{it}").decode() for it in ("uca_postgresql.c", "uca_language.c", "uca_text.c"))
     strings = " ".join(re.findall(r'"((?:[^"\\]|\\.)*)"', re.sub(r"/\*.*?\*/", "", code, flags=re.S)))
     script = re.sub(r"--.*", "", content(f"{folder}/uca--0.1.sql").decode()) + OF_SUPERUSER
     # IN, CASE, BETWEEN and LIKE call the first four
@@ -2402,16 +2727,17 @@ def main():
         sys.exit(f"there is no {missing[0]}: run `tools/build.py uca_c uca_run` first")
     checks = [("make", make), ("valgrind", valgrind), ("sanitizers", sanitizers), ("header in C++", header), ("exported names", exports),
               ("installation", installed), ("stored run", stored_run), ("docs/BINDINGS.md", page), ("keys", keys_like(program)), ("Python", python), ("Python under valgrind", python_valgrind), ("wheel", wheel), ("sort", sorted_like(program)), ("SQLite", sqlite),
-              ("SQLite's loads", sqlite_loads), ("SQLite's authorizers", sqlite_authorizers), ("SQLite's files", sqlite_files), ("SQLite's compact keys", sqlite_compact), ("SQLite's numbers", sqlite_numbers), ("SQLite's arguments", sqlite_arguments), ("SQLite's checks", sqlite_checks),
+              ("SQLite's loads", sqlite_loads), ("SQLite's authorizers", sqlite_authorizers), ("SQLite's files", sqlite_files), ("SQLite's languages", sqlite_languages), ("SQLite's compact keys", sqlite_compact), ("SQLite's numbers", sqlite_numbers), ("SQLite's arguments", sqlite_arguments), ("SQLite's checks", sqlite_checks),
               ("SQLite's books", sqlite_books), ("SQLite's lookups", sqlite_lookups), ("SQLite's schemas", sqlite_schemas), ("SQLite's restores", sqlite_restore),
               ("SQLite's attached databases", sqlite_attached), ("SQLite's threads", sqlite_threads), ("SQLite's moves from thread to thread", sqlite_moved), ("SQLite's upgrades", sqlite_upgrades),
               ("SQLite's loads of upgrades", sqlite_upgrade_loads), ("SQLite's compact keys in upgrades", sqlite_compact_upgrades), ("SQLite's moves", sqlite_moves),
               ("SQLite's indexes of texts", sqlite_texts), ("SQLite's memory", sqlite_memory), ("SQLite on the page", sqlite_page), ("SQLite's orders", sqlite_like(program)),
-              ("PostgreSQL", postgresql), ("PostgreSQL's settings", postgresql_settings), ("PostgreSQL's numbers", postgresql_numbers), ("PostgreSQL's dumps", postgresql_dumps),
+              ("PostgreSQL", postgresql), ("PostgreSQL's settings", postgresql_settings), ("PostgreSQL's numbers", postgresql_numbers), ("PostgreSQL's languages", postgresql_languages), ("PostgreSQL's settings of languages", postgresql_language_settings),
+              ("PostgreSQL's sessions with languages", postgresql_language_sessions), ("PostgreSQL's dumps with languages", postgresql_language_dumps), ("PostgreSQL's dumps", postgresql_dumps),
               ("PostgreSQL's replication", postgresql_replication), ("PostgreSQL's changes", postgresql_changes), ("PostgreSQL's roles", postgresql_roles),
               ("PostgreSQL's owners", postgresql_owners), ("PostgreSQL's traps", postgresql_traps), ("PostgreSQL's dependents", postgresql_dependents), ("PostgreSQL's columns", postgresql_columns), ("PostgreSQL's compact keys", postgresql_compact),
               ("PostgreSQL's checks", postgresql_checks), ("PostgreSQL's books", postgresql_books), ("PostgreSQL's upgrades", postgresql_upgrades), ("PostgreSQL's files of upgrades", postgresql_upgrade_files),
-              ("PostgreSQL on the page", postgresql_page), ("PostgreSQL's upgrade on the page", postgresql_upgrade_page),
+              ("languages on the page", language_page(program)), ("PostgreSQL on the page", postgresql_page), ("PostgreSQL's upgrade on the page", postgresql_upgrade_page),
               ("PostgreSQL's upgrade in one transaction", postgresql_one_transaction), ("PostgreSQL's orders", postgresql_like(program))]
     tried = {"C": c_words, "Python": python_words, "SQLite": sqlite_words, "PostgreSQL": postgresql_words}
     checks += [(f"100,000 words in {name}", over_unicode(program, it)) for name, it in tried.items()]

@@ -27,6 +27,9 @@ import sys
 import tempfile
 
 TOP = os.path.dirname(os.path.dirname(os.path.dirname(os.path.realpath(__file__))))
+sys.path.append(f"{TOP}/tests")
+from helps import without_help
+
 NEEDS, WANTS = [], []
 FILES = ["table.txt", "data.txt", "rules.txt"]
 NOBODY = 65534
@@ -113,7 +116,8 @@ class Cases:
             before = room.files()
             streams = {key: value(room) if callable(value) else value for key, value in streams.items()}
             ran = room.run([it.replace("HERE", folder) for it in arguments], prepare, **streams)
-            wrong = [] if (ran.returncode, ran.stdout or b"", ran.stderr or b"") == end else [f"ended with {ran.returncode}, {ran.stdout!r}, {ran.stderr!r}"]
+            told = without_help((ran.stderr or b"").decode("utf-8", "replace")).encode()
+            wrong = [] if (ran.returncode, ran.stdout or b"", told) == end else [f"ended with {ran.returncode}, {ran.stdout!r}, {ran.stderr!r}"]
             wrong += self.differences(before, room.files(), changed or {})
             if late:
                 late(room)

@@ -30,6 +30,9 @@ import subprocess
 import sys
 import tempfile
 
+sys.path.append(os.path.dirname(os.path.dirname(os.path.realpath(__file__))))
+from helps import without_help
+
 FILES = ("table.txt", "data.txt", "rules.txt", "tailored.txt", "certificate.txt", "lines.txt")
 BYTES = (0x00, 0x09, 0x0A, 0x0D, 0x20, 0x23, 0x26, 0x27, 0x2A, 0x2D, 0x2E, 0x2F, 0x30, 0x3B, 0x3C, 0x3D, 0x40, 0x46, 0x5B, 0x5C, 0x5D, 0x7A, 0x80, 0xC3, 0xFF)
 KINDS = "[A-Za-z0-9]+( [A-Za-z]+)*( at [0-9]+)?"
@@ -179,7 +182,7 @@ def lines_of(content):
 
 def fault_complaint(name, contents, words, done):
     """Why a run over a changed file may not end with this line on standard error, or None."""
-    said = done.stderr.decode("utf-8", "replace")
+    said = without_help(done.stderr.decode("utf-8", "replace"))
     if done.returncode != 1 or not said.endswith("\n") or said.count("\n") != 1:
         return "status %d: %r" % (done.returncode, said)
     plan = re.fullmatch("tailor( relation ([0-9]+))?: (%s)\n" % "|".join(PLANS), said)
@@ -251,7 +254,7 @@ def file_complaint(name, contents, words, done):
 
 def word_complaint(words, done):
     """Why a line of arguments may not end so, or None."""
-    said = done.stderr.decode("utf-8", "replace")
+    said = without_help(done.stderr.decode("utf-8", "replace"))
     status = done.returncode
     if not all(is_utf8(word) for word in words):
         goes = status == 4 and said == "memory\n" and not done.stdout

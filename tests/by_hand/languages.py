@@ -48,8 +48,8 @@ PAGE = f"{TOP}/docs/LANGUAGES.md"
 BEGIN, END = "<!-- made by tests/by_hand/languages.py -->", "<!-- end -->"
 QUICK = ["da", "de-u-co-phonebk", "el", "ja", "ko", "my", "sv", "und-u-co-eor", "zh", "el-u-kf-upper", "en-u-kr-grek-digit"]
 # Tags with settings, and of other languages and regions.
-SETTINGS = ["da-u-kf-false", "el-u-kf-upper", "en-u-ka-shifted", "en-u-kf-lower", "en-u-kr-grek-digit", "ja-u-kr-latn-kana", "ru-u-kf-upper"]
-SETTINGS += ["ja-u-kf-lower", "ja-u-kf-upper", "sv-u-kf-upper", "und-u-kr-zzzz-latn-symbol", "vi-u-kf-lower", "yue", "zh-Hant-TW", "zh-u-kr-latn-hani"]
+SETTINGS = ["da-u-kf-false", "el-u-kf-upper", "en-u-ka-shifted", "en-u-kf-lower", "en-u-kr-grek-digit", "ja-u-kf-lower", "ja-u-kf-upper", "ja-u-kr-latn-kana"]
+SETTINGS += ["ru-u-kf-upper", "sv-u-kf-upper", "und-u-kr-zzzz-latn-symbol", "vi-u-kf-lower", "yue", "zh-Hant-TW", "zh-u-kr-latn-hani"]
 # Numbers by their values.
 DIGITS, NUMBERS = "0123456789", [f"{it}a" for it in (0, 1, 2, 9, 10, 19, 99, 100, 12_345_678, 123_456_789, 10**20, 10**20 + 1)]
 # An order with keys that begin with a digit.
@@ -342,7 +342,7 @@ def letters_stay(setup, folder, see):
     text = "".join(f"{it}\n" for it in Made(read_tag(LOCALES, "ru"), setup.table, setup.data, LOCALES).lines())
     new, certificate = languages.write(os.path.join(folder, "russian"), text), os.path.join(folder, "certificate")
     lines = [it for it in language_lines.real(LOCALES, "ru", 20_000) if re.fullmatch("[А-Яа-яЁё0-9 -]+", it)]
-    files = [setup.table, setup.data, new, setup.data]
+    files = [languages.with_setting(folder, text, setup.table), setup.data, new, setup.data]
     for what, words in (("keep Cyrl", [TOOL, "--uca", setup.uca, "keep", "Cyrl", *files[:3], certificate]), ("uca changes", [setup.uca, "changes", *files, certificate])):
         out, said = languages.run(words)
         changes = languages.write(os.path.join(folder, "changes"), out)

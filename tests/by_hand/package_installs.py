@@ -7,9 +7,10 @@ First prove and build the program and the library: `tools/build.py uca uca_c uca
 
 - `release`: packaging/release.py makes the same bytes twice: here, and in a copy of the repository at another place, with other times, another umask and another user's
   settings. All versions are one. Debian's lintian finds nothing but what LINTIAN_KNOWN says.
-- `debian`: the packages in a fresh Debian system, which mmdebstrap makes in a temporary folder. The program alone comes first, without a network. Then the others come
-  with what they need: C by pkg-config, Python with all tests of the module, SQLite, and a server of PostgreSQL. Each makes the keys of `uca keys`. README's first
-  example prints what README shows. After purging no file is left.
+- `debian`: the packages in a fresh Debian system, which mmdebstrap makes in a temporary folder. The program alone comes first, without a network. Then it comes by the
+  first screen of README, with what it recommends. Within a minute names are in the order of Polish, and then lines in those of Chinese and of German phone books. The
+  other packages come with what they need: C by pkg-config, Python with all tests of the module, SQLite, and a server of PostgreSQL. Each makes the keys of `uca keys`.
+  After purging no file is left.
 - `wheel`: the wheel in a virtual environment, without a network: all tests of the module, its licenses, its version and its tag.
 - `crate`: the crate for Rust, without a network: its tests, `cargo clippy`, the documentation, the programs of docs/BINDINGS.md, and two programs that use it.
 
@@ -22,10 +23,12 @@ import contextlib
 import glob
 import os
 import re
+import resource
 import shutil
 import subprocess
 import sys
 import tempfile
+import time
 import zipfile
 
 import packages
@@ -43,7 +46,11 @@ LINES = ["lines.txt", "words_danish.txt", "words_spanish.txt", "words_swedish.tx
 PACKAGES = ["uca", "libuca1", "libuca-dev", "python3-uca", "libsqlite3-mod-uca", "postgresql-15-uca"]
 MIRROR, SUITE = "http://deb.debian.org/debian", "bookworm"
 # what the use of the packages needs beside what they depend on
-USERS = ["gcc", "libc6-dev", "pkg-config", "sqlite3", "man-db", "unicode-data", "unicode-cldr-core"]
+USERS = ["gcc", "libc6-dev", "pkg-config", "sqlite3", "man-db"]
+
+# Lines in the order of a language. By pinyin these are bei, da and zhong. In German phone books ü is ue, and in dictionaries u.
+ORDERED = {"zh": ["北京", "大学", "中国"], "de-u-co-phonebk": ["Mueller", "Müller", "Muffel", "Muhr"], "de": ["Mueller", "Muffel", "Muhr", "Müller"]}
+MOST_SECONDS = 60
 
 # Tags of lintian that stay, and why.
 LINTIAN_KNOWN = {
@@ -166,6 +173,7 @@ def one_version(tests):
         "bindings/c/Makefile": re.search(r"^VERSION = (\S+)$", content(f"{TOP}/bindings/c/Makefile").decode(), re.M)[1],
         "the module": re.search(r'^__version__ = "(\S+)"$', content(f"{TOP}/bindings/python/uca/__init__.py").decode(), re.M)[1],
         "the crate": re.search(r'^version = "(\S+)"$', content(f"{TOP}/bindings/rust/Cargo.toml").decode(), re.M)[1],
+        "README.md": re.search(r"/uca_(\S+)-1_amd64\.deb$", content(f"{TOP}/README.md").decode(), re.M)[1],
         "CHANGELOG.md": re.search(r"^## (\d[^,\s]*)", content(f"{TOP}/CHANGELOG.md").decode(), re.M)[1],
         **{it: os.path.basename(tests.file(f"{it}_*.deb")).split("_")[1].rsplit("-", 1)[0] for it in PACKAGES},
     }
@@ -262,6 +270,7 @@ def program_in(system, tests):
         same(system.run(f"uca keys {FILES}", given=content(f"{EXAMPLES}/{name}")), tests.keys(name), f"keys of {name}")
     same(system.run("uca --version"), run([tests.program, "--version"]), "the version")
     system.run("cd /usr/share/doc/uca && uca check examples/table.txt examples/data.txt && test -x tools/unicode_files.py && test -f docs/FORMATS.md")
+    same(lost_links(f"{system.folder}/usr/share/doc/uca"), [], "links of pages that lead nowhere")
     same(system.run("bash -c '. /usr/share/bash-completion/completions/uca && complete -p uca'").decode().split()[-1], "uca", "the completion")
     holds(b".TH UCA 1" in system.run("zcat /usr/share/man/man1/uca.1.gz"), "the manual page")
     for name in ("zsh/vendor-completions/_uca", "fish/vendor_completions.d/uca.fish"):
@@ -310,27 +319,75 @@ def key_of(tests, text):
 
 
 def postgresql_in(system, tests):
-    settings = "shared_preload_libraries = 'uca'\nuca.table_file = '/test/examples/table.txt'\nuca.data_file = '/test/examples/data.txt'\n"
-    write(f"{system.folder}/etc/postgresql/15/main/conf.d/uca.conf", settings)
-    said = system.run(
-        "mkdir -p /run/postgresql && chown postgres:postgres /run/postgresql && pg_ctlcluster 15 main start && "
-        "su postgres -c \"psql -qAt -c 'CREATE EXTENSION uca' -c \\\"SELECT upper(encode(uca_key('ch'), 'hex'))\\\"\" && pg_ctlcluster 15 main stop"
-    )
-    same(said.decode().split(), [key_of(tests, "ch")], "what PostgreSQL prints")
-    os.remove(f"{system.folder}/etc/postgresql/15/main/conf.d/uca.conf")
+    settings = "uca.table_file = '/test/examples/table.txt'\nuca.data_file = '/test/examples/data.txt'\n"
+    said = by_server(system, settings, "CREATE EXTENSION uca; SELECT upper(encode(uca_key('ch'), 'hex')); DROP EXTENSION uca;")
+    same(said, [key_of(tests, "ch")], "what PostgreSQL prints")
+
+
+def by_server(system, settings, statements):
+    """The lines that psql prints, by a server with these settings."""
+    path = f"{system.folder}/etc/postgresql/15/main/conf.d/uca.conf"
+    write(path, f"shared_preload_libraries = 'uca'\n{settings}")
+    write(f"{system.folder}/test/statements.sql", statements)
+    start = "mkdir -p /run/postgresql && chown postgres:postgres /run/postgresql && pg_ctlcluster 15 main start"
+    said = system.run(f"{start} && su postgres -c 'psql -qAt -v ON_ERROR_STOP=1 -f /test/statements.sql' && pg_ctlcluster 15 main stop")
+    os.remove(path)
+    return said.decode().split()
+
+
+def by_language_in(system, _):
+    """The first examples of docs/BINDINGS.md: Chinese in two lines of Python, and a phone book in PostgreSQL by one statement."""
+    page = content(f"{TOP}/docs/BINDINGS.md").decode()
+    program, statements = (re.search(rf"^```{it}\n(.*?)^```", page, re.M | re.S)[1] for it in ("python language", "sql postgresql"))
+    write(f"{system.folder}/test/chinese.py", program)
+    same(system.run("python3 /test/chinese.py").decode().strip(), re.search(r"# (\[.*\])$", program, re.M)[1], "Chinese in Python")
+    system.run(re.search(r"^sudo (uca-files --into \S+ \S+)$", page, re.M)[1])
+    same(by_server(system, "", statements), re.findall(r"^-- (.*)$", statements, re.M), "a phone book in PostgreSQL")
+    # what an administrator made is no package's
+    system.run("rm -r /usr/local/share/uca")
 
 
 def manual_in(system, _):
-    holds(b"uca" in system.run("man -w uca") and b"NAME" in system.run("man uca"), "the manual page")
+    for name in ("uca", "uca-files"):
+        holds(name.encode() in system.run(f"man -w {name}") and b"NAME" in system.run(f"man {name}"), f"the manual page of {name}")
 
 
-def example_in(system, _):
-    """The first example of README, as it stands there: the scripts of the package make the tables, and the command sorts. Then Unicode's table is checked."""
+def lost_links(folder):
+    """The relative links and pictures of the pages in a folder that lead to no file there."""
+    found = []
+    for at, _, names in os.walk(folder):
+        for page in (f"{at}/{it}" for it in names if it.endswith(".md")):
+            links = re.findall(r"\]\(([^)#:\s]+)", content(page).decode())
+            found += [f"{page}: {it}" for it in links if not os.path.exists(f"{os.path.dirname(page)}/{it}")]
+    return found
+
+
+def processor_time():
+    """What the commands that this script ran have taken, in seconds."""
+    spent = resource.getrusage(resource.RUSAGE_CHILDREN)
+    return spent.ru_utime + spent.ru_stime
+
+
+def first_screen_in(system, _):
+    """The first screen of README, as it stands there: apt installs the package with what it recommends, and names are in order within a minute. What
+    counts is processor time, since other work on the machine may take longer. The time on the clock is printed."""
+    begun, spent = time.monotonic(), processor_time()
+    install = re.search(r"^sudo (apt install \./uca_\S+\.deb)$", content(f"{TOP}/README.md").decode(), re.M)[1]
+    system.run(f"cd /test/debs && {install} -y -q", network=True)
     commands = pages.commands_of("README.md", "console unicode")
-    script = "".join(f"{command}\n" for command, _ in commands)
-    said = system.run(f"mkdir /tmp/first && cd /tmp/first && ln -s /usr/share/doc/uca/tools tools\n{script}").decode()
+    said = system.run("mkdir /tmp/first && cd /tmp/first\n" + "".join(f"{command}\n" for command, _ in commands)).decode()
+    seconds, spent = time.monotonic() - begun, processor_time() - spent
     same(said, "".join(f"{output}\n" for _, output in commands if output), "what README's first example prints")
-    same(system.run("cd /tmp/first && uca check table.txt data.txt"), b"well-formed\n", "Unicode's table")
+    print(f"README's first screen took {seconds:.0f} s, and {spent:.0f} s of processor time", flush=True)
+    holds(spent < MOST_SECONDS, f"README's first screen took {spent:.0f} s of processor time")
+
+
+def languages_in(system, _):
+    """Chinese and German, by the same line with another tag, and without a network."""
+    for tag, lines in ORDERED.items():
+        said = system.run(f"uca sort $(uca-files {tag})", given="".join(f"{it}\n" for it in reversed(lines)).encode())
+        same(said.decode().split(), lines, f"the order of {tag}")
+    same(system.run("uca check $(uca-files und)"), b"well-formed\n", "the table of CLDR's root")
 
 
 def debian(tests):
@@ -342,13 +399,17 @@ def debian(tests):
     tests.check("uca", program_in, system, tests)
     tests.check("uca is purged", lambda: system.run("apt-get purge -y -q uca"))
     tests.check("nothing is left of uca", lambda: same(system.files(), before, "files"))
+    tests.check("README's first screen", first_screen_in, system, tests)
+    tests.check("README's words for other languages", languages_in, system, tests)
     debs = " ".join(f"/test/debs/{it}_*.deb" for it in PACKAGES)
     tests.check("all are installed", lambda: system.run(f"{install} {debs} {' '.join(USERS)}", network=True))
-    rows = {"library for C": library_in, "Python": python_in, "SQLite": sqlite_in, "PostgreSQL": postgresql_in, "manual page": manual_in, "README's example": example_in}
+    rows = {"library for C": library_in, "Python": python_in, "SQLite": sqlite_in, "PostgreSQL": postgresql_in, "languages by their tags": by_language_in}
+    rows["manual pages"] = manual_in
     for name, call in rows.items():
         tests.check(name, call, system, tests)
     tests.check("all are purged", lambda: system.run(f"apt-get purge -y -q {' '.join(PACKAGES)}"))
-    left = {it for it in system.files() - before if re.search(r"(^|[^a-z])(lib)?uca([^a-z]|$)", it)}
+    # CLDR has a folder `uca` of its own
+    left = {it for it in system.files() - before if re.search(r"(^|[^a-z])(lib)?uca([^a-z]|$)", it) and not it.startswith("/usr/share/unicode/")}
     tests.check("nothing is left of all", lambda: same(left, set(), "files"))
 
 

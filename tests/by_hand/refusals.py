@@ -14,7 +14,7 @@ those that a library of the kit (`unicode_normalization`, `clap`) takes by itsel
 - the Nth call fails that brings a file to the disk or gives it its name.
 
 N goes from 0 on until nothing is left that can fail, past 2,000 in steps of 97. One more run moves one byte in each read and write.
-These endings are allowed:
+These endings are allowed, but for the line of help, or as much of it as went out:
 
 - After a failed allocation: status 4 and one line that names memory, and perhaps a position that is there. As N rises, no position is
   in an earlier file or line. Or the ending is that without a failure: a list may ask again for less, or stay larger than it had to.
@@ -41,8 +41,11 @@ import subprocess
 import sys
 import tempfile
 
-NEEDS, WANTS = ["gcc"], []
 HERE = os.path.dirname(os.path.abspath(__file__))
+sys.path.append(os.path.dirname(HERE))
+from helps import without_help
+
+NEEDS, WANTS = ["gcc"], []
 EXAMPLES = os.path.join(os.path.dirname(os.path.dirname(HERE)), "examples")
 ROLES = {
     "check": ("table", "data"),
@@ -269,7 +272,7 @@ class Trials:
             kept = f"left {left}"
             os.remove(os.path.join(self.folder, left))
         self.runs += 1
-        return Ending(done.returncode, done.stdout, done.stderr.decode("utf-8", "replace"), kept), told
+        return Ending(done.returncode, done.stdout, without_help(done.stderr.decode("utf-8", "replace")), kept), told
 
     def see(self, holds, said):
         """Counts a check, and prints what is to say of it where it does not hold."""

@@ -15,7 +15,8 @@ from language_tables import FIRST
 from script_order import CASES
 
 LEVELS = 3
-LARGE_KANA = re.compile("(HALFWIDTH )?(HIRAGANA|KATAKANA) LETTER (?!SMALL)")  # counts as a capital (UTS #35 Part 5, section 3.14)
+# Large kana and narrow signs count as capitals (UTS #35 Part 5, section 3.14).
+CAPITALS = re.compile("HALFWIDTH (?!KATAKANA LETTER SMALL)|(HIRAGANA|KATAKANA) LETTER (?!SMALL)")
 
 
 class Text(NamedTuple):
@@ -42,9 +43,9 @@ class Counts(NamedTuple):
 
 
 def case_of_text(text):
-    """0 for capitals alone, 1 where some letters are capitals, 2 for all others. Marks do not count."""
-    letters = [it for it in text if it.isalpha()]
-    capitals = [it.isupper() or bool(LARGE_KANA.match(unicodedata.name(it, ""))) for it in letters]
+    """0 for capitals alone, 1 where some characters are capitals, 2 for all others. Marks do not count."""
+    letters = [it for it in text if not unicodedata.combining(it)]
+    capitals = [it.isupper() or bool(CAPITALS.match(unicodedata.name(it, ""))) for it in letters]
     return 2 if not any(capitals) else 0 if all(capitals) else 1
 
 
@@ -112,22 +113,24 @@ class Relations:
         if left is None or right is None:
             return "a prefix or an expansion is not there"
         level = next((it + 1 for it in range(LEVELS) if left[it] != right[it]), 0)
-        if level != said.strength:
+        if level != (LEVELS if self.are_apart(said) else said.strength):
             return f"they differ at level {level}"
         if level and (left > right) != self.is_above(said):
             return "they are the other way round"
         low, high = sorted((left, right))
-        is_single = all(len(it) <= 1 for it in left) and not said.target.expansion
+        is_single = all(len(it) <= 1 for it in left) and not said.target.expansion and not self.are_apart(said)
         if level and is_single and self.between(low, high, level):
             return "another character is between"
         return ""
 
+    def are_apart(self, said):
+        """Whether the case of the letters decides, and not the rule: then others may come between."""
+        return bool(self.first_case) and said.strength in (0, LEVELS) and case_of_text(said.anchor.text) != case_of_text(said.target.text)
+
     def is_above(self, said):
         """Whether the anchor comes after the target."""
-        cases = [case_of_text(it.text) for it in (said.anchor, said.target)]
-        if self.first_case and said.strength == LEVELS and cases[0] != cases[1]:
-            order = CASES[self.first_case]
-            return order.index(cases[0]) > order.index(cases[1])
+        if self.are_apart(said):
+            return CASES[self.first_case].index(case_of_text(said.anchor.text)) > CASES[self.first_case].index(case_of_text(said.target.text))
         return said.is_before
 
     def between(self, low, high, level):

@@ -34,6 +34,7 @@ TESTS = {
     "other_languages": [],
     "package_installs": [],
     "unicode_tables": [],
+    "uca_files": ["--read"],
     "languages": ["--quick"],
     "editions": [],
     "upgrades": [],

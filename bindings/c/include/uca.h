@@ -544,8 +544,9 @@ static inline uint32_t uca_open_upgrade_with(uca_upgrade *upgrade, uca_bytes old
 /* ---- Tables, certificates and their audits. These are calls of uca_run with the arguments of one command. They are in this header,
    so nothing is proved of them. Each returns 0 where the command did its work. It returns UCA_RUN_SMALL where the output or the
    file has more bytes than its room: call it again, with the room that the lengths say. Else it returns the status of uca_run.
-   Then the bytes at `err` are error lines as `uca` prints them, such as `rules byte 12: Utf8`, as many as there is room for. An
-   audit that rejects returns 1 with a verdict, and without error lines. The lengths are those of uca_run. */
+   Then the bytes at `err` are error lines as `uca` prints them, such as `rules byte 12: Utf8` and a line that begins with `help: `,
+   as many as there is room for. An audit that rejects returns 1 with a verdict, and without error lines. The lengths are those of
+   uca_run. */
 
 /* Memory of the caller for what is written. */
 typedef struct uca_room {

@@ -43,6 +43,9 @@ core 4E00..9FFF
 other 20000..20FFF
 """
 
+#: Its blank is a letter, unless another weighting is named.
+NON_IGNORABLE = TABLE.replace(b"@version 1\n", b"@version 1\n@variable non-ignorable\n")
+
 #: The letters a and b have cells of one weight, and so has the space.
 BOOK = b"""@book 1
 1 1C47
@@ -859,7 +862,9 @@ class Commands(unittest.TestCase):
     def test_run(self):
         known = {"t": TABLE, "d": DATA}
         self.assertEqual(uca.run(["sort", "t", "d"], known, b"b\na\n"), (0, b"a\nb\n", "", None))
-        self.assertEqual(uca.run(["sort", "t", "d"], {"t": TABLE}), (3, b"", "data: Open\n", None))
+        missing = uca.run(["sort", "t", "d"], {"t": TABLE})
+        self.assertEqual(missing._replace(errors=missing.errors.split("\n")[0]), (3, b"", "data: Open", None))
+        self.assertTrue(missing.errors.startswith("data: Open\nhelp: d: "))
         self.assertTrue(uca.run(["--version"], {}).output.startswith(b"uca 0.1.0 "))
         self.assertEqual(uca.run(["tailor", "t", "d", "r", "any"], {"t": LETTERS, "d": DATA, "r": RULES}), (0, TAILORED, "", PLAN))
         self.assertEqual(uca.run([], {}).status, uca.run(["none"], {}).status)
@@ -1372,6 +1377,127 @@ threading.Thread(target=lambda: [kept.collator.key("a" * 1000) for _ in range(10
         for before in 3 * ["", WITHOUT_LOCK]:
             run = ran(before + program)
             self.assertEqual((run.returncode, run.stdout, run.stderr), (0, b"", b""))
+
+
+class OfLanguage(uca.Collator):
+    """A subclass with the arguments of the class."""
+
+
+#: A command in the place of uca-files. It keeps its arguments, and does what the tests write into the file "script".
+STAND_IN = """#!/bin/sh
+for it; do echo "$it"; done > "${0%/*}/arguments"
+. "${0%/*}/script"
+"""
+
+
+class Languages(unittest.TestCase):
+    def setUp(self):
+        folder = tempfile.TemporaryDirectory(prefix="a b ")
+        self.addCleanup(folder.cleanup)
+        self.folder = folder.name
+        for name, content in [("table.txt", NON_IGNORABLE), ("data.txt", DATA), ("book.txt", BOOK), ("uca-files", STAND_IN.encode())]:
+            with open(self.path(name), "wb") as it:
+                it.write(content)
+        os.chmod(self.path("uca-files"), 0o755)
+        self.set_files("table.txt", "data.txt")
+        changed = unittest.mock.patch.dict(os.environ, {"UCA_FILES": self.path("uca-files")})
+        changed.start()
+        self.addCleanup(changed.stop)
+
+    def path(self, name):
+        return os.path.join(self.folder, name)
+
+    def set_script(self, script):
+        with open(self.path("script"), "w", encoding="utf-8") as it:
+            it.write(script)
+
+    def set_files(self, *names):
+        self.set_script("".join(f"printf '%s\\n' '{self.path(it)}'\n" for it in names))
+
+    def given(self):
+        """The arguments of the command, or none if it was not run."""
+        if not os.path.exists(self.path("arguments")):
+            return None
+        with open(self.path("arguments"), encoding="utf-8") as it:
+            return it.read().split("\n")[:-1]
+
+    def check_error(self, wanted, *tag, **settings):
+        with self.assertRaisesRegex(uca.LanguageError, wanted) as caught:
+            uca.Collator.of_language(*tag or ("pl",), **settings)
+        self.assertEqual((caught.exception.tag, caught.exception.message), ((tag or ("pl",))[0], str(caught.exception)))
+        self.assertEqual(repr(copy.copy(caught.exception)), repr(caught.exception))
+
+    def test_weightings(self):
+        for weighting, wanted in [(None, "0209 0000 0020 0000 0002"), ("shifted", "0000 0000 0000 0209")]:
+            with uca.Collator.of_language("pl", weighting=weighting) as collator:
+                self.assertEqual(collator.key(" "), hexadecimal(wanted))
+            self.assertEqual(self.given(), ["pl"])
+        with uca.Collator.of_language("pl") as collator, uca.Collator(NON_IGNORABLE, DATA) as wanted:
+            self.assertEqual(collator.fingerprint, wanted.fingerprint)
+
+    def test_settings(self):
+        self.set_files("table.txt", "data.txt", "book.txt")
+        with uca.Collator.of_language("de-u-co-phonebk", book=True, edition="15.0.0-cldr41") as collator:
+            self.assertEqual(collator.key("a"), b"\x0a\x03")
+            kept = collator.fingerprint
+        self.assertEqual(self.given(), ["--book", "--edition=15.0.0-cldr41", "de-u-co-phonebk"])
+        uca.Collator.of_language("pl", book=True, fingerprint=kept).close()
+        self.assertRaises(uca.FingerprintError, uca.Collator.of_language, "pl", book=True, weighting="shifted", fingerprint=kept)
+        self.set_files("table.txt", "data.txt")
+        self.assertRaises(uca.FingerprintError, uca.Collator.of_language, "pl", fingerprint=kept)
+        self.assertRaises(uca.DigitsError, uca.Collator.of_language, "pl", numeric=True)
+        with uca.Collator.of_language("pl", identical=True) as collator:
+            self.assertEqual(collator.key("a"), hexadecimal("1C47 0000 0020 0000 0002 0000 000061"))
+
+    def test_errors_of_the_command(self):
+        self.set_script("echo 'zz is no language' >&2; exit 1")
+        self.check_error("^zz is no language$", "zz")
+        self.set_script("exit 3")
+        self.check_error("ended with the status 3$")
+        for script in ["", "echo /a", "echo a; echo b", "printf '/a\\n/b\\n/c\\n'"]:
+            self.set_script(script)
+            self.check_error("did not print the 2 paths of a language$")
+        self.set_files("table.txt", "data.txt")
+        self.check_error("did not print the 3 paths of a language$", book=True)
+        self.set_files("table.txt", "none.txt")
+        self.assertRaises(FileNotFoundError, uca.Collator.of_language, "pl")
+        self.set_files("data.txt", "table.txt")
+        self.assertRaises(uca.FileError, uca.Collator.of_language, "pl")
+
+    def test_commands_that_are_not_there(self):
+        with unittest.mock.patch.dict(os.environ, {"UCA_FILES": self.path("none")}):
+            self.check_error("^the command .*none is not run .*: install it, or name it in UCA_FILES$")
+        with unittest.mock.patch.dict(os.environ, {"UCA_FILES": self.path("table.txt")}):
+            self.check_error("Permission denied")
+        with unittest.mock.patch.dict(os.environ, {"UCA_FILES": "", "PATH": self.folder}):
+            self.set_script("echo 'found by its name' >&2; exit 1")
+            self.check_error("^found by its name$")
+
+    def test_what_is_no_tag(self):
+        for tag in ["", "-pl", "--list", "--into=/", "../pl", "a/b", "a.b", "a b", "pl\n", "pl\0", "$(touch arguments)", "ł", "pl;id", "\ud800"]:
+            self.check_error("is no tag of a language", tag)
+        for tag in [None, b"pl", 1, ["pl"]]:
+            self.assertRaises(TypeError, uca.Collator.of_language, tag)
+        self.assertRaises(TypeError, uca.Collator.of_language, "pl", book="book.txt")
+        self.assertRaises(TypeError, uca.Collator.of_language, "pl", edition=15)
+        self.assertRaises(TypeError, uca.Collator.of_language, "pl", "shifted")
+        self.assertIsNone(self.given())
+        self.check_error("is not run", edition="a\0b")
+
+    def test_what_the_command_says(self):
+        with open(self.path("script"), "a", encoding="utf-8") as it:
+            it.write("echo 'eu has no rules of its own' >&2\n")
+        with self.assertWarnsRegex(uca.LanguageWarning, "^eu has no rules of its own$") as caught:
+            uca.Collator.of_language("eu").close()
+        self.assertEqual(caught.filename, __file__)
+
+    def test_copies_run_no_command(self):
+        with OfLanguage.of_language("pl") as collator:
+            self.assertIs(type(collator), OfLanguage)
+            os.remove(self.path("uca-files"))
+            for it in copies(collator):
+                self.assertEqual((it.key("a b"), it.fingerprint), (collator.key("a b"), collator.fingerprint))
+                it.close()
 
 
 class Fingerprints(unittest.TestCase):

@@ -1,7 +1,9 @@
 """Unicode collation (UTS #10): sort keys and comparison over a weight table and a data file.
 
-    with uca.Collator("allkeys.txt", "data.txt") as collator:
+    with uca.Collator.of_language("zh") as collator:
         words.sort(key=collator.key)
+
+The command ``uca-files`` finds the files of a language. Or name your own: Collator("allkeys.txt", "data.txt").
 
 With a book, keys are compact: Collator("allkeys.txt", "data.txt", book="general.book"). With numeric=True, numbers are
 ordered by their values: "Band 2" comes before "Band 10". After a new edition of the table, an Upgrade says which stored
@@ -18,10 +20,12 @@ import ctypes
 import operator
 import os
 import re
+import subprocess
 import sys
 import sysconfig
 import threading
 import types
+import warnings
 from typing import Any, Callable, Dict, List, Mapping, NamedTuple, Optional, Sequence, Set, Tuple, Type, TypeVar, Union
 
 __all__ = [
@@ -35,6 +39,8 @@ __all__ = [
     "FileError",
     "FingerprintError",
     "KeyRange",
+    "LanguageError",
+    "LanguageWarning",
     "NoBookError",
     "Run",
     "StoredKeyError",
@@ -208,12 +214,30 @@ class CommandError(UcaError, ValueError):
     def __init__(self, status: int, message: str) -> None:
         #: its status, from 1 on, as docs/MESSAGES.md has them
         self.status = status
-        #: its error lines, as it prints them: "rules byte 5: EmptyText"
+        #: its error lines, as it prints them but for the line of help: "rules byte 5: EmptyText"
         self.message = message
         super().__init__(status, message)
 
     def __str__(self) -> str:
         return self.message
+
+
+class LanguageError(UcaError, ValueError):
+    """The command ``uca-files`` has no files of a language."""
+
+    def __init__(self, tag: str, message: str) -> None:
+        #: the tag that was asked for
+        self.tag = tag
+        #: the sentence of the command, or why it was not run
+        self.message = message
+        super().__init__(tag, message)
+
+    def __str__(self) -> str:
+        return self.message
+
+
+class LanguageWarning(UserWarning):
+    """What the command ``uca-files`` says of a language whose files it has: that its order is the root's."""
 
 
 class Run(NamedTuple):
@@ -689,7 +713,7 @@ def run(arguments: Sequence[str], files: Mapping[str, File], lines: Bytes = b"")
 def _done(ended: Run, most: int) -> Run:
     """What a command did. A status above `most` is an error, and so is one with error lines."""
     if ended.status > most or ended.errors:
-        raise CommandError(ended.status, ended.errors.rstrip("\n"))
+        raise CommandError(ended.status, ended.errors.partition("\nhelp: ")[0].rstrip("\n"))
     return ended
 
 
@@ -733,6 +757,31 @@ def audit_changes(old_table: File, old_data: File, new_table: File, new_data: Fi
     return Verdict(ended.status == 0, ended.output.decode().rstrip("\n"))
 
 
+def _language_paths(tag: str, edition: Optional[str], book: bool) -> List[str]:
+    """The paths that ``uca-files`` prints for a language: the table, the data file, and the book if it is wanted."""
+    if not isinstance(tag, str) or not isinstance(edition, (str, type(None))):
+        raise TypeError("the tag and the edition of a language are texts")
+    if not isinstance(book, bool):
+        raise TypeError("book is True or False")
+    if not re.fullmatch("[A-Za-z0-9][A-Za-z0-9_-]*", tag):
+        raise LanguageError(tag, f"{tag!r} is no tag of a language: a tag has letters, digits and hyphens")
+    program = os.environ.get("UCA_FILES") or "uca-files"
+    words = [program, *(["--book"] if book else []), *([f"--edition={edition}"] if edition is not None else []), tag]
+    try:
+        ran = subprocess.run(words, stdin=subprocess.DEVNULL, stdout=subprocess.PIPE, stderr=subprocess.PIPE, check=False)
+    except (OSError, ValueError) as error:
+        raise LanguageError(tag, f"the command {program} is not run ({error}): install it, or name it in UCA_FILES") from error
+    said = ran.stderr.decode(errors="replace").strip()
+    if ran.returncode:
+        raise LanguageError(tag, said or f"the command {program} ended with the status {ran.returncode}")
+    paths = os.fsdecode(ran.stdout).splitlines()
+    if len(paths) != 2 + book or not all(map(os.path.isabs, paths)):
+        raise LanguageError(tag, f"the command {program} did not print the {2 + book} paths of a language")
+    if said:
+        warnings.warn(said, LanguageWarning, stacklevel=3)
+    return paths
+
+
 class Collator:
     """A table and a data file, by which texts get their sort keys and are compared. With a book, keys are compact.
 
@@ -768,6 +817,32 @@ class Collator:
         the table does not order numbers that are to be; :class:`FingerprintError` if the fingerprint is another one; MemoryError.
         """
         self._open(table, data, weighting, identical, fingerprint, book, numeric)
+
+    @classmethod
+    def of_language(
+        cls: Type[_Self],
+        tag: str,
+        *,
+        weighting: Optional[str] = None,
+        identical: bool = False,
+        numeric: bool = False,
+        book: bool = False,
+        edition: Optional[str] = None,
+        fingerprint: str = _UNCHECKED,
+    ) -> _Self:
+        """A collator of a language, such as "pl", "zh" or "de-u-co-phonebk": of the files whose paths ``uca-files`` prints.
+
+        The command is the program that the environment's UCA_FILES names, or else ``uca-files``. It keeps what it has made, so
+        the order stays the same. ``edition`` asks for one of several editions that are kept. With ``book``, keys are compact by
+        the book of the language. The other arguments are those of the constructor. Without ``weighting`` it is that of the
+        language. A copy of the collator is opened by the paths, and runs no command.
+
+        Raises :class:`LanguageError` if there are no files of the language, with the sentence of the command, and what the
+        constructor raises. A sentence of a command that has files is a :class:`LanguageWarning`.
+        """
+        table, data, *books = _language_paths(tag, edition, book)
+        settings = {"numeric": numeric, "book": books[0] if books else None, "fingerprint": fingerprint}
+        return cls(table, data, weighting, identical, **settings)
 
     def _open(
         self,

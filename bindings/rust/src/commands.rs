@@ -54,7 +54,7 @@ pub enum CommandError {
     Ended {
         /// Its status, from 1 on.
         status: u32,
-        /// Its error lines, such as `rules byte 5: EmptyText`.
+        /// Its error lines but for the line of help, such as `rules byte 5: EmptyText`.
         message: String,
     },
     /// No command ran: there are more than six files, or a name or an argument has a NUL.
@@ -213,7 +213,8 @@ pub fn run(arguments: &[&str], files: &[(&str, &[u8])], lines: &[u8]) -> Result<
 /// What a command did. A status above `most` is an error, and so is one with error lines.
 fn done(ended: Run, most: u32) -> Result<Run, CommandError> {
     if ended.status > most || !ended.errors.is_empty() {
-        return Err(CommandError::Ended { status: ended.status, message: ended.errors.trim_end().into() });
+        let message = ended.errors.split("\nhelp: ").next().unwrap_or_default();
+        return Err(CommandError::Ended { status: ended.status, message: message.trim_end().into() });
     }
     Ok(ended)
 }

@@ -16,7 +16,7 @@
 //! ```
 //!
 //! A program reads the table and the data file by [`std::fs::read`]. The table is Unicode's `allkeys.txt`, or that of
-//! a language. The page `docs/UNICODE.md` of the repository says how both files are made.
+//! a language. [`Collator::of_language`] takes the tag of a language, and has the command `uca-files` find its files.
 //!
 //! **Keep the fingerprint beside stored keys.** It names the files and the settings that keys are made by. Give it
 //! back each time that you open the files for these keys ([`Options::fingerprint`]): other files or settings are an
@@ -30,7 +30,7 @@
 //!
 //! **What is proved.** The library for C that does the work has contracts, which are proved: for every table and
 //! text, its calls do what `uca.h` says. Nothing is proved of this crate, which is a small layer over these calls.
-//! Its tests are `tests/keys.rs`, `tests/upgrades.rs` and `tests/commands.rs`, and `tests/header.rs` in the
+//! Its tests are `tests/keys.rs`, `tests/upgrades.rs`, `tests/commands.rs` and `tests/languages.rs`, and `tests/header.rs` in the
 //! repository.
 //!
 //! **Processors and systems.** The library is made for `x86_64-unknown-linux-gnu`, and for any processor of x86-64.
@@ -39,6 +39,7 @@ mod collator;
 mod commands;
 mod errors;
 mod fingerprint;
+mod language;
 mod opening;
 mod room;
 mod sorting;
@@ -49,6 +50,7 @@ pub use collator::{compare_keys, Collator, Comparison, RangeOf};
 pub use commands::{audit, audit_changes, find_changes, run, tailor, Changes, CommandError, Run, Tailoring, Verdict};
 pub use errors::{File, FileErrorKind, OpenError, RejectedText, StoredKeyError, TextError};
 pub use fingerprint::{Fingerprint, NoFingerprint};
+pub use language::{Language, LanguageError};
 pub use opening::{Depth, Numbers, Options, Weighting};
 pub use upgrade::{Upgrade, UpgradeFiles, UpgradeOptions};
 pub use upgrade_errors::{Condition, Place, UpgradeError, UpgradeFile};

@@ -62,7 +62,7 @@ fn runs() {
         (0, &b"a\nb\n"[..], "", None)
     );
     let missing = run(&["sort", "t", "d"], &files[..1], b"").unwrap();
-    assert_eq!((missing.status, missing.errors.as_str()), (3, "data: Open\n"));
+    assert_eq!((missing.status, missing.errors.lines().next()), (3, Some("data: Open")));
     assert_eq!(run(&["a\0b"], &[], b""), Err(CommandError::Argument));
     assert_eq!(run(&["x"], &[("a", &b""[..]); 7], b""), Err(CommandError::Argument));
     let lines = b"ab\n".repeat(30_000);

@@ -1,6 +1,6 @@
 //! `changes`: which files are opened, when the certificate's file is made, kept or removed, and what is printed after it.
 
-use crate::fakes::{Around, Disk, End, Files, WHOLE, check_around};
+use crate::fakes::{Around, Disk, End, Files, UNKEPT, UNWRITTEN, WHOLE, check_around};
 use std::alloc::Global;
 use std::test::Fail;
 use test_kit::{DATA, Failure, Pace, TABLE, holds};
@@ -86,7 +86,7 @@ const CASES: &[Case<'static>] = &[
         end: End {
             status: 3,
             out: "",
-            err: "certificate: Write\n",
+            err: UNKEPT,
             opened: 4,
         },
         makes: true,
@@ -100,7 +100,7 @@ const CASES: &[Case<'static>] = &[
         end: End {
             status: 3,
             out: "@changes 1\n",
-            err: "output: Write\n",
+            err: UNWRITTEN,
             opened: 4,
         },
         makes: true,
@@ -114,7 +114,8 @@ const CASES: &[Case<'static>] = &[
         end: End {
             status: 1,
             out: "",
-            err: "changes: NewIllFormed new row 2\n",
+            err: "changes: NewIllFormed new row 2\n\
+                help: uca check says which row is not well-formed. docs/UNICODE.md mends Unicode's table\n",
             opened: 4,
         },
         makes: false,
@@ -128,7 +129,7 @@ const CASES: &[Case<'static>] = &[
         end: End {
             status: 3,
             out: "",
-            err: "new: Open\n",
+            err: "new: Open\nhelp: new.txt: no such file can be opened\n",
             opened: 2,
         },
         makes: false,
@@ -142,7 +143,8 @@ const CASES: &[Case<'static>] = &[
         end: End {
             status: 2,
             out: "",
-            err: "certificate: SameAs new\n",
+            err: "certificate: SameAs new\n\
+                help: new.txt: this command reads it. Give the certificate another name\n",
             opened: 0,
         },
         makes: false,

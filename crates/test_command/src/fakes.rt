@@ -320,6 +320,14 @@ pub struct End<'a> {
     pub opened: u32,
 }
 
+/// What is said where standard output fails.
+pub const UNWRITTEN: &str = "output: Write\n\
+    help: is the disk full, or did what reads the output end early, such as head?\n";
+
+/// What is said where the file `certificate.txt` cannot be made, written or kept.
+pub const UNKEPT: &str = "certificate: Write\n\
+    help: certificate.txt: check its folder, your rights and the disk\n";
+
 /// A standard stream that does not fail, and moves seven bytes a call at most.
 pub const WHOLE: Pace = Pace {
     step: 7,

@@ -1,6 +1,6 @@
 //! Standard input, standard output and standard error that fail after each number of bytes.
 
-use crate::fakes::{Around, Disk, End, Files, WHOLE, check_around};
+use crate::fakes::{Around, Disk, End, Files, UNWRITTEN, WHOLE, check_around};
 use std::alloc::Global;
 use std::io::ErrorKind;
 use std::test::Fail;
@@ -55,15 +55,27 @@ fn check_input(
     Ok(())
 }
 
+/// What is said where a read of line 1 of standard input fails.
+const UNREAD_1: &str =
+    "input line 1: Read\nhelp: give standard input a file or a pipe, such as < lines.txt\n";
+
+/// And of line 2.
+const UNREAD_2: &str =
+    "input line 2: Read\nhelp: give standard input a file or a pipe, such as < lines.txt\n";
+
+/// And of line 3.
+const UNREAD_3: &str =
+    "input line 3: Read\nhelp: give standard input a file or a pipe, such as < lines.txt\n";
+
 /// What has gone out, and what is said, where the input of `keys` fails after no bytes, after one, and so on.
 const CUT_KEYS: [(&str, &str); 5] = [
-    ("", "input line 1: Read\n"),
-    ("", "input line 1: Read\n"),
-    ("1C60 0000 0020 0000 0002\n", "input line 2: Read\n"),
-    ("1C60 0000 0020 0000 0002\n", "input line 2: Read\n"),
+    ("", UNREAD_1),
+    ("", UNREAD_1),
+    ("1C60 0000 0020 0000 0002\n", UNREAD_2),
+    ("1C60 0000 0020 0000 0002\n", UNREAD_2),
     (
         "1C60 0000 0020 0000 0002\n1C47 0000 0020 0000 0002\n",
-        "input line 3: Read\n",
+        UNREAD_3,
     ),
 ];
 
@@ -116,7 +128,7 @@ fn end_of(status: u8, out: &'static str, err: &'static str, opened: u32) -> End<
 #[test]
 fn standard_output_that_fails(rt: HostRuntime) -> Result<(), Fail> {
     let whole = end_of(0, "a\nb\n", "", 2);
-    let cut = end_of(3, "", "output: Write\n", 2);
+    let cut = end_of(3, "", UNWRITTEN, 2);
     check_output(rt.alloc(), SORT, &whole, &cut)
 }
 
@@ -163,6 +175,10 @@ fn check_error(alloc: Global, words: &str, whole: &End) -> Result<(), Fail> {
     Ok(())
 }
 
+/// What is said if the table of `sort` does not open.
+const NO_TABLE: &str = "table: Open\n\
+    help: missing.txt: no such file can be opened. For a language write $(uca-files TAG), such as $(uca-files pl)\n";
+
 /// What is said if the second argument of `keys` is missing.
 const NO_DATA: &str = "error: the following required arguments were not provided:\n\
     \x20 <DATA>\n\
@@ -174,7 +190,7 @@ const NO_DATA: &str = "error: the following required arguments were not provided
 
 #[test]
 fn standard_error_that_fails(rt: HostRuntime) -> Result<(), Fail> {
-    let unopened = end_of(3, "", "table: Open\n", 0);
+    let unopened = end_of(3, "", NO_TABLE, 0);
     check_error(rt.alloc(), "sort,missing.txt,data.txt", &unopened)?;
     check_error(rt.alloc(), "keys,t", &end_of(2, "", NO_DATA, 0))
 }

@@ -1,6 +1,6 @@
 //! `tailor` where the file of the certificate cannot be made, written or kept, or standard output fails.
 
-use crate::fakes::{Around, Disk, End, Fails, Files, WHOLE, check_around};
+use crate::fakes::{Around, Disk, End, Fails, Files, UNKEPT, UNWRITTEN, WHOLE, check_around};
 use std::alloc::Global;
 use std::io::ErrorKind;
 use std::test::Fail;
@@ -12,6 +12,9 @@ const WORDS: &str = "tailor,allkeys.txt,data.txt,rules.txt,certificate.txt";
 /// The bytes of the certificate's file before, which are more than those of each certificate.
 const OLD: &str = "1 0001 0001 0001\n1 0002 0002 0001\n1 0003 0003 0001\n1 0004 0004 0001\n\
     1 0005 0005 0001\n1 0006 0006 0001\n1 0007 0007 0001\n1 0008 0008 0001\n1 0009 0009 0001\n";
+
+/// What is said where an allocation fails.
+const MEMORY: &str = "memory\nhelp: give the program more memory, or a smaller input\n";
 
 /// The certificate of a tailoring of the table of the fakes that moves no weight.
 const UNMOVED: &str = "1 0209 0209 0001\n\
@@ -69,7 +72,7 @@ fn check_full(alloc: Global, room: usize) -> Result<(), Fail> {
     let end = End {
         status: 3,
         out: "",
-        err: "certificate: Write\n",
+        err: UNKEPT,
         opened: 3,
     };
     let checked = check_disk(
@@ -117,10 +120,10 @@ fn check_unmade(alloc: Global, fails: Fails, (status, err): (u8, &str)) -> Resul
 #[test]
 fn certificates_that_cannot_be_made_or_kept(rt: HostRuntime) -> Result<(), Fail> {
     let alloc = rt.alloc();
-    let written = (3, "certificate: Write\n");
+    let written = (3, UNKEPT);
     check_unmade(alloc, Fails::Making(MakeFault::Write), written)?;
     check_unmade(alloc, Fails::Keeping(MakeFault::Write), written)?;
-    let memory = (4, "memory\n");
+    let memory = (4, MEMORY);
     check_unmade(alloc, Fails::Making(MakeFault::Memory), memory)?;
     check_unmade(alloc, Fails::Keeping(MakeFault::Memory), memory)
 }
@@ -132,7 +135,7 @@ fn check_cut(alloc: Global, pace: Pace, out: &str) -> Result<(), Fail> {
     let end = End {
         status: 3,
         out,
-        err: "output: Write\n",
+        err: UNWRITTEN,
         opened: 3,
     };
     let checked = check_disk(

@@ -10,7 +10,7 @@ use std::test::Fail;
 use test_kit::{DATA, NUMBER_TABLE, data_of, holds, repeated, same_bytes, table_of};
 use uca_key_writer::KeyMemory;
 use uca_match::{Collator, Lookup, Trie};
-use uca_number_keys::{UnorderedDigits, check_numbers, check_table_for};
+use uca_number_keys::{UnorderedDigits, check_numbers};
 use uca_table::read_packed_table;
 use uca_text::TextFault;
 use uca_text_comparer::{PairFault, TextComparison};
@@ -272,12 +272,9 @@ const TABLES: [(&str, &str, Option<u32>); 9] = [
 fn check_table(alloc: Global, file: &str, data: &str, wanted: Option<u32>) -> Result<(), Fail> {
     let table = read_packed_table(alloc, &mut Source::new(file.as_bytes()))?;
     let data = data_of(alloc, &mut Source::new(data.as_bytes()))?;
-    let found = check_numbers(&table, &data).err();
+    let found = check_numbers(Numbers::ByValue, &table, &data).err();
     holds(found == wanted.map(|row| UnorderedDigits { row }), file)?;
-    holds(
-        check_table_for(Numbers::AsText, &table, &data).is_ok(),
-        file,
-    )
+    holds(check_numbers(Numbers::AsText, &table, &data).is_ok(), file)
 }
 
 #[test]

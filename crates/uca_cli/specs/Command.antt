@@ -57,6 +57,7 @@ use Rattle.uca_book_runs.specs.BookRun.{PrintsBookImage}
 use Rattle.uca_host.specs.NamedFiles.{FileSystem, NamedFile, file_for, table_and_data, tailor_files, affected_files, audit_files, edition_files, change_files, AreOpened, DoesNotOpen, AreOthers, IsFirstSame, KeepsCertificate}
 use Rattle.uca_tailor_runs.specs.AuditRun.{Audits}
 use Rattle.uca_tailor_runs.specs.TailorRun.{TailorsFiles}
+use Rattle.uca_host.specs.Help.{Helps}
 use Rattle.uca_host.specs.Reports.{Reports}
 use Rattle.uca_host.specs.Statuses.{IsStatus}
 
@@ -419,11 +420,11 @@ DoesWords files old new (Book words) start end result =
 DoesWords files old new (Fingerprint words) start end result =
     (end.input ≡ start.input) × DoesFingerprint files old new words start.out end.out result
 
--- how the command ends after a run: with its status, or with what its error reports
+-- how the command ends after a run: with its status, or with what its error reports, and perhaps a line of help after it
 abbrev pub EndsWith : Result ℕ RunFault → ℕ → SinkState → SinkState → SinkState → SinkState → Type 0
 EndsWith (Ok done) status out out_new err err_new = (status ≡ done) × (out_new ≡ out) × (err_new ≡ err)
-EndsWith (Err fault) status out out_new err err_new =
-    IsStatus fault status × Reports fault status out out_new err err_new
+EndsWith (Err fault) status out out_new err err_new = (told : SinkState)
+    × IsStatus fault status × Reports fault status out out_new err told × Helps told err_new
 
 -- The arguments are rejected, and nothing is opened or read; or what they say is done. `err` is standard error.
 abbrev pub DoesCommand : {O F M : Type 0} → FileSystem O F M → O → O → List (List ℕ) → Streams → Streams

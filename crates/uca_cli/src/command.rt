@@ -18,7 +18,7 @@ use uca_certificates::Certificate;
 use uca_change_runs::run_affected_by_changes;
 use uca_host::files::keeping::{find_certificate, keep_certificate};
 use uca_host::files::opening::{open_audit_files, open_files, open_three, open_two};
-use uca_host::{Opens, report};
+use uca_host::{Opens, report, write_help};
 use uca_key_runs::{
     run_compare_in, run_headed_keys, run_headed_lines, run_keyed_lines, run_keys_in, run_sort_in,
 };
@@ -373,10 +373,12 @@ fn run_words<O: Opens, I: Read, W: Write>(
     }
 }
 
-// The status that the command ends with after a run. It reports an error.
+// The status that the command ends with after a run. It reports an error, and says what to do. The arguments, if they
+// are known, name the files.
 fn status_of<W: Write, E: Write>(
     alloc: Global,
     run: Result<u8, RunFault>,
+    asked: Option<&Words>,
     out: &mut Sink<W>,
     err: &mut Sink<E>,
 ) -> u8
@@ -386,6 +388,7 @@ fn status_of<W: Write, E: Write>(
         Ok(status) => status,
         Err(fault) => {
             let status = report(alloc, &fault, out, err);
+            write_help(alloc, &fault, asked, err);
             drop(fault);
             status
         }
@@ -394,8 +397,8 @@ fn status_of<W: Write, E: Write>(
 
 /// Runs a command line, whose first argument is the program's name, and returns the exit status. It reads the
 /// arguments, opens all files that they name, in the order of the arguments, and then runs over them. It reports an
-/// error. If it rejects the arguments, it opens and reads nothing. It does the same if `tailor` or `changes` is to write
-/// the certificate over a file that it reads. No other command makes a file.
+/// error, and says in a line after it what to do. If it rejects the arguments, it opens and reads nothing. It does the
+/// same if `tailor` or `changes` is to write the certificate over a file that it reads. No other command makes a file.
 pub fn run_command<'a, O: Opens, I: Read, W: Write, E: Write>(
     alloc: Global,
     opener: &mut O,
@@ -410,8 +413,8 @@ pub fn run_command<'a, O: Opens, I: Read, W: Write, E: Write>(
     match read_words(alloc, words) {
         Ok(asked) => {
             let run = run_words(alloc, opener, &asked, input, out);
-            status_of(alloc, run, out, err)
+            status_of(alloc, run, Some(&asked), out, err)
         }
-        Err(fault) => status_of(alloc, Err(RunFault::Words(fault)), out, err),
+        Err(fault) => status_of(alloc, Err(RunFault::Words(fault)), None, out, err),
     }
 }

@@ -2,3 +2,4 @@ pub mod FileCalls
 pub mod NamedFiles
 pub mod Statuses
 pub mod Reports
+pub mod Help

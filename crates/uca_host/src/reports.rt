@@ -128,7 +128,7 @@ fn is_asked_for(kind: ErrorKind) -> bool
 }
 
 // Writes a text. An error of the writer changes nothing: there is nowhere to report it.
-fn show<W: Write>(text: &[u8], sink: &mut Sink<W>)
+pub(crate) fn show<W: Write>(text: &[u8], sink: &mut Sink<W>)
     ensures { GoesOut sink.old sink.new text.now }
 {
     let _ = sink.write_all(text);

@@ -29,11 +29,14 @@ without read_of before line false true text a b c none = let never : Some TooLon
 without read_of before line false false false a b c none = let never : Some Utf8 ≡ None = rw (a, b, c) at none in cc
 without read_of before line false false true a b c none = (IsUtf8-from_is_utf8 line c, rw (a, b, c) at none)
 
+-- it is UTF-8
+pub clean_utf8 : (read_of : List ℕ → NfdText) (before : ℕ) (line : List ℕ) → cause_of read_of before line ≡ None → IsUtf8 line
+clean_utf8 read_of before line none = (without read_of before line _ _ _ refl refl refl none).0
+
 -- its code points in Normalization Form D
 pub line_scalars : (read_of : List ℕ → NfdText) (before : ℕ) (line : List ℕ) → cause_of read_of before line ≡ None → AllByRecursion IsScalar (nfd (chars line))
 line_scalars read_of before line none =
-    let parts = without read_of before line _ _ _ refl refl refl none in
-    each_nfd_scalar (chars line) (scalars-chars line parts.0)
+    each_nfd_scalar (chars line) (scalars-chars line (clean_utf8 read_of before line none))
 
 -- and the test of its text
 within : (text : NfdText) (long : Bool) → nat_lt 1048576 (length text.points) ≡ long → text_cause text ≡ None →

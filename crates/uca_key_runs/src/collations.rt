@@ -17,7 +17,7 @@ use std::alloc::{Allocator, Global};
 use std::io::Read;
 use uca_elements::Lookup;
 use uca_match::{OwnedCollation, Trie};
-use uca_number_keys::check_table_for;
+use uca_number_keys::check_numbers;
 use uca_order::laws::rows_are_short;
 use uca_run_parts::RunFault;
 use uca_values::{Data, Header, PackedTable};
@@ -77,7 +77,7 @@ pub(crate) fn collation_of<A: Allocator + Copy>(
     ensures short { IfOk result (λ read. HasShortRows (owned_collation read.collation).rows) }
     ensures refused { IfErr result (IsNoCollation asked (table_with table (properties_of properties))) }
 {
-    if let Err(fault) = check_table_for(asked.numbers, &table, &properties) {
+    if let Err(fault) = check_numbers(asked.numbers, &table, &properties) {
         drop(table);
         drop(properties);
         return Err(RunFault::Digits { row: fault.row });

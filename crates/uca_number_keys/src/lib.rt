@@ -11,4 +11,4 @@
 pub mod laws;
 mod tables;
 
-pub use tables::{UnorderedDigits, check_numbers, check_rows_for, check_table_for};
+pub use tables::{UnorderedDigits, check_number_rows, check_numbers};

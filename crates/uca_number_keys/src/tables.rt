@@ -1,13 +1,13 @@
 //! Whether numbers are ordered by value under a table, and which row is to blame if they are not.
 
-ghost use Rattle.std.specs.Prelude.{◌≡◌, ◌≢◌, ◌↔◌, ◌+◌, ◌-◌, ℕ, ◌<◌, ◌≤◌, List, ◌∷◌, [], length, IsTrue, IsOk, IfErr, OnOk, MatchOption, slice_index, slice_index_or};
+ghost use Rattle.std.specs.Prelude.{◌≡◌, ◌≢◌, ◌↔◌, ◌+◌, ◌-◌, ℕ, ◌<◌, ◌≤◌, List, ◌∷◌, [], length, IsTrue, IfErr, OnOk, MatchOption, slice_index, slice_index_or};
 ghost use Rattle.std.specs.List.{AllByRecursion};
 ghost use Rattle.uca_values.specs.Content.{Entry, HeaderContent, properties_of};
 ghost use Rattle.uca_elements.specs.Rows.{rows_of};
 ghost use Rattle.uca_elements.specs.Collations.{collation_under};
 ghost use Rattle.uca_numbers.specs.Numbers.{IsDigit};
 ghost use Rattle.uca_numbers.specs.Texts.{has_digit};
-ghost use Rattle.uca_number_keys.specs.Tables.{OrdersNumbers, SharesDigit, IsToBlame, TakesTable, RefusesTable, digit_weight};
+ghost use Rattle.uca_number_keys.specs.Tables.{SharesDigit, IsToBlame, TakesTable, RefusesTable, digit_weight};
 ghost use Rattle.uca_number_keys.specs.inside.Checks.{AreOrdered, IsFound};
 
 use std::alloc::Allocator;
@@ -24,34 +24,16 @@ pub struct UnorderedDigits {
     pub row: u32,
 }
 
-/// Tests that numbers are ordered by value under a table and a data file. Each digit, U+0030 to U+0039, has a row of one
-/// element that is not variable. Their primary weights rise, and are not zero. No other key has a digit, and the data
-/// file gives digits no combining class. It goes over the rows twice, and allocates no memory.
+/// Tests a table and a data file for what is asked for. If numbers are to be ordered by value, they have to order them:
+/// each digit, U+0030 to U+0039, has a row of one element that is not variable. Their primary weights rise, and are not
+/// zero. No other key has a digit, and the data file gives digits no combining class. As text, numbers need no such table.
+/// It goes over the rows twice, and allocates no memory.
 ///
 /// # Errors
 ///
-/// If one of these is not so, the row to blame. Its key has a digit, and is not this digit alone. Or else it is the first
-/// digit that has a combining class, or no primary weight above that of the digit before.
+/// The row to blame. Its key has a digit, and is not this digit alone. Or else it is the first digit that has a combining
+/// class, or no primary weight above that of the digit before.
 pub fn check_numbers<A: Allocator, B: Allocator>(
-    table: &PackedTable<A>,
-    properties: &Data<B>,
-) -> Result<(), UnorderedDigits>
-    ensures ordered { IsOk result ↔ OrdersNumbers (collation_under table.now (properties_of properties.now)) }
-    ensures blamed { IfErr result (λ fault. IsToBlame (properties_of properties.now) table.now.rows fault.row) }
-{
-    match row_to_blame(&table.rows, properties) {
-        None => Ok(()),
-        Some(row) => Err(UnorderedDigits { row }),
-    }
-}
-
-/// Tests a table for what is asked for: `check_numbers` if numbers are to be ordered by value. As text they need no such
-/// table.
-///
-/// # Errors
-///
-/// The row to blame, as `check_numbers` says it.
-pub fn check_table_for<A: Allocator, B: Allocator>(
     numbers: Numbers,
     table: &PackedTable<A>,
     properties: &Data<B>,
@@ -59,15 +41,15 @@ pub fn check_table_for<A: Allocator, B: Allocator>(
     ensures taken { OnOk result (TakesTable numbers table.now (properties_of properties.now)) }
     ensures rejected { IfErr result (λ fault. RefusesTable numbers table.now (properties_of properties.now) fault.row) }
 {
-    check_rows_for(numbers, &table.rows, properties)
+    check_number_rows(numbers, &table.rows, properties)
 }
 
-/// As `check_table_for`, for the rows of a table with any header.
+/// As [`check_numbers`], for the rows of a table with any header.
 ///
 /// # Errors
 ///
-/// The row to blame, as `check_numbers` says it.
-pub fn check_rows_for<A: Allocator, B: Allocator>(
+/// The row to blame, as [`check_numbers`] says it.
+pub fn check_number_rows<A: Allocator, B: Allocator>(
     numbers: Numbers,
     rows: &PackedRows<A>,
     properties: &Data<B>,

@@ -15,7 +15,7 @@ use std::alloc::{AllocError, Global};
 use std::sync::Arc;
 use uca_key_writer::KeyMemory;
 use uca_match::{OwnedCollation, Trie};
-use uca_number_keys::check_table_for;
+use uca_number_keys::check_numbers;
 use uca_order::laws::rows_are_short;
 use uca_text_comparer::TextComparison;
 use uca_values::{Data, Header, PackedTable, Table};
@@ -118,7 +118,7 @@ impl OwnedCollator {
             Ok(properties) => properties,
             Err(fault) => return Err(OpenFault::Data(fault)),
         };
-        match check_table_for(asked.numbers, &read, &properties) {
+        match check_numbers(asked.numbers, &read, &properties) {
             Ok(()) => match packed_collator(alloc, read, properties, asked) {
                 Ok(collator) => Ok(collator),
                 Err(_) => Err(OpenFault::Memory),

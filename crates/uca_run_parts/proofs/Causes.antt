@@ -44,7 +44,7 @@ long_run text place few run = rw (le-ltb 1048576 (length text.points) few, first
 pub refused_text : (read_of : List ℕ → NfdText) (before : ℕ) (line : List ℕ) (fault : TextFault) → before < 1000000 → length line ≤ 4194304 → IsUtf8 line → IsCause (read_of line) fault → HasTextCause read_of before line (text_kind fault)
 refused_text read_of before line text_fault.TooLong h short text cause = text_cause_of read_of before line h short text ∙ too_many_points (read_of line) cause
 refused_text read_of before line (text_fault.LongRun place) h short text cause = text_cause_of read_of before line h short text ∙ long_run (read_of line) place cause.0 cause.1
-refused_text read_of before line text_fault.Memory h short text cause = cause
+refused_text read_of before line text_fault.Memory h short text cause = text
 
 pub clean_text : (read_of : List ℕ → NfdText) (before : ℕ) (line : List ℕ) → before < 1000000 → length line ≤ 4194304 → IsUtf8 line → IsAccepted (read_of line) → cause_of read_of before line ≡ None
 clean_text read_of before line h short text accepted = text_cause_of read_of before line h short text ∙ accepted_text (read_of line) accepted

@@ -159,13 +159,26 @@ known_line_error read_of (Some bytes) (Some xs) new unread before line fault aft
   cause = line_cause read_of bytes xs new unread before line fault after says within lacks short read;
 }
 
+known_error : (read_of : List ℕ → NfdText) (start left unread : Option (List ℕ)) (before : List (List ℕ)) (line : List ℕ) (is_cut : Bool) (kind : InputKind)
+    → OnKnown start left (λ bytes rest. IsNext read_of bytes rest is_cut before line) → ((bytes rest : List ℕ) → HasCause read_of bytes unread before (line ∷ lines_of rest) kind)
+    → IfSome start (λ bytes. IsInputFault read_of bytes unread before (suc (length before)) kind)
+known_error read_of None left unread before line is_cut kind next cause = tt
+known_error read_of (Some bytes) None unread before line is_cut kind next cause = absurd next
+known_error read_of (Some bytes) (Some rest) unread before line is_cut kind next cause =
+    next_error read_of bytes rest unread before line is_cut kind next (cause bytes rest)
+
 pub known_text_error : (read_of : List ℕ → NfdText) (start left unread : Option (List ℕ)) (before : List (List ℕ)) (line : List ℕ) (is_cut : Bool) (kind : InputKind)
     → OnKnown start left (λ bytes rest. IsNext read_of bytes rest is_cut before line) → HasTextCause read_of (length before) line kind
     → IfSome start (λ bytes. IsInputFault read_of bytes unread before (suc (length before)) kind)
-known_text_error read_of None left unread before line is_cut kind next cause = tt
-known_text_error read_of (Some bytes) None unread before line is_cut kind next cause = absurd next
-known_text_error read_of (Some bytes) (Some rest) unread before line is_cut kind next cause =
-    next_error read_of bytes rest unread before line is_cut kind next (text_error read_of bytes unread before line (lines_of rest) kind cause)
+known_text_error read_of start left unread before line is_cut kind next cause =
+    known_error read_of start left unread before line is_cut kind next (λ bytes rest. text_error read_of bytes unread before line (lines_of rest) kind cause)
+
+-- memory may run out at any line that was read
+pub known_memory : (read_of : List ℕ → NfdText) (start left unread : Option (List ℕ)) (before : List (List ℕ)) (line : List ℕ) (is_cut : Bool)
+    → OnKnown start left (λ bytes rest. IsNext read_of bytes rest is_cut before line)
+    → IfSome start (λ bytes. IsInputFault read_of bytes unread before (suc (length before)) Memory)
+known_memory read_of start left unread before line is_cut next =
+    known_error read_of start left unread before line is_cut Memory next (λ bytes rest. λ none. cc)
 
 pub known_clean : (read_of : List ℕ → NfdText) (start left : Option (List ℕ)) (before : List (List ℕ)) (line : List ℕ) (is_cut : Bool)
     → OnKnown start left (λ bytes rest. IsNext read_of bytes rest is_cut before line) → cause_of read_of (length before) line ≡ None

@@ -13,7 +13,7 @@ use Rattle.uca_run_parts.specs.declared.faults.InputKind.TheVariants.{Memory}
 use Rattle.uca_run_parts.specs.Input.{cause_of}
 use Rattle.uca_run_parts.specs.LinesSoFar.{IsAfter, IsNext, OnKnown}
 use Rattle.uca_run_parts.specs.Texts.{LinesState, HasRead, HasLine, HasCleanLine, HasNoText, HasTextCause, line_kind}
-use Rattle.uca_run_parts.proofs.LinesSoFar.{known_ended, known_cut, known_line_error, known_text_error, known_clean}
+use Rattle.uca_run_parts.proofs.LinesSoFar.{known_ended, known_cut, known_line_error, known_text_error, known_memory, known_clean}
 
 -- ---- The next line
 
@@ -63,5 +63,6 @@ module _ (read_of : List ℕ → NfdText) (start : Option (List ℕ)) (before : 
       after = known_clean read_of start (left_of lines.reader input) before lines.line lines.is_cut line.next clean;
       count = line.count ∙ sym (length-append before (lines.line ∷ []));
     };
-    memory = no_text lines.reader.number Memory line.count tt;
+    memory = subst (λ n. HasNoText read_of start before input n Memory) (sym (line.count ∙ add-one (length before)))
+        (known_memory read_of start (left_of lines.reader input) input.remaining before lines.line lines.is_cut line.next);
   }

@@ -1,6 +1,7 @@
 -- The lines of an input. Contracts of the parts of runs cite this, and no contract of a whole run: no promise of a run
 -- rests on it.
-use Rattle.std.specs.Prelude.{◌≡◌, ℕ, ◌+◌, Bool, false, MatchBool, List, [], ◌∷◌, ◌++◌, Option, Some, Result, Ok, Err, IfSome, length, ⊤}
+use Rattle.std.specs.Prelude.{◌≡◌, ℕ, ◌+◌, Bool, false, MatchBool, List, [], ◌∷◌, ◌++◌, Option, Some, Result, Ok, Err, IfSome, length}
+use Rattle.std.specs.Str.{IsUtf8}
 use Rattle.uca_weights.specs.Streams.{SourceState}
 use Rattle.uca_text.specs.Texts.{NfdText}
 use Rattle.uca_text.specs.declared.normalize.TextFault.{TextFault}
@@ -30,14 +31,14 @@ text_kind text_fault.TooLong = TooLong
 text_kind (text_fault.LongRun place) = LongRun place
 text_kind text_fault.Memory = Memory
 
--- the cause for which a line after this many others has no text; an allocation may fail at any line
+-- The cause for which a line after this many others has no text. Only a line that is UTF-8 takes memory for its text.
 abbrev pub HasTextCause : (List ℕ → NfdText) → ℕ → List ℕ → InputKind → Type 0
 HasTextCause read_of before line Utf8 = cause_of read_of before line ≡ Some Utf8
 HasTextCause read_of before line TooLong = cause_of read_of before line ≡ Some TooLong
 HasTextCause read_of before line (LongRun place) = cause_of read_of before line ≡ Some (LongRun place)
 HasTextCause read_of before line Limit = ⊥
 HasTextCause read_of before line Read = ⊥
-HasTextCause read_of before line Memory = ⊤
+HasTextCause read_of before line Memory = IsUtf8 line
 
 -- whether the error is the reader's
 abbrev pub is_read : {A : Type 0} → Result A InputKind → Bool

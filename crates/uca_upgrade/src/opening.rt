@@ -20,7 +20,7 @@ use uca_change_runs::{ChangeFiles, ChangeIndex, Edition, EditionFiles, Listed, a
 use uca_editions::ChangeFault;
 use uca_fingerprint::fingerprint;
 use uca_images::KeyMover;
-use uca_number_keys::check_rows_for;
+use uca_number_keys::check_number_rows;
 use uca_numbers::WrittenText;
 use uca_owned::OpenFault;
 use uca_text::Normal;
@@ -88,7 +88,7 @@ fn check_edition(alloc: Global, numbers: Numbers, edition: &Edition) -> Result<(
     let Ok(rows) = PackedRows::of_rows(alloc, &table.rows) else {
         return Err(OpenFault::Memory);
     };
-    match check_rows_for(numbers, &rows, &edition.properties) {
+    match check_number_rows(numbers, &rows, &edition.properties) {
         Ok(()) => Ok(()),
         Err(fault) => Err(OpenFault::Digits { row: fault.row }),
     }

@@ -10,7 +10,7 @@ use Rattle.uca_key_writer.specs.Writers.{collation_by}
 use Rattle.uca_key_runs.specs.Keys.{keying_of_writer}
 use Rattle.uca_key_runs.specs.inside.KeyForms.{IsFor, book_of, shown_at, shown_of}
 use Rattle.uca_key_runs.proofs.Keyings.{same_parts}
-use Rattle.uca_key_runs.proofs.NormalLines.{line_scalars}
+use Rattle.uca_key_runs.proofs.NormalLines.{clean_utf8, line_scalars}
 use Rattle.uca_key_runs.proofs.ShownKeys.{same_book, shown_is_short}
 use Rattle.uca_key_runs.proofs.keys.make_shown_key.Goals as goal
 
@@ -42,3 +42,7 @@ returns-in-Ok-compact_shown-clause-short g c =
     subst (λ (k : List ℕ). length k < 2 ^ 41) (sym (returns-in-Ok-compact_shown-clause-shown g c))
     (shown_is_short (book_of c.args.compacting.now) key.settings.depth key.settings.weighting text
     (subst (λ (k : List ℕ). length k < 2 ^ 40) whole (c.in-Ok.ensures.short rows)))
+
+pub returns-in-Err-compact_shown-clause-fault : goal.returns-in-Err-compact_shown-clause-fault
+returns-in-Err-compact_shown-clause-fault g c = λ before few.
+    clean_utf8 (text_of (keying_of_writer g.L.Lookup.content c.make_compact_key.new.key)) before c.args.lines.now.line (c.in-Ok.ensures.clean before few)

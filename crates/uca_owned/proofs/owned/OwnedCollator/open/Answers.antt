@@ -17,9 +17,9 @@ returns-in-Err-clause-only c meant properties mean = c.in-Err.ensures.only meant
 pub returns-in-Err-data_of-clause-only : goal.returns-in-Err-data_of-clause-only
 returns-in-Err-data_of-clause-only c meant properties mean = c.in-Err-data_of.ensures.only properties mean.data_file
 
-pub returns-in-Err-check_table_for-clause-only : goal.returns-in-Err-check_table_for-clause-only
-returns-in-Err-check_table_for-clause-only c meant properties mean =
+pub returns-in-Err-check_numbers-clause-only : goal.returns-in-Err-check_numbers-clause-only
+returns-in-Err-check_numbers-clause-only c meant properties mean =
     let table_same = c.in-Ok.ensures.only meant mean.table_file in
     let data_same = c.in-Ok-data_of.ensures.only properties mean.data_file in
-    subst₂ (λ (t : TableContent) (p : Properties). RefusesTable c.args.asked.numbers t p c.in-Err-check_table_for.fault.row) table_same data_same
-    c.in-Err-check_table_for.ensures.rejected
+    subst₂ (λ (t : TableContent) (p : Properties). RefusesTable c.args.asked.numbers t p c.in-Err-check_numbers.fault.row) table_same data_same
+    c.in-Err-check_numbers.ensures.rejected

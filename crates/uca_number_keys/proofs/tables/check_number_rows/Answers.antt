@@ -1,6 +1,6 @@
 use Rattle.uca_values.specs.Content.{properties_of}
 use Rattle.uca_number_keys.proofs.TableChecks.{orders_from, unordered_by}
-use Rattle.uca_number_keys.proofs.tables.check_rows_for.Goals as goal
+use Rattle.uca_number_keys.proofs.tables.check_number_rows.Goals as goal
 
 pub returns-in-None-clause-taken : goal.returns-in-None-clause-taken
 returns-in-None-clause-taken g c = λ header is.
