@@ -96,8 +96,10 @@ static char *list_of(List *names)
     ListCell *it;
 
     initStringInfo(&text);
-    foreach(it, names)
-        appendStringInfo(&text, "%s%s", text.len > 0 ? ", " : "", (char *) lfirst(it));
+    foreach(it, names) {
+        appendStringInfoString(&text, text.len > 0 ? ", " : "");
+        appendStringInfoString(&text, lfirst(it));
+    }
     return text.data;
 }
 

@@ -9,6 +9,7 @@
    fails, and how many runs there were. The status is 1 if one failed. */
 #define _GNU_SOURCE
 #include <dlfcn.h>
+#include <errno.h>
 #include <sqlite3.h>
 #include <stdio.h>
 #include <string.h>
@@ -42,7 +43,11 @@ static const struct { const char *first, *statement, *last; int added; } COMPARI
 static int fails(void)
 {
     asked++;
-    return is_short && first_failing <= asked && asked <= last_failing;
+    int is_failing = is_short && first_failing <= asked && asked <= last_failing;
+    if (is_failing) {
+        errno = ENOMEM; /* as scandir reads it */
+    }
+    return is_failing;
 }
 
 void *malloc(size_t size)

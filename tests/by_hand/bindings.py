@@ -1403,7 +1403,8 @@ def postgresql(work):
         same(says(f"{used} {written}", fails=True), OTHER_FILES, "another fingerprint in the same transaction")
         same(says(f"{used} COMMIT; INSERT INTO words VALUES ('b'); SELECT word FROM words ORDER BY uca_key(word);"),
              "a\ná\nb\nc-h\nch\n", "files that are used from now on")
-        says("ALTER EXTENSION uca DROP FUNCTION uca_use_files(boolean); DROP FUNCTION uca_use_files(boolean);"
+        changers = ("uca_use_files(boolean)", "uca_use_language(text, text, boolean, boolean)", "uca_change_files(text, boolean)")
+        says("".join(f"ALTER EXTENSION uca DROP FUNCTION {it}; DROP FUNCTION {it};" for it in changers) +
              "ALTER TABLE uca_files ALTER fingerprint TYPE bytea USING decode(fingerprint, 'hex');")
         same(says("SELECT uca_key('a');", fails=True), "ERROR:  uca: this database has the extension of an earlier version", "a table that was made before")
 
@@ -1726,12 +1727,6 @@ def language_page(program):
             run([*made_by, tag], env=environment)
         said = run([sys.executable, "-W", "error", "-c", blocks["python"]], env=environment).decode()
         same(said.splitlines(), re.findall(r"# (\S.*)", blocks["python"]), "the page's program in Python")
-        with open(f"{work}/language.c", "w", encoding="utf-8") as it:
-            it.write(blocks["c"])
-        run(["gcc", *FLAGS, *SANITIZERS, "-o", f"{work}/language", it.name, f"{C}/out/libuca.a"])
-        paths = run([*made_by, "pl"], env=environment).decode().split()
-        same(run([f"{work}/language", *paths]).decode().splitlines(), re.findall(r"/\* (.*?) \*/", blocks["c"]), "the page's program in C")
-        same(subprocess.run([f"{work}/language"], capture_output=True).returncode, 1, "the page's program in C without files")
         keys_of_language(work, program, environment, made_by)
         with language_server(work) as (server, says, folder):
             shutil.rmtree(folder)
@@ -1759,8 +1754,9 @@ def keys_of_language(work, program, environment, made_by):
             words = [program, "keys", *(["--weighting", weighting] if weighting else []), *paths]
             program_of_keys = (f"import sys, uca\ncollator = uca.Collator.of_language({tag!r}, weighting={weighting!r})\n"
                                "for it in sys.stdin.buffer.read().removesuffix(b'\\n').split(b'\\n'): print(collator.key(it).hex().upper())")
-            found = run([sys.executable, "-c", program_of_keys], input=lines, env=environment)
-            same(found, run(words, input=lines), f"keys of {tag}, {weighting}")
+            wanted = run(words, input=lines)
+            same(run([sys.executable, "-c", program_of_keys], input=lines, env=environment), wanted.replace(b" ", b""), f"keys of {tag}, {weighting}, in Python")
+            same(run([f"{C}/out/keys", *paths, *([weighting] if weighting else [])], input=lines), wanted, f"keys of {tag}, {weighting}, in C")
 
 
 def named(fingerprint):

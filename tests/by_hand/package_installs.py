@@ -532,9 +532,10 @@ def crate_page(tests):
             cargo(tests, *words[1:], cwd=folder)
         else:
             run(words, cwd=folder)
-    for program in programs:
+    files = {"UCA_FILES": f"{TOP}/tools/uca_files.py", "XDG_DATA_HOME": f"{tests.work}/home"}
+    for program in [*programs, *re.findall(r"```rust language\n(.*?)```", page, re.S)]:
         write(f"{folder}/src/main.rs", program)
-        said = cargo(tests, "run", "-q", "--offline", cwd=folder).decode()
+        said = cargo(tests, "run", "-q", "--offline", cwd=folder, **files).decode()
         same(said.splitlines(), re.findall(r"// (\S.*)", program), "what a program of the page prints")
 
 

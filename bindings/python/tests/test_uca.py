@@ -1438,7 +1438,7 @@ class Languages(unittest.TestCase):
     def test_settings(self):
         self.set_files("table.txt", "data.txt", "book.txt")
         with uca.Collator.of_language("de-u-co-phonebk", book=True, edition="15.0.0-cldr41") as collator:
-            self.assertEqual(collator.key("a"), b"\x0a\x03")
+            self.assertEqual(collator.key("a"), b"\x08\x02")
             kept = collator.fingerprint
         self.assertEqual(self.given(), ["--book", "--edition=15.0.0-cldr41", "de-u-co-phonebk"])
         uca.Collator.of_language("pl", book=True, fingerprint=kept).close()
