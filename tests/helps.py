@@ -41,7 +41,7 @@ MEMORY = "give the program more memory, or a smaller input"
 INPUT = "give standard input a file or a pipe, such as < lines.txt"
 TOO_LONG = "split the text: it has at most 1,048,576 code points, an input line 4,194,304 bytes"
 LONG_RUN = "look for damaged text there: at most 64 combining marks come in a row"
-IS_BEGUN = "Is it another file, is it empty, or does it begin with a byte order mark?"
+IS_BEGUN = "Is it another file, is it empty, or does it have CR LF or a byte order mark?"
 ILL_FORMED = "uca check says which row is not well-formed. docs/UNICODE.md mends Unicode's table"
 
 # The line of an error, and what is said after it. {name} is the name of the file, and {read_as} what it is read as.
@@ -50,7 +50,7 @@ HELPS = [
     (r"(?:input line \d+|left|right): LongRun at \d+", LONG_RUN),
     (r"input line \d+: Read", INPUT),
     (r"input line \d+: Limit", "split the input: it has at most 1,000,000 lines. examples/databases/sort_parts.sh sorts more"),
-    (r"input line \d+: NoKey", r"a key is pairs of upper-case hexadecimal digits, up to the first tab, without \x"),
+    (r"input line \d+: NoKey", r"a key is pairs of upper-case hexadecimal digits, up to the first tab, without \x. A header begins with # and needs --from or --to"),
     (r"input line \d+: NoImage", "if the key was made with this --weighting and --identical, make it again from its text"),
     (r"input line \d+: OtherKey", "give --weighting and --identical as they were when the keys were made"),
     (r"input line \d+: NoCompactKey", "give the book, --weighting and --identical by which the keys were compacted"),
@@ -61,13 +61,13 @@ HELPS = [
     (r"(?P<role>[\w-]+) line \d+: Line", r"{read_as} Is it another file? Each line ends in LF, the last one too. tr -d '\r' removes CR"),
     (r"(?P<role>[\w-]+) line \d+: CodePoint", "{name}: a code point is four to six upper-case hexadecimal digits, such as 0061"),
     (r"(?P<role>(?:old-|new-)?data) line \d+: Weight", "{name}: a class is a number from 1 to 254. Leave out a line of class 0"),
-    (r"(?P<role>[\w-]+) line \d+: Weight", "{name}: a weight is four upper-case hexadecimal digits, such as 1C47"),
+    (r"(?P<role>[\w-]+) line \d+: Weight", "{name}: an element has three weights of four upper-case hexadecimal digits: [.1C47.0020.0002]"),
     (r"(?P<role>[\w-]+) line \d+: DuplicateKey", "{name}: an earlier row has the same code points: delete one of the two"),
     (r"(?P<role>[\w-]+) line \d+: Range", "{name}: a range is not empty and overlaps no other: docs/FORMATS.md has more"),
     (r"(?P<role>[\w-]+) line \d+: Limit", "{name}: it is too large, or this line is: docs/FORMATS.md has the limits"),
     (r"(?P<role>[\w-]+)(?: line \d+)?: Read", "{name}: is it a folder? It cannot be read"),
-    (r"(?P<role>rules) byte 0: Syntax", "{read_as} " + IS_BEGUN),
-    (r"rules byte \d+: Syntax", "quote punctuation and blanks, as in '!' or 'ice cream'. Write & or a sign such as < before each text"),
+    (r"(?P<role>rules) byte 0: Syntax", "{read_as} Settings such as [import de] are not read. Is it another file, or does it begin with a byte order mark?"),
+    (r"rules byte \d+: Syntax", "uca reads no |, no <<<< and no brackets but [before 1] to [before 3]. Quote punctuation and blanks, as in 'ice cream'. Write & or a sign such as < before each text"),
     (r"rules byte \d+: EmptyText", "write the text after &, a sign or /. Or take the blank out of a sign: <<<, not << <"),
     (r"rules byte \d+: Escape", r"write all digits: \u and four of them, as in \u00E9, or \U and eight"),
     (r"rules byte \d+: BeforeStrength", "after [before 1] the first sign is <, after [before 2] <<, and after [before 3] <<<"),
@@ -79,11 +79,11 @@ HELPS = [
     (r"output: Write", "is the disk full, or did what reads the output end early, such as head?"),
     (r"(?P<role>certificate): Write", "{name}: check its folder, your rights and the disk"),
     (r"certificate: SameAs (?P<role>[\w-]+)", "{name}: this command reads it. Give the certificate another name"),
-    (r"(?P<role>table|data): Open", "{name}: no such file can be opened. For a language write $(uca-files TAG), such as $(uca-files pl)"),
-    (r"(?P<role>rules): Open", "{name}: no such file can be opened. RULES is the name of a file, not the rules"),
-    (r"(?P<role>[\w-]+): Open", "{name}: no such file can be opened"),
+    (r"(?P<role>table|data): Open", "{name}: there is no such file, or you may not read it. For a language write $(uca-files TAG), such as $(uca-files pl)"),
+    (r"(?P<role>rules): Open", "{name}: there is no such file, or you may not read it. RULES is the name of a file, not the rules"),
+    (r"(?P<role>[\w-]+): Open", "{name}: there is no such file, or you may not read it"),
     (r"tailor: BaseIllFormed|changes: (?:Old|New)IllFormed (?:old|new) row \d+", ILL_FORMED),
-    (r"tailor relation \d+: Anchor", "use an anchor that has a row in the table"),
+    (r"tailor relation \d+: Anchor", "use an anchor that has a row, and a weight at this level"),
     (r"tailor relation \d+: NeedsPrefix", "write a relation for the beginning of the target first"),
     (r"tailor relation \d+: Limit", "shorten the expansions"),
     (r"tailor relation \d+: ImplicitVariable", "give the anchor or the expansion a row"),

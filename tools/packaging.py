@@ -39,6 +39,7 @@ INSTALLED = [
     *(f"share/doc/uca/{it}" for it in ["LICENSE", "LICENSE-MIT", "LICENSE-APACHE", "NOTICE", "README.md", "CHANGELOG.md", "SECURITY.md"]),
     *(f"share/doc/uca/{it}" for it in ["docs/FORMATS.md", "docs/MESSAGES.md", "examples/table.txt", "tools/unicode_files.py", "installed_files"]),
     "share/uca/tools/uca_files.py",
+    "share/uca/examples/books/general.book",
 ]
 
 # Pages for those who change uca, which are not installed.

@@ -241,7 +241,7 @@ def files_of(options, text):
 
 def remark_of(kept):
     """The sentence that a table has where its language has no rules of its own."""
-    with open(kept.file("table.txt"), encoding="utf-8") as file:
+    with open(kept.file("table.txt"), encoding="utf-8", errors="replace") as file:
         return next((it[2:].strip() for it in itertools.islice(file, 4) if it.endswith(f"{NO_RULES}\n")), "")
 
 
@@ -345,7 +345,7 @@ def sentence(error):
     if not isinstance(error, OSError):
         return str(error)
     more = ": name another folder by --into FOLDER" if error.errno in (errno.EACCES, errno.EPERM, errno.EROFS) else ""
-    return f"{error.filename or 'the output'}: {error.strerror}{more}"
+    return f"{error.filename or 'the output'}: {error.strerror or error}{more}"
 
 
 def main():

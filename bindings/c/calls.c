@@ -1125,8 +1125,8 @@ static uca_bytes file_of(const char *text)
     return (uca_bytes){(const uint8_t *)text, strlen(text)};
 }
 
-/* Whether the line of a status and an error is this one, as the audit of a command writes it about the same files. Before the word
-   `line` a command has a name of its own for a file. */
+/* Whether the line of a status and an error is this one, as the audit of a command writes it about the same files in its first line.
+   Before the word `line` a command has a name of its own for a file. */
 static bool is_line(const six *six, uint32_t status, const uca_upgrade_error *error, const char *line)
 {
     char said[128], small[8];
@@ -1145,7 +1145,7 @@ static bool is_line(const six *six, uint32_t status, const uca_upgrade_error *er
         printed = of_file ? of_file : "";
         line = ours ? ours : "none";
     }
-    return is_whole && is_begun && audited == 1 && strlen(printed) == strlen(line) + 1 && !strncmp(printed, line, strlen(line));
+    return is_whole && is_begun && audited == 1 && strcspn(printed, "\n") == strlen(line) && printed[strlen(line)] && !strncmp(printed, line, strlen(line));
 }
 
 /* Whether the files with this one in place of another are no upgrade: the file is rejected there, and the line says so. */

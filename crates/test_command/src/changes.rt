@@ -129,7 +129,7 @@ const CASES: &[Case<'static>] = &[
         end: End {
             status: 3,
             out: "",
-            err: "new: Open\nhelp: new.txt: no such file can be opened\n",
+            err: "new: Open\nhelp: new.txt: there is no such file, or you may not read it\n",
             opened: 2,
         },
         makes: false,

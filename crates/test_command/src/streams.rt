@@ -177,7 +177,7 @@ fn check_error(alloc: Global, words: &str, whole: &End) -> Result<(), Fail> {
 
 /// What is said if the table of `sort` does not open.
 const NO_TABLE: &str = "table: Open\n\
-    help: missing.txt: no such file can be opened. For a language write $(uca-files TAG), such as $(uca-files pl)\n";
+    help: missing.txt: there is no such file, or you may not read it. For a language write $(uca-files TAG), such as $(uca-files pl)\n";
 
 /// What is said if the second argument of `keys` is missing.
 const NO_DATA: &str = "error: the following required arguments were not provided:\n\

@@ -19,7 +19,8 @@ const LONG_RUN: &str = "look for damaged text there: at most 64 combining marks 
 
 const OTHER_FILE: &str = "Is it another file?";
 
-const IS_BEGUN: &str = "Is it another file, is it empty, or does it begin with a byte order mark?";
+const IS_BEGUN: &str =
+    "Is it another file, is it empty, or does it have CR LF or a byte order mark?";
 
 // A sentence alone.
 fn plain(sentence: &'static str) -> Advice {
@@ -92,15 +93,19 @@ fn weight_of(role: Role) -> &'static str {
         Role::Data | Role::OldData | Role::NewData => {
             "a class is a number from 1 to 254. Leave out a line of class 0"
         }
-        _ => "a weight is four upper-case hexadecimal digits, such as 1C47",
+        _ =>
+            "an element has three weights of four upper-case hexadecimal digits: [.1C47.0020.0002]",
     }
 }
 
 fn on_rules(fault: RuleFault) -> Advice {
     match fault.kind {
-        RuleFaultKind::Syntax if fault.byte == 0 => read_as(Role::Rules, IS_BEGUN),
+        RuleFaultKind::Syntax if fault.byte == 0 => read_as(
+            Role::Rules,
+            "Settings such as [import de] are not read. Is it another file, or does it begin with a byte order mark?",
+        ),
         RuleFaultKind::Syntax => plain(
-            "quote punctuation and blanks, as in '!' or 'ice cream'. Write & or a sign such as < before each text",
+            "uca reads no |, no <<<< and no brackets but [before 1] to [before 3]. Quote punctuation and blanks, as in 'ice cream'. Write & or a sign such as < before each text",
         ),
         RuleFaultKind::EmptyText => plain(
             "write the text after &, a sign or /. Or take the blank out of a sign: <<<, not << <",
@@ -163,7 +168,7 @@ fn on_input(kind: InputKind) -> Advice {
 fn on_stored_key(kind: StoredKeyKind) -> Advice {
     plain(match kind {
         StoredKeyKind::NoKey => {
-            "a key is pairs of upper-case hexadecimal digits, up to the first tab, without \\x"
+            "a key is pairs of upper-case hexadecimal digits, up to the first tab, without \\x. A header begins with # and needs --from or --to"
         }
         StoredKeyKind::NoImage => {
             "if the key was made with this --weighting and --identical, make it again from its text"
@@ -197,7 +202,7 @@ fn on_plan(kind: TailorKind) -> Advice {
         TailorKind::BaseIllFormed => {
             "uca check says which row is not well-formed. docs/UNICODE.md mends Unicode's table"
         }
-        TailorKind::Anchor => "use an anchor that has a row in the table",
+        TailorKind::Anchor => "use an anchor that has a row, and a weight at this level",
         TailorKind::NeedsPrefix => "write a relation for the beginning of the target first",
         TailorKind::Limit => "shorten the expansions",
         TailorKind::ImplicitVariable => "give the anchor or the expansion a row",
@@ -224,10 +229,11 @@ fn on_open(role: Role) -> Advice {
         role,
         match role {
             Role::Table | Role::Data => {
-                "no such file can be opened. For a language write $(uca-files TAG), such as $(uca-files pl)"
+                "there is no such file, or you may not read it. For a language write $(uca-files TAG), such as $(uca-files pl)"
             }
-            Role::Rules => "no such file can be opened. RULES is the name of a file, not the rules",
-            _ => "no such file can be opened",
+            Role::Rules =>
+                "there is no such file, or you may not read it. RULES is the name of a file, not the rules",
+            _ => "there is no such file, or you may not read it",
         },
     )
 }
