@@ -19,7 +19,6 @@ it would show little. The checks are
 - pages: an insertion that splits pages of an index, and VACUUM, which deletes some;
 - transactions: after an error the transaction goes on by a savepoint or by a handler of PL/pgSQL. Others end in a cursor or at COMMIT;
 - editions: the transaction of docs/BINDINGS.md that takes a table to the next edition. All rows have the keys of one edition;
-- languages: `uca_use_language(..., again => true)` does all or nothing, and a new session opens the files of the language or is out of memory;
 - files: CREATE EXTENSION, and `uca_use_files(again => true)` after a start with another table. Each does all or nothing. In the second one each third allocation fails
   alone, and each 13th with all after it.
 
@@ -116,8 +115,8 @@ class Session:
 class Tries:
     """What a check uses: a server with both editions, a session in which allocations fail, and another one in which none does."""
 
-    def __init__(self, server, settings, memory, book, languages):
-        self.server, self.settings, self.memory, self.book, self.languages = server, settings, memory, book, languages
+    def __init__(self, server, settings, memory, book):
+        self.server, self.settings, self.memory, self.book = server, settings, memory, book
         self.old, self.new = (fingerprint_of(*it, book=book) for it in ((TABLE, DATA), (NEW_TABLE, NEW_DATA)))
         self.tried, self.other = Session(server), Session(server)
         self.runs = self.errors = 0
@@ -172,11 +171,10 @@ def memory_server(work, book=None):
     bindings.postgresql_programs(work)
     library = run([os.environ.get("PG_CONFIG", "pg_config"), "--pkglibdir"]).decode().strip()
     shutil.copy(f"{EXTENSION}/uca_memory.so", f"{work}/server{library}/uca.so")
-    shared = run([os.environ.get("PG_CONFIG", "pg_config"), "--sharedir"]).decode().strip()
     memory = Memory(work)
     os.environ["UCA_MEMORY"] = memory.path
     with bindings.postgresql_server(work, book=book, editions=EDITIONS[2:], more=SMALL) as (server, _, settings):
-        tries = Tries(server, settings, memory, book, f"{work}/server{shared}/uca")
+        tries = Tries(server, settings, memory, book)
         try:
             yield tries
         finally:
@@ -333,11 +331,11 @@ def plan_has(tries, before, statement, part):
 def names(work):
     """What takes memory, and is called by the extension or by the library, is in memory.c. Returns how many functions that has."""
     run(["make", "-s", "-C", EXTENSION, "uca_memory.so"])
-    objects = [*(f"{EXTENSION}/{it}.o" for it in ("uca_postgresql", "uca_language", "uca_text")), f"{bindings.C}/out/libuca.a"]
+    objects = [f"{EXTENSION}/uca_postgresql.o", f"{EXTENSION}/uca_text.o", f"{bindings.C}/out/libuca.a"]
     called = {*re.findall(r" U (\w+)", run(["nm", "-u", *objects]).decode())} - {*re.findall(r" [TtDdRrBb] (\w+)", run(["nm", *objects]).decode())}
     able = {*re.findall(r" T __wrap_(\w+)", run(["nm", f"{EXTENSION}/memory.o"]).decode())}
     takers = {it for it in called if re.search("alloc|memalign|strn?dup|sprintf|open|mmap|StringInfo|_to_cstring|_to_text|[sS]napshot|SysCache1", it)}
-    known = {"open", "pg_snprintf", "ActiveSnapshotSet", "GetActiveSnapshot", "UnregisterSnapshot", "SnapshotSelfData"}
+    known = {"open", "pg_snprintf", "ActiveSnapshotSet", "GetActiveSnapshot", "UnregisterSnapshot"}
     same(sorted(takers - able - known - {it for it in takers if it.startswith("uca_")}), [], "functions that are not in memory.c")
     same(sorted(able - called - {"malloc", "realloc", "free"}), [], "functions of memory.c that nothing calls")
     return len(able), 0
@@ -726,38 +724,6 @@ def files(tries):
     tries.each(once, itertools.count(1, 3), itertools.count(1, 13))
 
 
-def languages(tries):
-    """The files of a language are used for all or for nothing. A new session that needs them opens them, or is out of memory."""
-    bindings.keep_languages(tries.languages)
-    tries.other.does("CREATE TABLE names(name uca_text); INSERT INTO names VALUES ('bz'), ('bh'), ('b'); CREATE INDEX by_name ON names(name);")
-    used = f"SELECT uca_use_language('{bindings.PHONE_BOOK}', again => true);"
-    its = f"{BY_INDEX} SELECT fingerprint FROM uca_files; SELECT string_agg(name::text, ' ') FROM (SELECT name FROM names ORDER BY name) it;"
-    by_files, by_language = [tries.old, "b bh bz"], [OTHER, "b bz bh"]
-
-    def once(first, last):
-        tries.tried.begin_anew()
-        found, count = tries.failing(used, first, last)
-        is_error = tries.is_error(found, ["1"], count, first, used)
-        tries.other.begin_anew()
-        same(tries.other.says(its), by_files if is_error else by_language, "the order of the index")
-        if not is_error:
-            same(tries.other.says(f"SELECT uca_use_files(again => true); {its}"), ["1", *by_files], "the files that were there before")
-        return count
-
-    tries.each(once, itertools.count(1, 3), itertools.count(1, 13))
-    same(tries.other.says(f"{used} {its}"), ["1", *by_language], "the language")
-    asked = f"SELECT encode(uca_key('bh'), 'hex'), 'bz' < 'bh'::uca_text, uca_fingerprint(), encode(uca_key('bh', '{OTHER}'), 'hex');"
-
-    def anew(first, last):
-        tries.tried.begin_anew()
-        found, count = tries.failing(asked, first, last)
-        tries.is_error(found, [f"{whole_key(['1c61'])}|t|{OTHER}|{whole_key(['1c61'])}"], count, first, asked)
-        same(tries.tried.says(its), by_language, "the order after it")
-        return count
-
-    tries.each(anew)
-
-
 def begin(tries, settings):
     """Starts the server with settings, and has new sessions."""
     tries.server.restart(settings)
@@ -781,8 +747,7 @@ def try_to_create(tries):
 
 
 CHECKS = {"names": names, "starts": both_books(starts), "keys": both_books(in_new_sessions(of_keys)), "texts": both_books(in_new_sessions(of_texts)), "sessions": no_book(sessions),
-          "parallel": no_book(parallel), "writes": both_books(writes), "pages": no_book(pages), "transactions": no_book(transactions), "editions": no_book(editions), "files": no_book(files),
-          "languages": no_book(languages)}
+          "parallel": no_book(parallel), "writes": both_books(writes), "pages": no_book(pages), "transactions": no_book(transactions), "editions": no_book(editions), "files": no_book(files)}
 
 
 def main():

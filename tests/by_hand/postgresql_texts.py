@@ -378,68 +378,29 @@ def dumps(work):
         same(says_other("CREATE TABLE t(name uca_text); INSERT INTO t VALUES ('bz'), ('bh'); CREATE INDEX ON t(name); SELECT name FROM t ORDER BY name;"), "bz\nbh\n", "a database beside it")
 
 
-def copied(work, server):
-    """A physical standby of a server, which is not started, the setting by which it follows the server, and what runs statements in it."""
-    from local_servers import PostgreSQL
-
-    copy = PostgreSQL(tempfile.mkdtemp(dir=work), programs=server.programs)
-    os.chmod(os.path.dirname(copy.folder), 0o755)
-    os.mkdir(copy.folder)
-    if copy.owner:
-        bindings.shutil.chown(copy.folder, copy.owner)
-    copy.call("pg_basebackup", "-h", server.folder, "-U", "postgres", "-R", "-c", "fast", "--no-sync")
-
-    def says(statements, fails=False, database="postgres"):
-        environment = {**os.environ, **copy.environment, "PGOPTIONS": "-c client_min_messages=error"}
-        ran = subprocess.run(["psql", "-XAtq", "-v", "ON_ERROR_STOP=1", "-d", database], input=statements, capture_output=True, text=True, env=environment)
-        if bool(ran.returncode) != fails:
-            raise AssertionError(f"{statements:.200}: {ran.stdout}{ran.stderr}")
-        return ran.stderr.split("\n")[0] if fails else ran.stdout
-
-    return copy, f"primary_conninfo = 'host={server.folder} user=postgres'\n", says
-
-
-def standby_language(work):
-    """A physical standby of a server with a language, by the same settings and by others. Its primary changes the language."""
-    in_order = f"{BY_INDEX} {bindings.BY_NAME} SELECT 'bz' < 'bh'::uca_text;"
-    polish = "SELECT uca_use_language('pl', '16.0.0-cldr46', again => true);"
-    with bindings.language_server(work) as (server, says, _):
-        says(f"SELECT uca_use_language('{bindings.PHONE_BOOK}'); {bindings.THREE_NAMES} CREATE INDEX by_name ON words(name);")
-        copy, follows, copy_says = copied(work, server)
-        try:
-            copy.start(f"{bindings.BARE}uca.identical = on\n{follows}")
-            for it in (f"{BY_INDEX} {bindings.BY_NAME}", "SELECT 'bz' < 'bh'::uca_text;", "SELECT uca_key('a');"):
-                same(copy_says(it, fails=True).startswith(bindings.NOT_FOUND), True, f"{it} on a standby with another setting")
-            copy.restart(bindings.BARE + follows)
-            same(copy_says(in_order), "b bz bh\nt\n", "a standby with the same setting")
-            same(copy_says(polish, fails=True), "ERROR:  cannot execute INSERT in a read-only transaction", "a change on a standby")
-            session = subprocess.Popen(["psql", "-XAtq"], stdin=subprocess.PIPE, stdout=subprocess.PIPE, stderr=subprocess.STDOUT, text=True, env={**os.environ, **copy.environment})
-
-            def session_says(statements):
-                session.stdin.write(f"{statements}\n\\echo done\n")
-                session.stdin.flush()
-                return "".join(iter(session.stdout.readline, "done\n"))
-
-            same(session_says(in_order), "b bz bh\nt\n", "a session on a standby")
-            says(polish)
-            bindings.until(lambda: copy_says("SELECT fingerprint FROM uca_files;"), f"{bindings.USED}\n", "what the primary did")
-            same(session_says("SELECT 'bz' < 'bh'::uca_text;").split("\n")[0], bindings.HAVE_CHANGED, "the session after the change")
-            same(session_says(in_order), "b bh bz\nf\n", "the session, once more")
-            same(copy_says(in_order), "b bh bz\nf\n", "a new session on the standby")
-            session.stdin.close()
-            session.wait()
-        finally:
-            copy.call("pg_ctl", "-w", "-m", "immediate", "stop")
-
-
 def standby(work):
     """A physical standby with other files, and with the same."""
     with bindings.postgresql_server(work) as (server, says, settings):
+        from local_servers import PostgreSQL
+
         says(KEPT)
         wanted = {it: says(f"{it};") for it in UNORDERED}
         in_order = says("SELECT name FROM words ORDER BY name;")
-        copy, follows, copy_says = copied(work, server)
-        its = settings + follows
+        copy = PostgreSQL(tempfile.mkdtemp(dir=work), programs=server.programs)
+        os.chmod(os.path.dirname(copy.folder), 0o755)
+        os.mkdir(copy.folder)
+        if copy.owner:
+            bindings.shutil.chown(copy.folder, copy.owner)
+        copy.call("pg_basebackup", "-h", server.folder, "-U", "postgres", "-R", "-c", "fast", "--no-sync")
+        its = settings + f"primary_conninfo = 'host={server.folder} user=postgres'\n"
+
+        def copy_says(statements, fails=False, database="postgres"):
+            environment = {**os.environ, **copy.environment, "PGOPTIONS": "-c client_min_messages=error"}
+            ran = subprocess.run(["psql", "-XAtq", "-v", "ON_ERROR_STOP=1", "-d", database], input=statements, capture_output=True, text=True, env=environment)
+            if bool(ran.returncode) != fails:
+                raise AssertionError(f"{statements:.200}: {ran.stdout}{ran.stderr}")
+            return ran.stderr.split("\n")[0] if fails else ran.stdout
+
         reads = [it for it in ORDERED if it.startswith("SELECT")]
         try:
             copy.start(its.replace("/table.txt", "/tailored.txt"))
@@ -681,7 +642,7 @@ def main():
         sys.exit(f"there is no {missing[0]}: run `tools/build.py uca_c uca_run` first")
     program = os.path.realpath(given.uca)
     checks = {"statements": statements, "bad_texts": bad_texts, "unique": unique, "joins": joins, "begins": begins, "casts": casts, "text_class": text_class, "other_settings": other_settings,
-              "dumps": dumps, "standby": standby, "standby_language": standby_language, "transactions": inside_transactions, "roles": roles, "page": page, "orders": orders_like(program),
+              "dumps": dumps, "standby": standby, "transactions": inside_transactions, "roles": roles, "page": page, "orders": orders_like(program),
               "words": words_like(program), "random": random_like(program), "beside_icu": beside_icu(program)}
     if unknown := {*given.names} - {*checks}:
         parser.error(f"no check is named {', '.join(sorted(unknown))}: they are {', '.join(checks)}")
