@@ -11,6 +11,7 @@ it would show little. The checks are
 - names: what takes memory, and is called by the extension or by the library, is in memory.c;
 - starts: the server starts with both editions, with the present one, or with none, and says why. Or it does not start, and is out of memory. What it has makes the right keys. Each of
   the first 200 allocations fails alone, and each fourth of the others. With a book it is each fourth of all. Each 12th fails with all after it;
+- languages: the same for a start by `uca.language`. Each of its first 20 allocations fails alone, and each 16th with all after it;
 - keys and texts: statements that make keys, and statements that compare texts. Each run is in a session that has called nothing of the extension before. A statement prints what it prints
   with memory, or is the error 53200, out of memory. The next statement of this session is right;
 - sessions: the same statements in one session, which goes on after each error. In the end it has as many blocks of the library as a session in which nothing failed;
@@ -331,7 +332,7 @@ def plan_has(tries, before, statement, part):
 def names(work):
     """What takes memory, and is called by the extension or by the library, is in memory.c. Returns how many functions that has."""
     run(["make", "-s", "-C", EXTENSION, "uca_memory.so"])
-    objects = [f"{EXTENSION}/uca_postgresql.o", f"{EXTENSION}/uca_text.o", f"{bindings.C}/out/libuca.a"]
+    objects = [*(f"{EXTENSION}/{it}.o" for it in ("uca_postgresql", "uca_language", "uca_text")), f"{bindings.C}/out/libuca.a"]
     called = {*re.findall(r" U (\w+)", run(["nm", "-u", *objects]).decode())} - {*re.findall(r" [TtDdRrBb] (\w+)", run(["nm", *objects]).decode())}
     able = {*re.findall(r" T __wrap_(\w+)", run(["nm", f"{EXTENSION}/memory.o"]).decode())}
     takers = {it for it in called if re.search("alloc|memalign|strn?dup|sprintf|open|mmap|StringInfo|_to_cstring|_to_text|[sS]napshot|SysCache1", it)}
@@ -342,7 +343,8 @@ def names(work):
 
 
 # What the server says of an edition for which memory ran out.
-REASON = re.compile(r"uca: (out of memory|(next )?(table|data|book|changes|certificate) line \d+: Memory|the file of uca\.\w+_file cannot be read: Cannot allocate memory)")
+REASON = re.compile(r"uca: (out of memory|(next )?(table|data|book|changes|certificate) line \d+: Memory|the file of uca\.(\w+_file|language \(\w+\.txt\)) cannot be read: Cannot allocate memory|"
+                    r"a folder of languages cannot be read: Cannot allocate memory: /.*)")
 PROMPT = b"backend> "
 
 
@@ -395,9 +397,14 @@ def stopped(tries):
         tries.server.start(tries.settings)
 
 
+def without_files(*names):
+    """The arguments of a server for no such file."""
+    return [word for name in names for word in ("-c", f"uca.{name}_file=")]
+
+
 def starts(tries):
     """Allocations of a start fail."""
-    no_next = [word for name in ("next_table", "next_data", "next_book", "changes", "certificate") for word in ("-c", f"uca.{name}_file=")]
+    no_next = without_files("next_table", "next_data", "next_book", "changes", "certificate")
     endings = {}
     with stopped(tries):
         most = [started(tries, 0, 0, *settings)[4] for settings in ([], no_next)]
@@ -429,6 +436,35 @@ def try_server(tries, first, has_next):
             same(found, [value], f"{statement}, after a start where allocation {first} fails")
         elif len(found) != 1 or not REASON.fullmatch(found[0].removeprefix("ERROR:  F0000: ")):
             raise AssertionError(f"{statement}, after a start where allocation {first} fails: {found}")
+
+
+def languages(tries):
+    """Allocations of a start by a language fail. The server has the language, or says why not, or it does not start."""
+    shared = run([os.environ.get("PG_CONFIG", "pg_config"), "--sharedir"]).decode().strip()
+    programs = run([os.environ.get("PG_CONFIG", "pg_config"), "--bindir"]).decode().strip()
+    bindings.keep_language(f"{tries.server.programs.removesuffix(programs)}{shared}/uca", "xx", TABLE)
+    settings = [*without_files("table", "data", "next_table", "next_data", "next_book", "changes", "certificate"), "-c", "uca.language=xx"]
+    no_next = bindings.OTHERS_NAMED.removeprefix("ERROR:  ")
+    ended = set()
+
+    def once(first, last):
+        values, errors, status, count, blocks = started(tries, first, last, *settings)
+        if (values, errors, status) == ([OLD_KEYS[3], FEW_SORTED], [no_next], 0):
+            ended.add("language")
+        elif count >= first and (values, errors, status) == ([], ["out of memory"], 1):
+            ended.add("server")
+        elif count >= first and (values, errors, status, blocks) == ([], errors[:1] * 4, 0, 0) and errors and REASON.fullmatch(errors[0]):
+            ended.add("folder" if "folder" in errors[0] else "neither")
+        else:
+            raise AssertionError(f"a start by a language, where allocation {first} of {count} fails: {(values, errors, status, blocks)}")
+        tries.errors += values == []
+        return count
+
+    with stopped(tries):
+        once(0, 0)
+        same(ended, {"language"}, "a start in which nothing fails")
+        tries.each(once, range(1, 21), itertools.count(1, 16))
+    same(sorted(ended), ["folder", "language", "neither", "server"], "how starts by a language ended")
 
 
 def in_new_sessions(chosen):
@@ -746,7 +782,7 @@ def try_to_create(tries):
     tries.each(once)
 
 
-CHECKS = {"names": names, "starts": both_books(starts), "keys": both_books(in_new_sessions(of_keys)), "texts": both_books(in_new_sessions(of_texts)), "sessions": no_book(sessions),
+CHECKS = {"names": names, "starts": both_books(starts), "languages": no_book(languages), "keys": both_books(in_new_sessions(of_keys)), "texts": both_books(in_new_sessions(of_texts)), "sessions": no_book(sessions),
           "parallel": no_book(parallel), "writes": both_books(writes), "pages": no_book(pages), "transactions": no_book(transactions), "editions": no_book(editions), "files": no_book(files)}
 
 
