@@ -407,7 +407,7 @@ REVOKE EXECUTE ON FUNCTION uca_run(pg_catalog.text, pg_catalog.regrole) FROM PUB
 
 -- From now on keys are made by the files and settings that the server has. It is an error where uca_dependents() has rows. If all of them
 -- have statements, `again` runs these, in place of the error. It returns how many it has run. It takes away only fingerprints that it
--- has seen, so one that comes meanwhile stays.
+-- has seen, so one that comes meanwhile stays. If `again` is NULL, it is as false.
 CREATE FUNCTION uca_use_files(again boolean DEFAULT false) RETURNS bigint LANGUAGE sql SET row_security = off
 BEGIN ATOMIC
     WITH change AS MATERIALIZED (
