@@ -874,7 +874,7 @@ def sqlite_threads(work):
 def sqlite_moved(work):
     """A connection in two threads, each while SQLite sorts in others. Without the lock of the extension this fails."""
     sqlite_says(work, "SELECT 1;")
-    parts = [f"{TOP}/bindings/sqlite/{it}.c" for it in ("threads", "uca_sqlite")]
+    parts = [f"{TOP}/bindings/sqlite/{it}.c" for it in ("threads", "uca_sqlite", "uca_language")]
     flags = ["-std=c11", "-O2", "-Wall", "-Wextra", "-Wpedantic", "-Werror", "-pthread", "-DSQLITE_CORE", f"-I{C}/include"]
     run(["gcc", *flags, "-o", f"{work}/moved", *parts, f"{C}/out/libuca.a", "-lsqlite3"])
     found = run([f"{work}/moved", TABLE, DATA, USED, f"{work}/moved.db"]).decode()
@@ -1525,8 +1525,8 @@ USES = ("SELECT uca_key('a');", "INSERT INTO words VALUES ('d');", "SELECT FROM 
 
 UCA_FILES = f"{TOP}/tools/uca_files.py"
 BARE = "shared_preload_libraries = 'uca'\n"
-BY_NAME = "SELECT string_agg(name::text, ' ') FROM (SELECT name FROM words ORDER BY name) it;"
-BY_KEY = "SELECT string_agg(name::text, ' ') FROM (SELECT name FROM words ORDER BY uca_key(name)) it;"
+NAMES_IN_ORDER = "SELECT string_agg(name::text, ' ') FROM (SELECT name FROM words ORDER BY name) it;"
+NAMES_BY_KEY = "SELECT string_agg(name::text, ' ') FROM (SELECT name FROM words ORDER BY uca_key(name)) it;"
 THREE_NAMES = "CREATE TABLE words(name uca_text); INSERT INTO words VALUES ('bz'), ('bh'), ('b');"
 
 
@@ -1551,16 +1551,16 @@ def by_language(tag, edition=None, more=""):
 def postgresql_languages(work):
     """A server by a language: its order, another language after a start, and what has none."""
     by_index = "SET enable_seqscan = off; SET enable_sort = off;"
-    in_order = f"{BY_NAME} {BY_KEY} {by_index} {BY_NAME} {BY_KEY}"
+    in_order = f"{NAMES_IN_ORDER} {NAMES_BY_KEY} {by_index} {NAMES_IN_ORDER} {NAMES_BY_KEY}"
     with language_server(work) as (server, says, folder):
         says(f"{THREE_NAMES} CREATE INDEX by_name ON words(name); CREATE INDEX by_key ON words(uca_key(name));")
         same(says(f"{in_order} SELECT uca_fingerprint(); SELECT fingerprint FROM uca_files;"), "b bz bh\n" * 4 + f"{OTHER}\n" * 2, "a phone book")
         same(says("SELECT encode(uca_key('a'), 'hex');"), "1c4700000020000000020000ffff\n", "a key by the weighting of the table")
         for it in ("SET uca.language = 'pl';", "SET uca.edition = '16.0.0-cldr46';", "ALTER DATABASE postgres SET uca.language = 'pl';", "ALTER ROLE postgres SET uca.language = 'pl';"):
             same("cannot be changed" in says(it, fails=True), True, it)
-        same(says(f"ALTER SYSTEM SET uca.language = 'pl'; SELECT pg_reload_conf(); {BY_NAME} ALTER SYSTEM RESET uca.language;"), "t\nb bz bh\n", "another language before the next start")
+        same(says(f"ALTER SYSTEM SET uca.language = 'pl'; SELECT pg_reload_conf(); {NAMES_IN_ORDER} ALTER SYSTEM RESET uca.language;"), "t\nb bz bh\n", "another language before the next start")
         server.restart(by_language("pl", "16.0.0-cldr46"))
-        for it in (BY_NAME, BY_KEY, by_index + BY_NAME, by_index + BY_KEY, "SELECT uca_key('a');", "INSERT INTO words VALUES ('c');"):
+        for it in (NAMES_IN_ORDER, NAMES_BY_KEY, by_index + NAMES_IN_ORDER, by_index + NAMES_BY_KEY, "SELECT uca_key('a');", "INSERT INTO words VALUES ('c');"):
             same(says(it, fails=True), OTHER_FILES, f"{it} by another language")
         for it in ("uca_use_files()", "uca_use_files(again => NULL)"):
             same(says(f"SELECT {it};", fails=True), KEYS_ARE_KEPT, f"{it} by another language")
@@ -1570,9 +1570,9 @@ def postgresql_languages(work):
         same(says(f"SELECT uca_use_files(again => true); {in_order} SELECT uca_fingerprint();"), "2\n" + "b bz bh\n" * 4 + f"{compact}\n", "a book beside the language")
         table, data = (f"{folder}/15.0.0-cldr41/{PHONE_BOOK}/{it}.txt" for it in ("table", "data"))
         server.restart(f"{BARE}uca.table_file = '{table}'\nuca.data_file = '{data}'\n")
-        same(says(f"SELECT uca_use_files(again => true); {BY_NAME} SELECT uca_fingerprint();"), f"2\nb bz bh\n{OTHER}\n", "the files of the language by their names")
+        same(says(f"SELECT uca_use_files(again => true); {NAMES_IN_ORDER} SELECT uca_fingerprint();"), f"2\nb bz bh\n{OTHER}\n", "the files of the language by their names")
         server.restart(by_language(PHONE_BOOK))
-        same(says(BY_NAME), "b bz bh\n", "the language again")
+        same(says(NAMES_IN_ORDER), "b bz bh\n", "the language again")
         postgresql_language_errors(server, says, folder)
 
 
@@ -1595,14 +1595,14 @@ def postgresql_language_errors(server, says, folder):
     ]
     for settings, error in errors:
         server.restart(settings)
-        for it in ("SELECT uca_key('a');", BY_NAME):
+        for it in ("SELECT uca_key('a');", NAMES_IN_ORDER):
             same(says(it, fails=True)[: len(f"ERROR:  uca: {error}")], f"ERROR:  uca: {error}", f"{it} by {settings}")
     os.chmod(f"{folder}/15.0.0-cldr41", 0)
     server.restart(by_language(PHONE_BOOK))
-    same(says(BY_NAME, fails=True), "ERROR:  uca: the file of uca.language (table.txt) cannot be read: Permission denied", "an edition that the server may not read")
+    same(says(NAMES_IN_ORDER, fails=True), "ERROR:  uca: the file of uca.language (table.txt) cannot be read: Permission denied", "an edition that the server may not read")
     os.chmod(f"{folder}/15.0.0-cldr41", 0o755)
     server.restart(by_language(PHONE_BOOK))
-    same(says(BY_NAME), "b bz bh\n", "an edition that it may read again")
+    same(says(NAMES_IN_ORDER), "b bz bh\n", "an edition that it may read again")
 
 
 def language_page(program):
