@@ -135,7 +135,9 @@ bool find_language(const char *tag, const char *asked, char *table, char *data, 
     if (!*reason && !*edition)
         snprintf(reason, REASON, "uca: no folder has files of the language %s%s%s; an administrator makes them by: uca-files --into /usr/local/share/uca %s",
                  tag, *asked ? ", edition " : "", asked, tag);
+    if (*reason)
+        return false;
     name_file(table, folder, edition, tag, "table.txt");
     name_file(data, folder, edition, tag, "data.txt");
-    return !*reason;
+    return true;
 }
