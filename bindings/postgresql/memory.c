@@ -8,7 +8,7 @@
    An allocation is here
 
    - each call of malloc and of realloc by the library. It returns NULL when it fails;
-   - each call of fdopen by the extension, for which the C library takes memory. It returns NULL too;
+   - each call of fdopen and of opendir by the extension, for which the C library takes memory. It returns NULL too;
    - each call by the extension of one of PostgreSQL's functions below, which take memory, or may. It raises PostgreSQL's error "out of memory",
      and the function is not called. PostgreSQL itself might raise it in the middle of the function. The extension would see no difference,
      since it catches no error.
@@ -18,27 +18,21 @@
    extension. */
 #include "postgres.h"
 
+#include <dirent.h>
 #include <fcntl.h>
 #include <stdio.h>
 #include <sys/mman.h>
 #include <unistd.h>
 
 #include "access/genam.h"
-#include "access/htup_details.h"
 #include "access/table.h"
 #include "access/tableam.h"
-#include "access/xact.h"
 #include "catalog/dependency.h"
 #include "executor/spi.h"
-#include "executor/tuptable.h"
-#include "funcapi.h"
 #include "lib/stringinfo.h"
-#include "storage/fd.h"
-#include "storage/lmgr.h"
 #include "utils/acl.h"
 #include "utils/builtins.h"
 #include "utils/guc.h"
-#include "utils/inval.h"
 #include "utils/lsyscache.h"
 #include "utils/snapmgr.h"
 #include "utils/syscache.h"
@@ -88,10 +82,12 @@ extern void *__real_malloc(size_t size);
 extern void *__real_realloc(void *block, size_t size);
 extern void __real_free(void *block);
 extern FILE *__real_fdopen(int number, const char *mode);
+extern DIR *__real_opendir(const char *folder);
 extern void *__wrap_malloc(size_t size);
 extern void *__wrap_realloc(void *block, size_t size);
 extern void __wrap_free(void *block);
 extern FILE *__wrap_fdopen(int number, const char *mode);
+extern DIR *__wrap_opendir(const char *folder);
 
 void *__wrap_malloc(size_t size)
 {
@@ -120,6 +116,11 @@ FILE *__wrap_fdopen(int number, const char *mode)
     return fails() ? NULL : __real_fdopen(number, mode);
 }
 
+DIR *__wrap_opendir(const char *folder)
+{
+    return fails() ? NULL : __real_opendir(folder);
+}
+
 /* ---- Memory of PostgreSQL */
 
 static void need_memory(void)
@@ -139,15 +140,12 @@ static void need_memory(void)
     }
 
 TAKES_MEMORY(void *, palloc, (Size size), (size))
-TAKES_MEMORY(void *, MemoryContextAllocZero, (MemoryContext context, Size size), (context, size))
 TAKES_MEMORY(void *, repalloc, (void *block, Size size), (block, size))
 TAKES_MEMORY(char *, pstrdup, (const char *given), (given))
 TAKES_MEMORY(char *, pnstrdup, (const char *given, Size length), (given, length))
 TAKES_MEMORY(text *, cstring_to_text, (const char *given), (given))
 TAKES_MEMORY(char *, text_to_cstring, (const text *given), (given))
-TAKES_MEMORY(void, text_to_cstring_buffer, (const text *given, char *made, size_t size), (given, made, size))
 TAKES_MEMORY(void, initStringInfo, (StringInfo bytes), (bytes))
-TAKES_MEMORY(void, appendStringInfoString, (StringInfo bytes, const char *more), (bytes, more))
 TAKES_MEMORY(void, enlargeStringInfo, (StringInfo bytes, int needed), (bytes, needed))
 TAKES_MEMORY(Relation, table_open, (Oid table, LOCKMODE lock), (table, lock))
 TAKES_MEMORY(Relation, try_table_open, (Oid table, LOCKMODE lock), (table, lock))
@@ -171,16 +169,6 @@ TAKES_MEMORY(bool, type_is_multirange, (Oid type), (type))
 TAKES_MEMORY(bool, type_is_rowtype, (Oid type), (type))
 TAKES_MEMORY(Oid, get_opfamily_proc, (Oid family, Oid left, Oid right, int16 number), (family, left, right, number))
 TAKES_MEMORY(bool, get_collation_isdeterministic, (Oid collation), (collation))
-TAKES_MEMORY(List *, lappend, (List *list, void *datum), (list, datum))
-TAKES_MEMORY(DIR *, AllocateDir, (const char *folder), (folder))
-TAKES_MEMORY(void, LockRelationOid, (Oid table, LOCKMODE lock), (table, lock))
-TAKES_MEMORY(void, CacheInvalidateCatalog, (Oid catalog), (catalog))
-TAKES_MEMORY(void, RegisterXactCallback, (XactCallback called, void *given), (called, given))
-TAKES_MEMORY(void, RegisterSubXactCallback, (SubXactCallback called, void *given), (called, given))
-TAKES_MEMORY(TypeFuncClass, get_call_result_type, (FunctionCallInfo call, Oid *type, TupleDesc *row), (call, type, row))
-TAKES_MEMORY(TupleDesc, BlessTupleDesc, (TupleDesc row), (row))
-TAKES_MEMORY(HeapTuple, heap_form_tuple, (TupleDesc row, Datum *values, bool *are_null), (row, values, are_null))
-TAKES_MEMORY(Datum, HeapTupleHeaderGetDatum, (HeapTupleHeader row), (row))
 TAKES_MEMORY(int, SPI_connect, (void), ())
 TAKES_MEMORY(int, SPI_execute, (const char *statement, bool only_reads, long most), (statement, only_reads, most))
 TAKES_MEMORY(int, NewGUCNestLevel, (void), ())

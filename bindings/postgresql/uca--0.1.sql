@@ -5,30 +5,19 @@
 -- IN, CASE with a value, BETWEEN and LIKE would name an operator without one. The extension's own are named alone, since it can be moved to
 -- another schema. Each is called with exactly its types: PostgreSQL takes no other one then, and a second one of these types is an error.
 
--- the fingerprint of the files and settings by which this database's keys are made, as `uca fingerprint` prints it: those of a language, or those
--- that the server has read when it started
+-- the fingerprint of the files and settings that the server has read when it started, as `uca fingerprint` prints it
 CREATE FUNCTION uca_fingerprint() RETURNS pg_catalog.text AS 'MODULE_PATHNAME', 'uca_fingerprint_of_files' LANGUAGE C STABLE PARALLEL SAFE;
 
--- that of the files that the server has read when it started, or NULL if no setting names one
-CREATE FUNCTION uca_server_fingerprint() RETURNS pg_catalog.text AS 'MODULE_PATHNAME', 'uca_fingerprint_of_server' LANGUAGE C STABLE PARALLEL SAFE;
-
--- that of the next edition. It is an error where the server has none.
+-- the same of the next edition. It is an error where the server has none.
 CREATE FUNCTION uca_next_fingerprint() RETURNS pg_catalog.text AS 'MODULE_PATHNAME', 'uca_fingerprint_of_next_files' LANGUAGE C STABLE PARALLEL SAFE;
 
 -- The fingerprints of the files and settings by which the keys of this database are made. Each row has to be that of the server, or else
 -- uca_key(text) is an error. A dump has these rows. So a restored database has a row of its server and the rows of the dump.
 CREATE TABLE uca_files (fingerprint pg_catalog.text NOT NULL);
 ALTER TABLE uca_files REPLICA IDENTITY FULL;
-INSERT INTO uca_files SELECT f FROM uca_server_fingerprint() f WHERE f IS NOT NULL;
+INSERT INTO uca_files VALUES (uca_fingerprint());
 GRANT SELECT ON uca_files TO PUBLIC;
 SELECT pg_catalog.pg_extension_config_dump('uca_files', '');
-
--- The languages whose files this database has used: where the files of a fingerprint are. Their folders are those of uca_language.c. A dump has
--- these rows, so a restored database looks for the same files. Where a server has others, the fingerprint is not found, which is an error.
-CREATE TABLE uca_languages (fingerprint pg_catalog.text NOT NULL, tag pg_catalog.text NOT NULL, edition pg_catalog.text NOT NULL, book boolean NOT NULL);
-ALTER TABLE uca_languages REPLICA IDENTITY FULL;
-GRANT SELECT ON uca_languages TO PUBLIC;
-SELECT pg_catalog.pg_extension_config_dump('uca_languages', '');
 
 -- Bytes that are here already may be keys of other files, as after DROP EXTENSION. So this row stays until uca_use_files() is called.
 -- Tables of users have numbers from 16384 on. Domains, arrays, rows and ranges hold bytea too.
@@ -130,16 +119,11 @@ LANGUAGE C IMMUTABLE PARALLEL SAFE COST 20;
 --   (id) WHERE name < 'c', or whose expression does. While uca_files differs, the planner does not get to see these indexes (leave_out_indexes in
 --   uca_text.c). So it sorts or compares, which is an error. Indexes on arrays, rows and ranges of uca_text count too. A server that does not
 --   preload the library has no files, so that each comparison is an error, and what it reads in the order of an index is in the recorded order.
--- - A plan that is kept: an index is made again in another order by REINDEX alone, which makes all plans again that read it, also on a standby.
---   The server's files do not change while it runs. uca_use_language makes all plans of the database again.
--- - An older snapshot, or a transaction that goes on while uca_use_language changes the language: each transaction that uses the order keeps a
---   lock on uca_files until it ends, and the change takes a greater one. The rows that the snapshot sees have to be those that are there. The
---   first use after the change is an error in a session that used the earlier language.
--- - Threads, parallel workers: a process of the server has one thread. It has the collator that the server opened before it started any process,
---   or one of a language whose files had the fingerprint of uca_files when the process read them.
--- - Another administrator: the settings cannot be set for a session, a role or a database. uca_use_files() and uca_use_language make again all
---   that is ordered, or are an error, as for keys. Other files in the folder of a language have another fingerprint, so they are not used.
--- - Who names a language: only whoever may execute uca_use_language, which is not PUBLIC. A tag or an edition is no path (uca_language.c).
+-- - A plan that is kept: the server's files do not change while it runs. An index is made again in another order by REINDEX alone, which makes
+--   all plans again that read it, also on a standby.
+-- - Threads, parallel workers: a process of the server has one thread, and the collator that the server opened before it started any process.
+-- - Another administrator: the settings cannot be set for a session, a role or a database. uca_use_files() makes again all that is ordered, or
+--   is an error, as for keys.
 -- - Hash joins, hash indexes, hash partitions, DISTINCT, foreign keys, UNIQUE: texts are equal exactly if their bytes are. So what is equal does
 --   not depend on files. This is why texts with equal keys and other bytes are not equal here, and why an index takes each value once.
 -- - The order of text, which comes without an error where PostgreSQL takes a uca_text for a text: it never does so by itself. A cast to text is
@@ -421,56 +405,23 @@ CREATE FUNCTION uca_run(statement pg_catalog.text, owner pg_catalog.regrole) RET
 LANGUAGE C STRICT SET search_path = pg_catalog, pg_temp;
 REVOKE EXECUTE ON FUNCTION uca_run(pg_catalog.text, pg_catalog.regrole) FROM PUBLIC;
 
--- Only this transaction changes uca_files from now on. No other transaction that uses the order goes on while this one does, or has a plan of
--- before. It is an error for NULL, which is the fingerprint of no files.
-CREATE FUNCTION uca_lock_files(fingerprint pg_catalog.text) RETURNS boolean AS 'MODULE_PATHNAME', 'uca_lock_files' LANGUAGE C;
-REVOKE EXECUTE ON FUNCTION uca_lock_files(pg_catalog.text) FROM PUBLIC;
-
--- From now on keys are made by the files of this fingerprint. It is an error where uca_dependents() has rows. If all of them have statements,
--- `again` runs these, in place of the error. It returns how many it has run. The second statement sees what was there when the first one had
--- the lock. It takes away only fingerprints that it has seen, so one that comes meanwhile stays.
-CREATE FUNCTION uca_change_files(fingerprint pg_catalog.text, again boolean) RETURNS bigint LANGUAGE sql SET row_security = off
+-- From now on keys are made by the files and settings that the server has. It is an error where uca_dependents() has rows. If all of them
+-- have statements, `again` runs these, in place of the error. It returns how many it has run. It takes away only fingerprints that it
+-- has seen, so one that comes meanwhile stays. If `again` is NULL, it is as false.
+CREATE FUNCTION uca_use_files(again boolean DEFAULT false) RETURNS bigint LANGUAGE sql SET row_security = off
 BEGIN ATOMIC
-    SELECT uca_lock_files($1);
     WITH change AS MATERIALIZED (
         SELECT FROM (
             SELECT pg_catalog.count(*) OPERATOR(pg_catalog.>) 0::bigint
-                AND pg_catalog.bool_and(f.fingerprint OPERATOR(pg_catalog.=) $1) AS is_same
+                AND pg_catalog.bool_and(f.fingerprint OPERATOR(pg_catalog.=) uca_fingerprint()) AS is_same
             FROM uca_files f) s
         WHERE CASE WHEN s.is_same THEN false ELSE uca_need_no_dependents((
             SELECT pg_catalog.string_agg(d.kind OPERATOR(pg_catalog.||) ' ' OPERATOR(pg_catalog.||) d.object, ', ')
-            FROM (SELECT * FROM uca_dependents() e WHERE NOT $2 OR e.statement IS NULL LIMIT 10) d)) END
+            FROM (SELECT * FROM uca_dependents() e WHERE again IS NOT TRUE OR e.statement IS NULL LIMIT 10) d)) END
     ), gone AS (
         DELETE FROM uca_files WHERE EXISTS (SELECT FROM change)
     )
-    INSERT INTO uca_files SELECT $1 FROM change;
-    SELECT pg_catalog.count(uca_run(d.statement, d.owner)) FROM uca_dependents() d WHERE $2;
-END;
-REVOKE EXECUTE ON FUNCTION uca_change_files(pg_catalog.text, boolean) FROM PUBLIC;
-
--- From now on keys are made by the files and settings that the server has read when it started.
-CREATE FUNCTION uca_use_files(again boolean DEFAULT false) RETURNS bigint LANGUAGE sql SET row_security = off
-BEGIN ATOMIC
-    SELECT uca_change_files(uca_server_fingerprint(), $1);
+    INSERT INTO uca_files SELECT uca_fingerprint() FROM change;
+    SELECT pg_catalog.count(uca_run(d.statement, d.owner)) FROM uca_dependents() d WHERE again;
 END;
 REVOKE EXECUTE ON FUNCTION uca_use_files(boolean) FROM PUBLIC;
-
--- The fingerprint of the files of a language, by the server's settings, and their edition. They are in a folder that an administrator has filled.
--- Where it has several editions, it is an error unless one is named. With `book`, keys are compact.
-CREATE FUNCTION uca_find_language(tag pg_catalog.text, edition pg_catalog.text, book boolean, OUT fingerprint pg_catalog.text, OUT found pg_catalog.text)
-AS 'MODULE_PATHNAME', 'uca_find_language' LANGUAGE C;
-REVOKE EXECUTE ON FUNCTION uca_find_language(pg_catalog.text, pg_catalog.text, boolean) FROM PUBLIC;
-
--- From now on keys are made by the files of this language.
-CREATE FUNCTION uca_use_language(
-    tag pg_catalog.text, edition pg_catalog.text DEFAULT NULL, again boolean DEFAULT false, book boolean DEFAULT false)
-RETURNS bigint LANGUAGE sql SET row_security = off
-BEGIN ATOMIC
-    INSERT INTO uca_languages
-    SELECT f.fingerprint, $1, f.found, $4 FROM uca_find_language($1, $2, $4) f
-    WHERE NOT EXISTS (
-        SELECT FROM uca_languages l
-        WHERE l.fingerprint OPERATOR(pg_catalog.=) f.fingerprint AND l.tag OPERATOR(pg_catalog.=) $1 AND l.edition OPERATOR(pg_catalog.=) f.found);
-    SELECT uca_change_files(f.fingerprint, $3) FROM uca_find_language($1, $2, $4) f;
-END;
-REVOKE EXECUTE ON FUNCTION uca_use_language(pg_catalog.text, pg_catalog.text, boolean, boolean) FROM PUBLIC;

@@ -1,23 +1,26 @@
-/* Where the files of a language are.
-
-   A server reads the files that an administrator put where it looks, by `uca-files --into FOLDER TAG`:
+/* Where the files of the setting uca.language are: in FOLDER/EDITION/TAG, as `uca-files --into FOLDER TAG` makes them. FOLDER is
 
    - the folder `uca` of the server's shared files, which `pg_config --sharedir` prints,
    - /usr/local/share/uca,
    - /usr/share/uca.
 
-   A table is FOLDER/EDITION/TAG/table.txt. Whoever calls uca_use_language names the tag and the edition, and nothing else of this path. Both
-   are ASCII letters and digits, in parts: with one hyphen between two of them, and in an edition also a dot. So they are no path, and name no
-   folder above. No program is run, and no variable of the environment is read. */
+   The first one that has a table of the language is taken. The settings name the tag and the edition, and nothing else of this path. Both are
+   ASCII letters and digits, in parts: with one hyphen between two of them, and in an edition also a dot. So they are no path, and name no
+   folder above. No program is run, and no variable of the environment is read.
+
+   This runs while the server starts. So it raises no error, which would end the server, but leaves a reason. */
 #include "uca_postgresql.h"
 
+#include <dirent.h>
 #include <sys/stat.h>
 
-#include "lib/stringinfo.h"
 #include "miscadmin.h"
-#include "nodes/pg_list.h"
 #include "port.h"
-#include "storage/fd.h"
+
+/* The bytes that a tag, or the name of an edition, has at most. */
+#define MOST_NAME 100
+
+#define FOLDER_COUNT 3
 
 /* Whether a name is ASCII letters and digits, in parts between which is one of these signs. */
 static bool is_name(const char *name, const char *signs)
@@ -34,21 +37,15 @@ static bool is_name(const char *name, const char *signs)
     return is_in_part && strlen(name) <= MOST_NAME;
 }
 
-bool are_names(const char *tag, const char *edition)
-{
-    return is_name(tag, "-") && is_name(edition, "-.");
-}
-
-bool folder_of_languages(int number, char *folder)
+static void name_folder(int number, char *folder)
 {
     char share[MAXPGPATH];
 
     get_share_path(my_exec_path, share);
     if (number == 0)
-        snprintf(folder, MAXPGPATH, "%s/uca", share);
+        snprintf(folder, MOST_PATH, "%s/uca", share);
     else
-        strlcpy(folder, number == 1 ? "/usr/local/share/uca" : "/usr/share/uca", MAXPGPATH);
-    return number < 3;
+        strlcpy(folder, number == 1 ? "/usr/local/share/uca" : "/usr/share/uca", MOST_PATH);
 }
 
 /* Whether the last call has found that there is no such file or folder. Another error is told when it is read. */
@@ -57,85 +54,90 @@ static bool is_missing(void)
     return errno == ENOENT || errno == ENOTDIR;
 }
 
-/* Whether a folder has a table of a language, of this edition. */
+/* The path of a file of a language. It always has room, since the folder is at most a path of PostgreSQL and "/uca". */
+static void name_file(char *path, const char *folder, const char *edition, const char *tag, const char *file)
+{
+    snprintf(path, MOST_PATH, "%s/%s/%s/%s", folder, edition, tag, file);
+}
+
 static bool has_table(const char *folder, const char *edition, const char *tag)
 {
     struct stat about;
-    char path[MAXPGPATH];
+    char path[MOST_PATH];
 
-    snprintf(path, sizeof path, "%s/%s/%s/table.txt", folder, edition, tag);
+    name_file(path, folder, edition, tag, "table.txt");
     return stat(path, &about) == 0 || !is_missing();
 }
 
-static int order_of_names(const ListCell *left, const ListCell *right)
+/* The next entry of a folder, or NULL. errno is 0 then, unless the folder cannot be read. */
+static struct dirent *next_entry(DIR *opened)
 {
-    return strcmp(lfirst(left), lfirst(right));
+    errno = 0;
+    return readdir(opened);
 }
 
-/* The editions of a language that a folder has, in order. */
-static List *editions_in(const char *folder, const char *tag)
+/* The first edition of a language in a folder that comes after this one, by bytes. It is "" if there is none, or if the folder cannot be
+   read: then there is a reason. It takes no memory for a list. */
+static void find_next(const char *folder, const char *tag, const char *after, char *found, char *reason)
 {
-    DIR *opened = AllocateDir(folder);
-    List *found = NIL;
+    DIR *opened = opendir(folder);
     struct dirent *it;
 
+    *found = '\0';
     if (!opened && is_missing())
-        return NIL;
-    while ((it = ReadDir(opened, folder)) != NULL)
-        if (is_name(it->d_name, "-.") && has_table(folder, it->d_name, tag))
-            found = lappend(found, pstrdup(it->d_name));
-    FreeDir(opened);
-    list_sort(found, order_of_names);
-    return found;
-}
-
-/* Some names, with commas between them. */
-static char *list_of(List *names)
-{
-    StringInfoData text;
-    ListCell *it;
-
-    initStringInfo(&text);
-    foreach(it, names) {
-        appendStringInfoString(&text, text.len > 0 ? ", " : "");
-        appendStringInfoString(&text, lfirst(it));
+        return;
+    while (opened && (it = next_entry(opened)) != NULL)
+        if (is_name(it->d_name, "-.") && strcmp(it->d_name, after) > 0 && (!*found || strcmp(it->d_name, found) < 0) &&
+            has_table(folder, it->d_name, tag))
+            strlcpy(found, it->d_name, MOST_NAME + 1);
+    if (errno) {
+        snprintf(reason, REASON, "uca: a folder of languages cannot be read: %s: %s", strerror(errno), folder);
+        *found = '\0';
     }
-    return text.data;
+    if (opened)
+        closedir(opened);
 }
 
-static void not_kept_error(const char *tag, const char *edition)
+/* The only edition of a language in a folder, or "". If there are several, they are named in the reason. */
+static void find_only(const char *folder, const char *tag, char *edition, char *reason)
 {
-    char folder[MAXPGPATH];
-    List *folders = NIL;
+    char another[MOST_NAME + 1] = "";
 
-    for (int number = 0; folder_of_languages(number, folder); number++)
-        folders = lappend(folders, pstrdup(folder));
-    ereport(ERROR, (errcode(ERRCODE_UNDEFINED_FILE),
-                    errmsg("uca: no folder of the server has files of the language %s%s%s", tag, edition ? ", edition " : "", edition ? edition : ""),
-                    errdetail("The folders are %s.", list_of(folders)),
-                    errhint("An administrator makes them by: uca-files --into %s %s", (char *) list_nth(folders, 1), tag)));
+    find_next(folder, tag, "", edition, reason);
+    if (*edition)
+        find_next(folder, tag, edition, another, reason);
+    if (!*another)
+        return;
+    snprintf(reason, REASON, "uca: there are several editions of the language %s, and uca.edition names none of them: %s", tag, edition);
+    for (; *another; find_next(folder, tag, edition, another, reason)) {
+        strlcat(reason, ", ", REASON);
+        strlcat(reason, another, REASON);
+        strlcpy(edition, another, MOST_NAME + 1);
+    }
 }
 
-void find_language(const char *tag, const char *edition, Place *place)
+bool find_language(const char *tag, const char *asked, char *table, char *data, char *reason)
 {
-    List *found = NIL;
+    char folder[MOST_PATH], edition[MOST_NAME + 1] = "";
 
+    *reason = '\0';
     if (!is_name(tag, "-"))
-        ereport(ERROR, (errcode(ERRCODE_INVALID_PARAMETER_VALUE), errmsg("uca: the tag of a language has letters, digits, and single hyphens between them")));
-    if (edition && !is_name(edition, "-."))
-        ereport(ERROR, (errcode(ERRCODE_INVALID_PARAMETER_VALUE),
-                        errmsg("uca: the name of an edition has letters, digits, and single hyphens or dots between them")));
-    for (int number = 0; !found && folder_of_languages(number, place->folder); number++)
-        if (!edition)
-            found = editions_in(place->folder, tag);
-        else if (has_table(place->folder, edition, tag))
-            found = list_make1(pstrdup(edition));
-    if (!found)
-        not_kept_error(tag, edition);
-    if (list_length(found) > 1)
-        ereport(ERROR, (errcode(ERRCODE_AMBIGUOUS_PARAMETER), errmsg("uca: there are several editions of the language %s", tag),
-                        errdetail("%s has %s.", place->folder, list_of(found)),
-                        errhint("Name one of them: uca_use_language('%s', '%s')", tag, (char *) llast(found))));
-    strlcpy(place->edition, linitial(found), sizeof place->edition);
-    strlcpy(place->tag, tag, sizeof place->tag);
+        strlcpy(reason, "uca: uca.language is not letters and digits with single hyphens between them", REASON);
+    else if (*asked && !is_name(asked, "-."))
+        strlcpy(reason, "uca: uca.edition is not letters and digits with single hyphens or dots between them", REASON);
+    for (int number = 0; !*reason && !*edition && number < FOLDER_COUNT; number++) {
+        name_folder(number, folder);
+        if (!*asked)
+            find_only(folder, tag, edition, reason);
+        else if (has_table(folder, asked, tag))
+            strlcpy(edition, asked, sizeof edition);
+    }
+    if (!*reason && !*edition)
+        snprintf(reason, REASON, "uca: no folder has files of the language %s%s%s; an administrator makes them by: uca-files --into /usr/local/share/uca %s",
+                 tag, *asked ? ", edition " : "", asked, tag);
+    if (*reason)
+        return false;
+    name_file(table, folder, edition, tag, "table.txt");
+    name_file(data, folder, edition, tag, "data.txt");
+    return true;
 }

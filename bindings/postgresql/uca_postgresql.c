@@ -1,16 +1,11 @@
-/* The extension of PostgreSQL: sort keys of texts, by the files that the settings uca.table_file and uca.data_file name. Where
-   uca.book_file names a book, keys are compact by it. The settings uca.weighting, uca.identical and uca.numeric say how
-   texts are compared.
+/* The extension of PostgreSQL: sort keys of texts, by the files of the language that the setting uca.language names, or by those that
+   uca.table_file and uca.data_file name. Where uca.book_file names a book, keys are compact by it. The settings uca.weighting,
+   uca.identical and uca.numeric say how texts are compared.
 
-   The server reads these files once, when it starts. But keys that a database keeps may come from an earlier start or from another
-   server. So uca_key(text) compares the fingerprints in the database's table uca_files with the server's, and uca_key(text, fingerprint)
-   compares the fingerprint that it is given. Where one is not the server's, the call is an error.
-
-   A database may be for the files of a language instead, which uca_language.c finds. Its table uca_languages says by which language and edition
-   a fingerprint is found. Each process reads these files when it first needs them, and keeps what it has read. So no file changes an order while
-   a process runs: the files have the fingerprint that uca_files names, or the call is an error. uca_use_language and uca_use_files change
-   uca_files under a lock that waits for all transactions that have used the order, and keeps out others. So in a transaction the order stays
-   the same. Whoever has an older snapshot than the change, and whoever has used the earlier order, gets an error.
+   The server reads these files once, when it starts, so no setting and no file changes an order while it runs. But keys that a
+   database keeps may come from an earlier start or from another server. So uca_key(text) compares the fingerprints in the
+   database's table uca_files with the server's, and uca_key(text, fingerprint) compares the fingerprint that it is given. Where
+   one is not the server's, the call is an error.
 
    The server may have the next edition of these files beside them: uca.next_table_file and uca.next_data_file, and what `uca changes`
    made of the four, uca.changes_file and uca.certificate_file. They are read and audited when it starts. Then uca_key(text, fingerprint)
@@ -31,23 +26,19 @@
 #include "catalog/pg_class.h"
 #include "catalog/pg_depend.h"
 #include "catalog/pg_extension.h"
-#include "catalog/pg_namespace.h"
 #include "catalog/pg_proc.h"
 #include "catalog/pg_type.h"
 #include "executor/spi.h"
 #include "executor/tuptable.h"
 #include "fmgr.h"
-#include "funcapi.h"
 #include "lib/stringinfo.h"
 #include "mb/pg_wchar.h"
 #include "miscadmin.h"
-#include "storage/lmgr.h"
 #include "storage/proc.h"
 #include "utils/acl.h"
 #include "utils/builtins.h"
 #include "utils/fmgroids.h"
 #include "utils/guc.h"
-#include "utils/inval.h"
 #include "utils/lsyscache.h"
 #include "utils/memutils.h"
 #include "utils/rel.h"
@@ -68,12 +59,15 @@ void _PG_init(void);
 /* A table, a data file or a book with more bytes is rejected. */
 #define MOST_FILE (64 * 1024 * 1024)
 
+#define DIGEST 32
+
 /* The names of the files of an edition. */
 typedef struct {
     char *table, *data, *book;
 } Names;
 
 static Names names, next_names;
+static char *language, *language_edition;
 static char *changes_name, *certificate_name;
 static int weighting = UCA_BY_TABLE;
 static bool identical = false, by_value = false;
@@ -88,11 +82,16 @@ static const char *const CONDITIONS[] = {"", "OldIllFormed", "NewIllFormed", "Ra
                                          "RowChanged", "RowMissing", "RowExtra", "PointChanged", "SettingChanged"};
 static const char *const PLACES[] = {"", " old row %u", " new row %u", " code point %04X"};
 
+/* An edition: what keys are made by, the fingerprint of its files and settings in hexadecimal digits, and why it is closed. */
+typedef struct {
+    uca_collator collator;
+    char fingerprint[2 * DIGEST + 1];
+    bool has_book;
+    char reason[REASON];
+} Edition;
+
 static Edition present = {UCA_CLOSED_COLLATOR, "", false, "uca: the server has not read the files of uca.table_file and uca.data_file"};
 static Edition next = {UCA_CLOSED_COLLATOR, "", false, "uca: the server has no next edition: name it in uca.next_table_file and the other settings"};
-
-/* The languages that this process has opened. They stay open while it runs. */
-static Edition *languages = NULL;
 
 /* From the present edition to the next one. It is open where both are. */
 static uca_upgrade upgrade = UCA_CLOSED_UPGRADE;
@@ -115,13 +114,6 @@ typedef struct {
 } Seen;
 
 static Seen checked = {InvalidLocalTransactionId, InvalidSubTransactionId, InvalidTransactionId, 0, 0, 0};
-
-/* What the database was for then, and what this process has used last, or NULL. */
-static Edition *known, *used;
-
-/* Whether this transaction has changed the files, and what the process had used before. */
-static bool is_changing;
-static Edition *used_before;
 
 /* The bytes of an open file, or false and the reason. */
 static bool read_open_file(const char *setting, FILE *file, StringInfo bytes, char *reason)
@@ -220,8 +212,10 @@ static void read_edition(Edition *edition, Files *files, const Names *its)
     bool is_next = edition == &next;
 
     edition->has_book = *its->book;
-    if (read_file(is_next ? "uca.next_table_file" : "uca.table_file", its->table, &files->table, edition->reason) &&
-        read_file(is_next ? "uca.next_data_file" : "uca.data_file", its->data, &files->data, edition->reason) &&
+    if (read_file(is_next ? "uca.next_table_file" : *language ? "uca.language (table.txt)" : "uca.table_file", its->table, &files->table,
+                  edition->reason) &&
+        read_file(is_next ? "uca.next_data_file" : *language ? "uca.language (data.txt)" : "uca.data_file", its->data, &files->data,
+                  edition->reason) &&
         (!edition->has_book || read_file(is_next ? "uca.next_book_file" : "uca.book_file", its->book, &files->book, edition->reason)))
         open_files(edition, files);
 }
@@ -286,17 +280,36 @@ static bool has_next(void)
 
 static bool has_names(void)
 {
-    return *names.table || *names.data || *names.book || has_next();
+    return *names.table || *names.data || *names.book || *language || *language_edition || has_next();
+}
+
+/* The names of the present edition's files: those of the settings, or those of a language. Otherwise it is false, and there is a reason. */
+static bool find_names(Names *found)
+{
+    static char table[MOST_PATH], data[MOST_PATH];
+
+    *found = names;
+    if (!*language && !*language_edition)
+        return true;
+    found->table = table;
+    found->data = data;
+    if (*language && !*names.table && !*names.data)
+        return find_language(language, language_edition, table, data, present.reason);
+    strlcpy(present.reason, *language ? "uca: uca.language is set, so uca.table_file and uca.data_file may not be set" :
+            "uca: uca.edition is set without uca.language", REASON);
+    return false;
 }
 
 /* Reads the present edition, and then the next one, if there is one. */
 static void read_files(void)
 {
     Files old, new;
+    Names found;
 
     init_files(&old);
     init_files(&new);
-    read_edition(&present, &old, &names);
+    if (find_names(&found))
+        read_edition(&present, &old, &found);
     if (present.collator.is_open && has_next())
         read_edition(&next, &new, &next_names);
     if (next.collator.is_open)
@@ -307,6 +320,11 @@ static void read_files(void)
     free_files(&new);
 }
 
+static void define_name(const char *setting, const char *what, char **name)
+{
+    DefineCustomStringVariable(setting, what, NULL, name, "", PGC_POSTMASTER, 0, NULL, NULL, NULL);
+}
+
 /* A setting that names a file. It is read when the server starts, and only some roles see it. */
 static void define_file(const char *setting, const char *what, char **name)
 {
@@ -315,6 +333,8 @@ static void define_file(const char *setting, const char *what, char **name)
 
 static void define_settings(void)
 {
+    define_name("uca.language", "The tag of the language, in place of a table and a data file.", &language);
+    define_name("uca.edition", "The edition of the language's files, where there are several.", &language_edition);
     define_file("uca.table_file", "The weight table, in the format of allkeys.txt.", &names.table);
     define_file("uca.data_file", "The data file: combining classes and Han ranges.", &names.data);
     define_file("uca.book_file", "The book, by which keys are compact. Keys are whole without one.", &names.book);
@@ -331,51 +351,39 @@ static void define_settings(void)
                              &by_value, false, PGC_POSTMASTER, 0, NULL, NULL, NULL);
 }
 
-/* Whether the settings of an earlier version name files. */
-static bool has_old_names(void)
-{
-    return GetConfigOption("uca.table", true, false) || GetConfigOption("uca.data", true, false);
-}
-
 void _PG_init(void)
 {
-    bool is_old;
+    bool has_old_names;
 
     if (!process_shared_preload_libraries_in_progress)
         ereport(ERROR, (errcode(ERRCODE_OBJECT_NOT_IN_PREREQUISITE_STATE), errmsg("uca has to be loaded when the server starts"),
                         errhint("Add uca to shared_preload_libraries.")));
     define_settings();
-    is_old = has_old_names();
+    has_old_names = GetConfigOption("uca.table", true, false) || GetConfigOption("uca.data", true, false);
     MarkGUCPrefixReserved("uca");
-    if (is_old)
+    if (has_old_names)
         strlcpy(present.reason, "uca: the settings uca.table and uca.data are now uca.table_file and uca.data_file", REASON);
     else if (has_names())
         read_files();
-    start_texts(&present);
-    if (!present.collator.is_open && (is_old || has_names()))
+    start_texts();
+    if (!present.collator.is_open && (has_old_names || has_names()))
         ereport(WARNING, (errmsg("%s", present.reason)));
     else if (has_next() && !upgrade.is_open)
         ereport(WARNING, (errmsg("%s", next.reason)));
 }
 
-static void need_utf8(void)
+static void need_open(void)
 {
+    if (!present.collator.is_open)
+        ereport(ERROR, (errcode(ERRCODE_CONFIG_FILE_ERROR), errmsg("%s", present.reason)));
     if (GetDatabaseEncoding() != PG_UTF8)
         ereport(ERROR, (errcode(ERRCODE_FEATURE_NOT_SUPPORTED), errmsg("uca needs a database with the encoding UTF8")));
 }
 
-static void need_open(void)
+/* The table uca_files of the extension that has this function, or InvalidOid. It is found by numbers, whatever the schemas are. */
+static Oid files_of(Oid function)
 {
-    if (!present.collator.is_open)
-        ereport(ERROR, (errcode(ERRCODE_CONFIG_FILE_ERROR), errmsg("%s", present.reason),
-                        has_names() || has_old_names() ? 0 : errhint("Call uca_use_language('TAG'), or name both files, and start the server again.")));
-    need_utf8();
-}
-
-/* The table of this name of the extension that has this function, or InvalidOid. It is found by numbers, whatever the schemas are. */
-static Oid table_of(Oid function, const char *wanted)
-{
-    Oid extension = getExtensionOfObject(ProcedureRelationId, function), table = InvalidOid;
+    Oid extension = getExtensionOfObject(ProcedureRelationId, function), found = InvalidOid;
     Relation depends = table_open(DependRelationId, AccessShareLock);
     ScanKeyData keys[2];
     SysScanDesc scan;
@@ -384,19 +392,19 @@ static Oid table_of(Oid function, const char *wanted)
     ScanKeyInit(&keys[0], Anum_pg_depend_refclassid, BTEqualStrategyNumber, F_OIDEQ, ObjectIdGetDatum(ExtensionRelationId));
     ScanKeyInit(&keys[1], Anum_pg_depend_refobjid, BTEqualStrategyNumber, F_OIDEQ, ObjectIdGetDatum(extension));
     scan = systable_beginscan(depends, DependReferenceIndexId, true, NULL, 2, keys);
-    while (!OidIsValid(table) && HeapTupleIsValid(row = systable_getnext(scan))) {
+    while (!OidIsValid(found) && HeapTupleIsValid(row = systable_getnext(scan))) {
         Form_pg_depend it = (Form_pg_depend) GETSTRUCT(row);
         char *name = it->classid == RelationRelationId ? get_rel_name(it->objid) : NULL;
 
-        if (name && strcmp(name, wanted) == 0)
-            table = it->objid;
+        if (name && strcmp(name, "uca_files") == 0)
+            found = it->objid;
     }
     systable_endscan(scan);
     table_close(depends, AccessShareLock);
-    return table;
+    return found;
 }
 
-/* Opens the table uca_files. Numbers that were found are kept, until their table is dropped. */
+/* Opens that table. Numbers that were found are kept, until their table is dropped. */
 static Relation open_files_of(Oid function)
 {
     static struct {
@@ -406,7 +414,7 @@ static Relation open_files_of(Oid function)
     Relation files = function == *known_function ? try_table_open(*known_table, AccessShareLock) : NULL;
 
     if (!files) {
-        *known_table = table_of(function, "uca_files");
+        *known_table = files_of(function);
         *known_function = function;
         if (!OidIsValid(*known_table))
             ereport(ERROR, (errcode(ERRCODE_OBJECT_NOT_IN_PREREQUISITE_STATE), errmsg("uca: the extension has no table uca_files")));
@@ -441,258 +449,65 @@ static char *beginning_of(const text *given)
     return pnstrdup(bytes, pg_mbcliplen(bytes, VARSIZE_ANY_EXHDR(given), 100));
 }
 
-/* What the rows of uca_files are in a snapshot. */
-typedef struct {
-    char *fingerprint; /* that of all rows, or NULL if there are none, or others */
-    char *other;       /* if there are others, one that is not the server's */
-} Rows;
-
-/* Adds the fingerprint of a row. */
-static void add_row(Rows *rows, char *fingerprint, bool is_first)
-{
-    if (is_first)
-        rows->fingerprint = fingerprint;
-    else if (strcmp(rows->fingerprint, fingerprint) != 0) {
-        rows->other = strcmp(fingerprint, present.fingerprint) == 0 ? rows->fingerprint : fingerprint;
-        rows->fingerprint = NULL;
-    }
-}
-
-/* The rows of uca_files. It reads the table itself, not by a statement. So it needs no rights of the caller, and no plan. */
-static Rows rows_of(Relation files, Snapshot snapshot)
-{
-    Rows rows = {NULL, NULL};
-    TupleTableSlot *slot = table_slot_create(files, NULL);
-    TableScanDesc scan = table_beginscan(files, snapshot, 0, NULL);
-
-    for (int64 count = 0; !rows.other && table_scan_getnextslot(scan, ForwardScanDirection, slot); count++) {
-        bool is_null;
-        Datum value = slot_getattr(slot, 1, &is_null);
-
-        add_row(&rows, is_null ? "none" : beginning_of(DatumGetTextPP(value)), count == 0);
-    }
-    table_endscan(scan);
-    ExecDropSingleTupleTableSlot(slot);
-    return rows;
-}
-
-/* ---- Languages */
-
-/* The language of this fingerprint that is open, or NULL. */
-static Edition *open_language_of(const char *fingerprint)
-{
-    Edition *it = languages;
-
-    while (it && strcmp(it->fingerprint, fingerprint) != 0)
-        it = it->next;
-    return it;
-}
-
-/* Reads a file of a language, or says why not. */
-static bool read_language_file(const Place *place, const char *name, StringInfo bytes, char *reason)
-{
-    char path[MAXPGPATH];
-
-    snprintf(path, sizeof path, "%s/%s/%s/%s", place->folder, place->edition, place->tag, name);
-    return read_file(name, path, bytes, reason);
-}
-
-/* Whether a reason is that memory ran out: of the library, of the C library for an open file, or of a line of a file. */
-static bool is_of_memory(const char *reason)
-{
-    return strstr(reason, "out of memory") || strstr(reason, strerror(ENOMEM)) || strstr(reason, ": Memory");
-}
-
-/* Opens a language by its files, and keeps it. It is NULL if a file is rejected, and then there is a reason. */
-static Edition *open_language(const Place *place, bool has_book, char *reason)
-{
-    Edition *edition = MemoryContextAllocZero(TopMemoryContext, sizeof *edition), *same = NULL;
-    Files files;
-
-    init_files(&files);
-    edition->has_book = has_book;
-    if (read_language_file(place, "table.txt", &files.table, edition->reason) && read_language_file(place, "data.txt", &files.data, edition->reason) &&
-        (!has_book || read_language_file(place, "book.txt", &files.book, edition->reason)))
-        open_files(edition, &files);
-    free_files(&files);
-    if (edition->collator.is_open) {
-        same = open_language_of(edition->fingerprint);
-        if (!same) {
-            edition->next = languages;
-            return languages = edition;
-        }
-        uca_close(&edition->collator);
-    }
-    strlcpy(reason, edition->reason, REASON);
-    pfree(edition);
-    if (is_of_memory(reason))
-        ereport(ERROR, (errcode(ERRCODE_OUT_OF_MEMORY), errmsg("uca: out of memory")));
-    return same;
-}
-
-/* Opens the language of this fingerprint in one of the folders. They may have other files of the same names. */
-static Edition *open_in_folders(Place *place, bool has_book, const char *fingerprint, char *reason)
-{
-    char why[REASON] = "";
-
-    snprintf(reason, REASON, "uca: by the server's settings, no folder has files of the language %s, edition %s, with the database's fingerprint",
-             place->tag, place->edition);
-    for (int number = 0; folder_of_languages(number, place->folder); number++) {
-        Edition *edition = open_language(place, has_book, why);
-
-        if (edition && strcmp(edition->fingerprint, fingerprint) == 0)
-            return edition;
-    }
-    return NULL;
-}
-
-/* Opens the table uca_languages, or returns NULL if the extension is of an earlier version, or has another one. */
-static Relation open_languages_of(Oid function)
-{
-    static const Oid TYPES[] = {TEXTOID, TEXTOID, TEXTOID, BOOLOID};
-    Oid table = table_of(function, "uca_languages");
-    Relation opened = OidIsValid(table) ? try_table_open(table, AccessShareLock) : NULL;
-    bool fits = opened && RelationGetDescr(opened)->natts == lengthof(TYPES);
-
-    for (int at = 0; fits && at < lengthof(TYPES); at++)
-        fits = TupleDescAttr(RelationGetDescr(opened), at)->atttypid == TYPES[at];
-    if (fits || !opened)
-        return opened;
-    table_close(opened, AccessShareLock);
-    return NULL;
-}
-
-/* Opens the language of a row of uca_languages, if the row has this fingerprint. */
-static Edition *open_by_row(TupleTableSlot *row, const char *fingerprint, char *reason)
-{
-    Place place;
-    char *its;
-
-    slot_getallattrs(row);
-    if (row->tts_isnull[0] || row->tts_isnull[1] || row->tts_isnull[2] || row->tts_isnull[3])
-        return NULL;
-    its = TextDatumGetCString(row->tts_values[0]);
-    text_to_cstring_buffer(DatumGetTextPP(row->tts_values[1]), place.tag, sizeof place.tag);
-    text_to_cstring_buffer(DatumGetTextPP(row->tts_values[2]), place.edition, sizeof place.edition);
-    if (strcmp(its, fingerprint) != 0 || !are_names(place.tag, place.edition))
-        return NULL;
-    return open_in_folders(&place, DatumGetBool(row->tts_values[3]), fingerprint, reason);
-}
-
-/* The language of this fingerprint, by the rows of uca_languages that are there now. It is NULL if there is none, and where it cannot be
-   opened there is a reason. */
-static Edition *language_of(Oid function, const char *fingerprint, char *reason)
-{
-    Edition *edition = open_language_of(fingerprint);
-    Relation rows = edition ? NULL : open_languages_of(function);
-    TupleTableSlot *slot;
-    TableScanDesc scan;
-
-    if (!rows)
-        return edition;
-    slot = table_slot_create(rows, NULL);
-    scan = table_beginscan(rows, SnapshotSelf, 0, NULL);
-    while (!edition && table_scan_getnextslot(scan, ForwardScanDirection, slot))
-        edition = open_by_row(slot, fingerprint, reason);
-    table_endscan(scan);
-    ExecDropSingleTupleTableSlot(slot);
-    table_close(rows, AccessShareLock);
-    return edition;
-}
-
-/* ---- The files of a database */
-
-/* What a database is for, or why that is not open. */
-typedef struct {
-    Edition *edition;
-    const char *other;   /* a fingerprint of the database that is not open */
-    bool has_changed;    /* another transaction has changed the files after the snapshot */
-    char reason[REASON]; /* of a language that cannot be opened, or empty */
-} Found;
-
-/* Finds it by the rows of uca_files that this snapshot sees, and by those that are there now. The lock on uca_files is kept until the transaction
-   ends, and who changes the files takes a greater one. So no other transaction changes them meanwhile. */
-static void find_edition(Oid function, Snapshot now, Found *found)
+/* A fingerprint of uca_files that is not the server's, or NULL if there is none. It reads the table itself, not by a statement. So it
+   needs no rights of the caller, and no plan. */
+static char *other_fingerprint(Oid function, Snapshot now)
 {
     Relation files = open_files_of(function);
     Snapshot snapshot = RegisterSnapshot(now);
-    Rows seen = rows_of(files, snapshot), there = rows_of(files, SnapshotSelf);
+    TupleTableSlot *slot = table_slot_create(files, NULL);
+    TableScanDesc scan = table_beginscan(files, snapshot, 0, NULL);
+    char *other = NULL;
+    int64 rows = 0;
 
+    while (!other && table_scan_getnextslot(scan, ForwardScanDirection, slot)) {
+        bool is_null;
+        Datum value = slot_getattr(slot, 1, &is_null);
+
+        rows++;
+        if (is_null || !is_fingerprint(DatumGetTextPP(value), &present))
+            other = is_null ? "none" : beginning_of(DatumGetTextPP(value));
+    }
+    table_endscan(scan);
+    ExecDropSingleTupleTableSlot(slot);
     UnregisterSnapshot(snapshot);
-    table_close(files, NoLock);
-    found->other = seen.other ? seen.other : there.other ? there.other : there.fingerprint ? there.fingerprint : "none";
-    if (!seen.fingerprint || !there.fingerprint)
-        return;
-    found->has_changed = strcmp(seen.fingerprint, there.fingerprint) != 0;
-    if (found->has_changed)
-        return;
-    if (present.collator.is_open && strcmp(seen.fingerprint, present.fingerprint) == 0)
-        found->edition = &present;
-    else
-        found->edition = language_of(function, seen.fingerprint, found->reason);
+    table_close(files, AccessShareLock);
+    return rows == 0 ? "none" : other;
 }
 
-/* What this database is for, or NULL and why that is not open. */
-static Edition *edition_of(Oid function, Found *found)
+/* A fingerprint of the database that is not the server's, or NULL: uca_files has rows, and each is the server's. */
+static char *found_other(Oid function)
 {
     Snapshot now = ActiveSnapshotSet() ? GetActiveSnapshot() : GetTransactionSnapshot();
     Seen seen = {MyProc->lxid, GetCurrentSubTransactionId(), now->xmax, now->xcnt, now->subxcnt, now->curcid};
+    char *other;
 
     if (checked.transaction == seen.transaction && checked.inside == seen.inside && checked.end == seen.end &&
         checked.running == seen.running && checked.running_inside == seen.running_inside && checked.commands == seen.commands)
-        return known;
-    *found = (Found) {NULL};
-    find_edition(function, now, found);
-    if (found->edition) {
+        return NULL;
+    other = other_fingerprint(function, now);
+    if (!other)
         checked = seen;
-        known = found->edition;
-    }
-    return found->edition;
+    return other;
 }
 
-/* The files were changed by another transaction, after this one has begun, or after this process has used the earlier ones. It may have plans with
-   keys by these, and who asks it may have such keys. */
-static void changed_error(void)
+void need_files(Oid function)
 {
-    ereport(ERROR, (errcode(ERRCODE_T_R_SERIALIZATION_FAILURE), errmsg("uca: the files by which this database's keys are made have changed"),
-                    errhint("Run the transaction again. Keys that the program has from before are of other files.")));
-}
+    char *other;
 
-static void not_open_error(const Found *found)
-{
-    if (found->has_changed)
-        changed_error();
-    if (*found->reason)
-        ereport(ERROR, (errcode(ERRCODE_CONFIG_FILE_ERROR), errmsg("%s", found->reason), errdetail("The fingerprint is %s.", found->other),
-                        errhint("Give the server these files and settings again. Or call uca_use_language with again => true.")));
     need_open();
-    ereport(ERROR, (errcode(ERRCODE_OBJECT_NOT_IN_PREREQUISITE_STATE),
-                    errmsg("uca: the server has other files or settings than those by which this database's keys were made"),
-                    errdetail("The database's fingerprint is %s. The server's is %s.", found->other, present.fingerprint),
-                    errhint("Give the server the old files and settings. Or call uca_use_files(again => true), which makes "
-                            "again what uca_dependents() lists.")));
-}
-
-Edition *need_files(Oid function)
-{
-    Found found;
-    Edition *edition, *earlier = used;
-
-    need_utf8();
-    edition = edition_of(function, &found);
-    if (!edition)
-        not_open_error(&found);
-    used = edition;
-    if (earlier && edition != earlier)
-        changed_error();
-    return edition;
+    other = found_other(function);
+    if (other)
+        ereport(ERROR, (errcode(ERRCODE_OBJECT_NOT_IN_PREREQUISITE_STATE),
+                        errmsg("uca: the server has other files or settings than those by which this database's keys were made"),
+                        errdetail("The database's fingerprint is %s. The server's is %s.", other, present.fingerprint),
+                        errhint("Give the server the old files and settings. Or call uca_use_files(again => true), which makes "
+                                "again what uca_dependents() lists.")));
 }
 
 bool has_its_files(Oid function)
 {
-    Found found;
-
-    return GetDatabaseEncoding() == PG_UTF8 && edition_of(function, &found);
+    return present.collator.is_open && GetDatabaseEncoding() == PG_UTF8 && !found_other(function);
 }
 
 bool has_numbers_by_value(void)
@@ -711,6 +526,16 @@ bool is_too_long(const struct varlena *given)
     return counted > MOST_TEXT;
 }
 
+uca_collator *present_collator(void)
+{
+    return &present.collator;
+}
+
+bool has_present_book(void)
+{
+    return present.has_book;
+}
+
 /* An argument that is a fingerprint, and not NULL. */
 static text *fingerprint_argument(FunctionCallInfo fcinfo, int argument)
 {
@@ -721,36 +546,24 @@ static text *fingerprint_argument(FunctionCallInfo fcinfo, int argument)
 
 static void others_named_error(const text *given)
 {
-    need_open();
     ereport(ERROR, (errcode(ERRCODE_OBJECT_NOT_IN_PREREQUISITE_STATE),
                     errmsg("uca: the server has other files or settings than those that are named"),
                     errdetail("The named fingerprint is %s. The server's is %s%s%s.", beginning_of(given), present.fingerprint,
                               next.collator.is_open ? ", and its next one is " : "", next.collator.is_open ? next.fingerprint : "")));
 }
 
-/* The language that this fingerprint names. */
-static Edition *named_language(Oid function, const text *given)
-{
-    char reason[REASON] = "";
-    Edition *edition = VARSIZE_ANY_EXHDR(given) == 2 * DIGEST ? language_of(function, beginning_of(given), reason) : NULL;
-
-    if (!edition && *reason)
-        ereport(ERROR, (errcode(ERRCODE_CONFIG_FILE_ERROR), errmsg("%s", reason), errdetail("The fingerprint is %s.", beginning_of(given))));
-    if (!edition)
-        others_named_error(given);
-    return edition;
-}
-
 /* The edition that the second argument, a fingerprint, names. */
 static Edition *named_edition(FunctionCallInfo fcinfo)
 {
     text *given;
+    Edition *edition;
 
-    need_utf8();
+    need_open();
     given = fingerprint_argument(fcinfo, 1);
-    if (is_fingerprint(given, &present))
-        return &present;
-    return is_fingerprint(given, &next) ? &next : named_language(fcinfo->flinfo->fn_oid, given);
+    edition = is_fingerprint(given, &present) ? &present : is_fingerprint(given, &next) ? &next : NULL;
+    if (!edition)
+        others_named_error(given);
+    return edition;
 }
 
 /* The second argument has to name the present edition, and the third one the next. */
@@ -854,8 +667,7 @@ static void value_error(const Request *asked, const struct varlena *given, uint3
 
     if (status == UCA_NO_BOOK)
         ereport(ERROR, (errcode(ERRCODE_OBJECT_NOT_IN_PREREQUISITE_STATE), errmsg("uca: the server has no book, so its keys are whole"),
-                        errhint("Name a book in uca.book_file, or in uca.next_book_file for the next edition, and start the server again. "
-                                "That of a language is named by uca_use_language.")));
+                        errhint("Name a book in uca.book_file, or in uca.next_book_file for the next edition, and start the server again.")));
     if (status == UCA_NO_KEY || status == UCA_NO_IMAGE)
         ereport(ERROR, (errcode(ERRCODE_INVALID_BINARY_REPRESENTATION),
                         errmsg("uca: the bytes are rejected: %s", made == REKEYED ? "NoImage" : made == EXPANDED_KEY ? "NoCompactKey" : "OtherKey")));
@@ -962,17 +774,19 @@ static Request levels_request(FunctionCallInfo fcinfo, int argument, uint32 end,
     return asked;
 }
 
-/* By the files of the database. The function is STRICT. */
+/* By the files of the database, which are those of the present edition. The function is STRICT. */
 static Datum value_by_files(FunctionCallInfo fcinfo, Made made, uint32 range, uint32 end)
 {
-    Request asked = {made, range, end, need_files(fcinfo->flinfo->fn_oid)};
+    Request asked = {made, range, end, &present};
 
+    need_files(fcinfo->flinfo->fn_oid);
     return value_of(fcinfo, asked);
 }
 
 static Datum levels_by_files(FunctionCallInfo fcinfo, uint32 end)
 {
-    return value_of(fcinfo, levels_request(fcinfo, 1, end, need_files(fcinfo->flinfo->fn_oid)));
+    need_files(fcinfo->flinfo->fn_oid);
+    return value_of(fcinfo, levels_request(fcinfo, 1, end, &present));
 }
 
 /* By the files that the fingerprint names. A fingerprint that is NULL is an error, and another argument that is NULL makes NULL. */
@@ -1031,7 +845,8 @@ FUNCTION(uca_compact_by_fingerprint, value_by_fingerprint(fcinfo, COMPACT_KEY, 0
 PG_FUNCTION_INFO_V1(uca_any_key_of_text);
 Datum uca_any_key_of_text(PG_FUNCTION_ARGS)
 {
-    return any_key_of(fcinfo, need_files(fcinfo->flinfo->fn_oid));
+    need_files(fcinfo->flinfo->fn_oid);
+    return any_key_of(fcinfo, &present);
 }
 
 PG_FUNCTION_INFO_V1(uca_any_key_by_fingerprint);
@@ -1048,7 +863,8 @@ Datum uca_any_key_by_fingerprint(PG_FUNCTION_ARGS)
 PG_FUNCTION_INFO_V1(uca_check_of_text);
 Datum uca_check_of_text(PG_FUNCTION_ARGS)
 {
-    return check_of(fcinfo, need_files(fcinfo->flinfo->fn_oid));
+    need_files(fcinfo->flinfo->fn_oid);
+    return check_of(fcinfo, &present);
 }
 
 PG_FUNCTION_INFO_V1(uca_check_by_fingerprint);
@@ -1089,125 +905,12 @@ Datum uca_fingerprint_of_next_files(PG_FUNCTION_ARGS)
     PG_RETURN_TEXT_P(cstring_to_text(next.fingerprint));
 }
 
-/* uca_fingerprint() returns text: that of the files and settings by which this database's keys are made, or else of those that the server has
-   read. */
+/* uca_fingerprint() returns text: that of the files and settings that the server has read. */
 PG_FUNCTION_INFO_V1(uca_fingerprint_of_files);
 Datum uca_fingerprint_of_files(PG_FUNCTION_ARGS)
 {
-    Found found;
-    Edition *edition;
-
-    need_utf8();
-    edition = edition_of(fcinfo->flinfo->fn_oid, &found);
-    if (!edition && (found.has_changed || *found.reason))
-        not_open_error(&found);
-    if (!edition)
-        need_open();
-    PG_RETURN_TEXT_P(cstring_to_text(edition ? edition->fingerprint : present.fingerprint));
-}
-
-/* uca_server_fingerprint() returns text: that of the files and settings that the server has read when it started, or NULL if no setting names
-   one. */
-PG_FUNCTION_INFO_V1(uca_fingerprint_of_server);
-Datum uca_fingerprint_of_server(PG_FUNCTION_ARGS)
-{
-    need_utf8();
-    if (!present.collator.is_open && !has_names() && !has_old_names())
-        PG_RETURN_NULL();
     need_open();
     PG_RETURN_TEXT_P(cstring_to_text(present.fingerprint));
-}
-
-/* uca_find_language(text, text, boolean) returns a row: the fingerprint of the files of a language, with its book or without it, and the edition
-   that they are of. The edition may be NULL. The language is open from now on. */
-PG_FUNCTION_INFO_V1(uca_find_language);
-Datum uca_find_language(PG_FUNCTION_ARGS)
-{
-    Place place;
-    Edition *edition;
-    char reason[REASON] = "";
-    Datum values[2];
-    bool are_null[2] = {false, false};
-    TupleDesc row;
-
-    need_utf8();
-    if (PG_ARGISNULL(0) || PG_ARGISNULL(2))
-        ereport(ERROR, (errcode(ERRCODE_NULL_VALUE_NOT_ALLOWED), errmsg("uca: the tag of the language, or whether its book is wanted, is NULL")));
-    find_language(text_to_cstring(PG_GETARG_TEXT_PP(0)), PG_ARGISNULL(1) ? NULL : text_to_cstring(PG_GETARG_TEXT_PP(1)), &place);
-    edition = open_language(&place, PG_GETARG_BOOL(2), reason);
-    if (!edition)
-        ereport(ERROR, (errcode(ERRCODE_CONFIG_FILE_ERROR), errmsg("%s", reason), errdetail("The folder is %s/%s/%s.", place.folder, place.edition, place.tag)));
-    if (get_call_result_type(fcinfo, NULL, &row) != TYPEFUNC_COMPOSITE || row->natts != 2)
-        elog(ERROR, "uca: uca_find_language is called for another row");
-    values[0] = CStringGetTextDatum(edition->fingerprint);
-    values[1] = CStringGetTextDatum(place.edition);
-    PG_RETURN_DATUM(HeapTupleGetDatum(heap_form_tuple(BlessTupleDesc(row), values, are_null)));
-}
-
-/* A change that is taken back has been none. */
-static void take_back(void)
-{
-    if (is_changing)
-        used = used_before;
-}
-
-static void end_transaction(XactEvent event, void *nothing)
-{
-    if (event == XACT_EVENT_ABORT)
-        take_back();
-    is_changing = false;
-}
-
-static void end_subtransaction(SubXactEvent event, SubTransactionId inside, SubTransactionId outside, void *nothing)
-{
-    if (event == SUBXACT_EVENT_ABORT_SUB)
-        take_back();
-}
-
-/* From now on the process may use other files, unless the transaction or a part of it is taken back. */
-static void begin_change(void)
-{
-    static bool is_registered;
-
-    if (!is_registered) {
-        RegisterXactCallback(end_transaction, NULL);
-        RegisterSubXactCallback(end_subtransaction, NULL);
-        is_registered = true;
-    }
-    if (!is_changing)
-        used_before = used;
-    is_changing = true;
-    used = NULL;
-    checked.transaction = InvalidLocalTransactionId;
-}
-
-/* The rows of uca_files are to be of this fingerprint. So this waits for the transactions that have used the order, and keeps others out. A
-   transaction that sees the objects of the database as they were before it waited would miss those that were made meanwhile. */
-static void change_files(Oid table)
-{
-    LockRelationOid(table, AccessExclusiveLock);
-    if (IsolationUsesXactSnapshot())
-        ereport(ERROR, (errcode(ERRCODE_ACTIVE_SQL_TRANSACTION), errmsg("uca: the files are changed in a transaction with the isolation level READ COMMITTED")));
-    begin_change();
-    CacheInvalidateCatalog(NamespaceRelationId); /* so that all sessions make their plans again, also those that have only constants */
-}
-
-/* uca_lock_files(text) returns boolean: true. Only this transaction changes uca_files from now on. NULL is the fingerprint of no files, an error. */
-PG_FUNCTION_INFO_V1(uca_lock_files);
-Datum uca_lock_files(PG_FUNCTION_ARGS)
-{
-    Relation files;
-    Rows rows;
-
-    if (PG_ARGISNULL(0))
-        need_open();
-    LockRelationOid(table_of(fcinfo->flinfo->fn_oid, "uca_files"), ShareUpdateExclusiveLock);
-    files = open_files_of(fcinfo->flinfo->fn_oid);
-    rows = rows_of(files, SnapshotSelf);
-    if (!rows.fingerprint || strcmp(rows.fingerprint, text_to_cstring(PG_GETARG_TEXT_PP(0))) != 0)
-        change_files(RelationGetRelid(files));
-    table_close(files, NoLock);
-    PG_RETURN_BOOL(true);
 }
 
 /* uca_need_no_dependents(text) returns boolean: true for NULL. Otherwise it is an error, which shows this list of dependents. */
@@ -1218,8 +921,8 @@ Datum uca_need_no_dependents(PG_FUNCTION_ARGS)
         ereport(ERROR, (errcode(ERRCODE_DEPENDENT_OBJECTS_STILL_EXIST),
                         errmsg("uca: this database keeps keys of other files or settings than the server's"),
                         errdetail("%s", text_to_cstring(PG_GETARG_TEXT_PP(0))),
-                        errhint("Drop what uca_dependents() lists, call uca_use_files() or uca_use_language, and make it again, in one transaction. "
-                                "Where each of its rows has a statement, `again => true` runs them.")));
+                        errhint("Drop what uca_dependents() lists, call uca_use_files(), and make it again, in one transaction. Where each of its "
+                                "rows has a statement, uca_use_files(again => true) runs them.")));
     PG_RETURN_BOOL(true);
 }
 

@@ -9,28 +9,9 @@
 
 #include "uca.h"
 
-#define DIGEST 32
-
-/* The size of a reason. */
+/* The size of a reason, and of the path of a file of a language. */
 #define REASON 400
-
-/* The bytes that a tag of a language, or the name of an edition, has at most. */
-#define MOST_NAME 100
-
-/* What keys are made by and texts are ordered by, the fingerprint of its files and settings in hexadecimal digits, and why it is closed. */
-typedef struct Edition {
-    uca_collator collator;
-    char fingerprint[2 * DIGEST + 1];
-    bool has_book;
-    char reason[REASON];
-    uint8 *byte_of;      /* of uca_text.c: what the beginnings of keys are made by, or NULL */
-    struct Edition *next; /* the next one of the languages that this process has opened */
-} Edition;
-
-/* Where the files of a language are: in the folder "folder/edition/tag". */
-typedef struct {
-    char folder[MAXPGPATH], edition[MOST_NAME + 1], tag[MOST_NAME + 1];
-} Place;
+#define MOST_PATH (MAXPGPATH + 300)
 
 /* A text with more bytes has more than 1,048,576 code points, since each has four at most. */
 #define MOST_TEXT (4 * 1048576)
@@ -45,26 +26,24 @@ extern bool has_numbers_by_value(void);
    since those before a number are not read. So the library may find a text too long that is not so here. */
 extern bool is_too_long(const struct varlena *given);
 
-/* What this database is for: the server's files and settings, or those of a language. It is open, or this is an error. It stays the same
-   until the transaction ends, unless the transaction changes it. The function is one of the extension in this database. */
-extern Edition *need_files(Oid function);
+/* What keys are made and texts are ordered by, for as long as the server runs. It is closed if the server has no files. */
+extern uca_collator *present_collator(void);
 
-/* Whether this database is for some that are open. */
+/* Whether keys are compact. */
+extern bool has_present_book(void);
+
+/* The database of this process has to be for the server's files and settings. The function is one of the extension in this database. */
+extern void need_files(Oid function);
+
+/* Whether it is. */
 extern bool has_its_files(Oid function);
 
-/* Prepares sorting by the files that the server has read, if they are open, and begins to look at the indexes of each table that is
-   planned. */
-extern void start_texts(Edition *present);
+/* Prepares sorting, and begins to look at the indexes of each table that is planned. The files have been read. */
+extern void start_texts(void);
 
-/* A folder that may have files of languages, from 0 on, or false if there are no more. */
-extern bool folder_of_languages(int number, char *folder);
-
-/* Finds the files of a language in the first folder that has some: those of an edition, or the only ones where the edition is NULL. Otherwise
-   it is an error. */
-extern void find_language(const char *tag, const char *edition, Place *place);
-
-/* Whether these are the names of a language and an edition, so that they are not names of any other folder. */
-extern bool are_names(const char *tag, const char *edition);
+/* The paths of the table and the data file of a language, of the edition that is asked for, or of the only one where that is "". Otherwise it
+   is false, and there is a reason. */
+extern bool find_language(const char *tag, const char *asked, char *table, char *data, char *reason);
 
 #pragma GCC visibility pop
 

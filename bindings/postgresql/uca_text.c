@@ -22,7 +22,6 @@
 #include "port/pg_bswap.h"
 #include "utils/builtins.h"
 #include "utils/lsyscache.h"
-#include "utils/memutils.h"
 #include "utils/sortsupport.h"
 #include "utils/syscache.h"
 #include "utils/typcache.h"
@@ -42,15 +41,15 @@ static void memory_error(void)
     ereport(ERROR, (errcode(ERRCODE_OUT_OF_MEMORY), errmsg("uca: out of memory")));
 }
 
-/* The order of two texts. The edition is open. */
-static int order_of(Edition *edition, const struct varlena *left, const struct varlena *right)
+/* The order of two texts. The collator is open. */
+static int order_of(const struct varlena *left, const struct varlena *right)
 {
     const uint8 *left_bytes = (const uint8 *) VARDATA_ANY(left), *right_bytes = (const uint8 *) VARDATA_ANY(right);
     size_t left_length = VARSIZE_ANY_EXHDR(left), right_length = VARSIZE_ANY_EXHDR(right);
     int by_bytes = order_of_bytes(left_bytes, left_length, right_bytes, right_length);
     int32 order = 0;
 
-    if (by_bytes != 0 && uca_order(&edition->collator, left_bytes, left_length, right_bytes, right_length, &order) != UCA_OK)
+    if (by_bytes != 0 && uca_order(present_collator(), left_bytes, left_length, right_bytes, right_length, &order) != UCA_OK)
         memory_error();
     return order ? order : by_bytes;
 }
@@ -71,19 +70,18 @@ static void need_deterministic(Oid collation)
 static int compared(FunctionCallInfo fcinfo)
 {
     struct varlena *left = (struct varlena *) PG_GETARG_TEXT_PP(0), *right = (struct varlena *) PG_GETARG_TEXT_PP(1);
-    Edition *edition = need_files(fcinfo->flinfo->fn_oid);
     int order;
 
+    need_files(fcinfo->flinfo->fn_oid);
     need_deterministic(PG_GET_COLLATION());
-    order = order_of(edition, left, right);
+    order = order_of(left, right);
     PG_FREE_IF_COPY(left, 0);
     PG_FREE_IF_COPY(right, 1);
     return order;
 }
 
-/* Memory for the key of a text, and what the key is made by. */
+/* Memory for the key of a text. */
 typedef struct {
-    Edition *edition;
     uint8 *bytes;
     size_t room;
 } Room;
@@ -97,11 +95,11 @@ static uint32 make_key(const struct varlena *given, Room *key, size_t *length)
 
     if (is_too_long(given))
         return UCA_TOO_LONG;
-    status = uca_key(&key->edition->collator, bytes, text_length, key->bytes, key->room, length);
+    status = uca_key(present_collator(), bytes, text_length, key->bytes, key->room, length);
     if (status == UCA_SMALL) {
         key->room = *length;
         key->bytes = repalloc(key->bytes, key->room);
-        status = uca_key(&key->edition->collator, bytes, text_length, key->bytes, key->room, length);
+        status = uca_key(present_collator(), bytes, text_length, key->bytes, key->room, length);
     }
     if (status == UCA_MEMORY)
         memory_error();
@@ -111,9 +109,9 @@ static uint32 make_key(const struct varlena *given, Room *key, size_t *length)
 /* Room for the keys of most texts. */
 #define MOST_KEYS 512
 
-static Room new_room(Edition *edition)
+static Room new_room(void)
 {
-    Room key = {edition, palloc(MOST_KEYS), MOST_KEYS};
+    Room key = {palloc(MOST_KEYS), MOST_KEYS};
 
     return key;
 }
@@ -122,10 +120,11 @@ static Room new_room(Edition *edition)
 static int compared_with_key(FunctionCallInfo fcinfo)
 {
     struct varlena *left = (struct varlena *) PG_GETARG_TEXT_PP(0), *right = (struct varlena *) PG_GETARG_BYTEA_PP(1);
-    Room key = new_room(need_files(fcinfo->flinfo->fn_oid));
+    Room key = new_room();
     size_t length;
     int order = 1;
 
+    need_files(fcinfo->flinfo->fn_oid);
     need_deterministic(PG_GET_COLLATION());
     if (make_key(left, &key, &length) == UCA_OK)
         order = order_of_bytes(key.bytes, length, (const uint8 *) VARDATA_ANY(right), VARSIZE_ANY_EXHDR(right));
@@ -171,16 +170,16 @@ static const char FREQUENT[] = " abcdefghijklmnopqrstuvwxyz0123456789-.,'абв�
 /* Each frequent weight has an odd byte of its own, and all between two of them share an even one. */
 #define MOST_FREQUENT 126
 
-/* How many weights there are. Each has a byte, which is 0 for the end of level 1. */
-#define WEIGHTS 65536
+/* The byte of each weight. It is 0 for the end of level 1. */
+static uint8 byte_of[65536];
 
 /* Marks the first weight of this letter as frequent, unless it is already. Returns whether it did. Where numbers are
    ordered by their values, a digit is read after the number of digits. So its weight is the second one. */
-static bool mark_frequent(Edition *edition, uint8 *byte_of, const char *letter, size_t length)
+static bool mark_frequent(const char *letter, size_t length)
 {
     uint8 key[MOST_KEYS];
     size_t at = has_numbers_by_value() && *letter >= '0' && *letter <= '9' ? 2 : 0, key_length;
-    uint32 status = uca_key(&edition->collator, (const uint8 *) letter, length, key, sizeof key, &key_length);
+    uint32 status = uca_key(present_collator(), (const uint8 *) letter, length, key, sizeof key, &key_length);
     uint16 weight;
 
     if (status != UCA_OK || key_length < at + 2)
@@ -192,33 +191,24 @@ static bool mark_frequent(Edition *edition, uint8 *byte_of, const char *letter, 
     return true;
 }
 
-/* Chooses the byte of each weight, once for each edition whose keys are whole. */
-static void choose_bytes(Edition *edition)
+static void choose_bytes(void)
 {
-    uint8 *byte_of = MemoryContextAllocZero(TopMemoryContext, WEIGHTS);
     int count = 0, byte = 2;
     size_t length;
 
     for (const char *letter = FREQUENT; *letter && count < MOST_FREQUENT; letter += length) {
         length = pg_utf_mblen((const unsigned char *) letter);
-        count += mark_frequent(edition, byte_of, letter, length);
+        count += mark_frequent(letter, length);
     }
-    for (int weight = 1; weight < WEIGHTS; weight++) {
+    for (int weight = 1; weight < lengthof(byte_of); weight++) {
         byte += byte_of[weight];
         byte_of[weight] = byte;
         byte += byte % 2;
     }
-    edition->byte_of = byte_of;
-}
-
-static void prepare_sorts(Edition *edition)
-{
-    if (!edition->has_book && !edition->byte_of)
-        choose_bytes(edition);
 }
 
 /* The beginning of a whole key. */
-static uint64 beginning_of_weights(const uint8 *byte_of, const uint8 *key, size_t length)
+static uint64 beginning_of_weights(const uint8 *key, size_t length)
 {
     uint8 begun[10] = {0};
     uint64 beginning;
@@ -256,7 +246,7 @@ static Datum converted(Datum original, SortSupport support)
     size_t length;
 
     if (make_key(given, key, &length) == UCA_OK)
-        beginning = key->edition->has_book ? beginning_of_compact(key->bytes, length) : beginning_of_weights(key->edition->byte_of, key->bytes, length);
+        beginning = has_present_book() ? beginning_of_compact(key->bytes, length) : beginning_of_weights(key->bytes, length);
     if ((Pointer) given != DatumGetPointer(original))
         pfree(given);
 #if SIZEOF_DATUM == 8
@@ -269,7 +259,7 @@ static Datum converted(Datum original, SortSupport support)
 static int compared_whole(Datum left, Datum right, SortSupport support)
 {
     struct varlena *left_text = (struct varlena *) DatumGetTextPP(left), *right_text = (struct varlena *) DatumGetTextPP(right);
-    int order = order_of(((Room *) support->ssup_extra)->edition, left_text, right_text);
+    int order = order_of(left_text, right_text);
 
     if ((Pointer) left_text != DatumGetPointer(left))
         pfree(left_text);
@@ -284,21 +274,21 @@ static bool never_given_up(int count, SortSupport support)
     return false;
 }
 
-/* A sort is by the files that the database is for when it begins. So one look at uca_files is enough for it. */
+/* The sort of one statement is by the files that the server has, which do not change. So one look at uca_files is enough for it. */
 PG_FUNCTION_INFO_V1(uca_text_sort_support);
 Datum uca_text_sort_support(PG_FUNCTION_ARGS)
 {
     SortSupport support = (SortSupport) PG_GETARG_POINTER(0);
     MemoryContext before = MemoryContextSwitchTo(support->ssup_cxt);
-    Edition *edition = need_files(fcinfo->flinfo->fn_oid);
-    Room *key = palloc(sizeof *key);
 
+    need_files(fcinfo->flinfo->fn_oid);
     need_deterministic(support->ssup_collation);
-    *key = new_room(edition);
-    support->ssup_extra = key;
     support->comparator = compared_whole;
     if (support->abbreviate) {
-        prepare_sorts(edition);
+        Room *key = palloc(sizeof *key);
+
+        *key = new_room();
+        support->ssup_extra = key;
         support->comparator = ssup_datum_unsigned_cmp;
         support->abbrev_converter = converted;
         support->abbrev_abort = never_given_up;
@@ -440,10 +430,10 @@ static void leave_out_indexes(PlannerInfo *planner, Oid relation, bool is_parent
     }
 }
 
-void start_texts(Edition *present)
+void start_texts(void)
 {
-    if (present->collator.is_open)
-        prepare_sorts(present);
+    if (present_collator()->is_open && !has_present_book())
+        choose_bytes();
     earlier_hook = get_relation_info_hook;
     get_relation_info_hook = leave_out_indexes;
 }

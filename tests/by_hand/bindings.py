@@ -16,7 +16,7 @@ First prove and build the static library: `tools/build.py uca_c uca_run`. Then t
 - the tests of the module for Python, as it is and from a wheel with the library inside, and those of keys, threads, signals and forks under valgrind;
 - statements of SQLite with the extension, over files that are the same or others, and those of docs/BINDINGS.md; also in threads, and where each allocation fails in turn;
 - upgrades from the edition of examples/ to that of examples/editions/, in Python, SQLite and PostgreSQL. upgrades.py does the same with Unicode's tables;
-- languages by their tags, by files of examples/ and by those that tools/uca_files.py makes: in Python, C, SQLite and PostgreSQL, with sessions, dumps and folders of a second administrator;
+- languages by their tags, by files of examples/ and by those that tools/uca_files.py makes: in Python, C, SQLite and PostgreSQL, and what names no files there;
 - statements, dumps and replication of PostgreSQL with its extension, roles that make functions to be run by a superuser, and the commands, settings and statements of docs/BINDINGS.md. The extension is installed to a copy of the server's programs in a temporary folder. Each server
   has a folder of its own, listens on a Unix socket there, and is stopped afterwards;
 - all four over Unicode's table, and over that table tailored for Danish: 100,000 words of nine languages have the keys of `uca keys` and the order of `uca sort`.
@@ -874,7 +874,7 @@ def sqlite_threads(work):
 def sqlite_moved(work):
     """A connection in two threads, each while SQLite sorts in others. Without the lock of the extension this fails."""
     sqlite_says(work, "SELECT 1;")
-    parts = [f"{TOP}/bindings/sqlite/{it}.c" for it in ("threads", "uca_sqlite")]
+    parts = [f"{TOP}/bindings/sqlite/{it}.c" for it in ("threads", "uca_sqlite", "uca_language")]
     flags = ["-std=c11", "-O2", "-Wall", "-Wextra", "-Wpedantic", "-Werror", "-pthread", "-DSQLITE_CORE", f"-I{C}/include"]
     run(["gcc", *flags, "-o", f"{work}/moved", *parts, f"{C}/out/libuca.a", "-lsqlite3"])
     found = run([f"{work}/moved", TABLE, DATA, USED, f"{work}/moved.db"]).decode()
@@ -1403,8 +1403,7 @@ def postgresql(work):
         same(says(f"{used} {written}", fails=True), OTHER_FILES, "another fingerprint in the same transaction")
         same(says(f"{used} COMMIT; INSERT INTO words VALUES ('b'); SELECT word FROM words ORDER BY uca_key(word);"),
              "a\ná\nb\nc-h\nch\n", "files that are used from now on")
-        changers = ("uca_use_files(boolean)", "uca_use_language(text, text, boolean, boolean)", "uca_change_files(text, boolean)")
-        says("".join(f"ALTER EXTENSION uca DROP FUNCTION {it}; DROP FUNCTION {it};" for it in changers) +
+        says("ALTER EXTENSION uca DROP FUNCTION uca_use_files(boolean); DROP FUNCTION uca_use_files(boolean);"
              "ALTER TABLE uca_files ALTER fingerprint TYPE bytea USING decode(fingerprint, 'hex');")
         same(says("SELECT uca_key('a');", fails=True), "ERROR:  uca: this database has the extension of an earlier version", "a table that was made before")
 
@@ -1526,190 +1525,84 @@ USES = ("SELECT uca_key('a');", "INSERT INTO words VALUES ('d');", "SELECT FROM 
 
 UCA_FILES = f"{TOP}/tools/uca_files.py"
 BARE = "shared_preload_libraries = 'uca'\n"
-BY_NAME = "SELECT string_agg(name::text, ' ') FROM (SELECT name FROM words ORDER BY name) it;"
-BY_KEY = "SELECT string_agg(name::text, ' ') FROM (SELECT name FROM words ORDER BY uca_key(name)) it;"
+NAMES_IN_ORDER = "SELECT string_agg(name::text, ' ') FROM (SELECT name FROM words ORDER BY name) it;"
+NAMES_BY_KEY = "SELECT string_agg(name::text, ' ') FROM (SELECT name FROM words ORDER BY uca_key(name)) it;"
 THREE_NAMES = "CREATE TABLE words(name uca_text); INSERT INTO words VALUES ('bz'), ('bh'), ('b');"
-HAVE_CHANGED = "ERROR:  uca: the files by which this database's keys are made have changed"
-NOT_FOUND = "ERROR:  uca: by the server's settings, no folder has files of the language"
 
 
 @contextlib.contextmanager
 def language_server(work):
-    """A server whose settings name no files, with the extension, what runs statements in it, and its folder of languages."""
-    with postgresql_server(work) as (server, says, settings):
+    """A server with the extension over the phone book, by uca.language, what runs statements in it, and its folder of languages."""
+    with postgresql_server(work) as (server, says, _):
         folder = f"{work}/server{run([os.environ.get('PG_CONFIG', 'pg_config'), '--sharedir']).decode().strip()}/uca"
         shutil.rmtree(folder, ignore_errors=True)
         keep_languages(folder)
         says("DROP EXTENSION uca;")
-        server.restart(BARE)
+        server.restart(by_language(PHONE_BOOK))
         says("CREATE EXTENSION uca;")
         yield server, says, folder
 
 
+def by_language(tag, edition=None, more=""):
+    """The settings of a server by a language."""
+    return f"{BARE}uca.language = {quoted(tag)}\n" + (f"uca.edition = {quoted(edition)}\n" if edition else "") + more
+
+
 def postgresql_languages(work):
-    """uca_use_language: what it takes, what it returns, and by which files keys are made then."""
+    """A server by a language: its order, another language after a start, and what has none."""
+    by_index = "SET enable_seqscan = off; SET enable_sort = off;"
+    in_order = f"{NAMES_IN_ORDER} {NAMES_BY_KEY} {by_index} {NAMES_IN_ORDER} {NAMES_BY_KEY}"
     with language_server(work) as (server, says, folder):
-        none = "ERROR:  uca: the server has not read the files of uca.table_file and uca.data_file"
-        same(says("SELECT count(*) FROM uca_files;"), "0\n", "files before a language is used")
-        for it in ("uca_key('a')", "uca_fingerprint()", "uca_use_files()", f"uca_key('a', '{USED}')", "'a'::uca_text < 'b'"):
-            same(says(f"SELECT {it};", fails=True), none, f"{it} without files")
-        says(THREE_NAMES)
-        same(says(f"SELECT uca_use_language('{PHONE_BOOK}'); {BY_NAME} {BY_KEY} SELECT uca_fingerprint(); SELECT fingerprint FROM uca_files;"),
-             f"0\nb bz bh\nb bz bh\n{OTHER}\n{OTHER}\n", "a phone book")
-        same(says(f"SELECT * FROM uca_languages; SELECT uca_key('a', '{OTHER}') = uca_key('a'), uca_server_fingerprint() IS NULL;"), f"{OTHER}|{PHONE_BOOK}|15.0.0-cldr41|f\nt|t\n", "what is recorded")
-        same(says(f"SELECT uca_key('a', '{USED}');", fails=True), none, "a fingerprint that was not used")
-        same(says(f"SELECT encode(uca_key('a'), 'hex'), uca_key('a') = decode('1c4700000020000000020000ffff', 'hex');"), "1c4700000020000000020000ffff|t\n", "a key by the weighting of the table")
-        for number in (1, 2):
-            same(says(f"SELECT uca_use_language('{PHONE_BOOK}'); SELECT count(*) FROM uca_languages;"), "0\n1\n", "the same language again")
-            server.restart(BARE)
-        says("CREATE INDEX by_name ON words(name); CREATE INDEX by_key ON words(uca_key(name));")
-        by_index = "SET enable_seqscan = off; SET enable_sort = off;"
-        same(says(f"{by_index} {BY_NAME} {BY_KEY}"), "b bz bh\nb bz bh\n", "indexes")
-        for tag in NO_TAGS:
-            same(says(f"SELECT uca_use_language({quoted(tag)});", fails=True), "ERROR:  uca: the tag of a language has letters, digits, and single hyphens between them", repr(tag))
-        for edition in NO_EDITIONS:
-            found = says(f"SELECT uca_use_language('pl', {quoted(edition)});", fails=True)
-            same(found, "ERROR:  uca: the name of an edition has letters, digits, and single hyphens or dots between them", repr(edition))
-        for arguments, error in (("NULL", "the tag of the language, or whether its book is wanted, is NULL"), ("'pl'", "there are several editions of the language pl"),
-                                 ("'qaa-x-none'", "no folder of the server has files of the language qaa-x-none"), ("'PL'", "no folder of the server has files of the language PL"),
-                                 ("'pl', '14.0.0-cldr40'", "no folder of the server has files of the language pl, edition 14.0.0-cldr40"),
-                                 ("'pl', '16.0.0-cldr46', book => true", "the file of book.txt cannot be read: No such file or directory")):
-            same(says(f"SELECT uca_use_language({arguments});", fails=True), f"ERROR:  uca: {error}", arguments)
-        same(says("SELECT uca_use_language('pl', '16.0.0-cldr46');", fails=True), KEYS_ARE_KEPT, "another language, while there are indexes")
-        same(says(f"SELECT uca_use_language('pl', '16.0.0-cldr46', again => true); {by_index} {BY_NAME} {BY_KEY}"), "2\nb bh bz\nb bh bz\n", "another language")
+        says(f"{THREE_NAMES} CREATE INDEX by_name ON words(name); CREATE INDEX by_key ON words(uca_key(name));")
+        same(says(f"{in_order} SELECT uca_fingerprint(); SELECT fingerprint FROM uca_files;"), "b bz bh\n" * 4 + f"{OTHER}\n" * 2, "a phone book")
+        same(says("SELECT encode(uca_key('a'), 'hex');"), "1c4700000020000000020000ffff\n", "a key by the weighting of the table")
+        for it in ("SET uca.language = 'pl';", "SET uca.edition = '16.0.0-cldr46';", "ALTER DATABASE postgres SET uca.language = 'pl';", "ALTER ROLE postgres SET uca.language = 'pl';"):
+            same("cannot be changed" in says(it, fails=True), True, it)
+        same(says(f"ALTER SYSTEM SET uca.language = 'pl'; SELECT pg_reload_conf(); {NAMES_IN_ORDER} ALTER SYSTEM RESET uca.language;"), "t\nb bz bh\n", "another language before the next start")
+        server.restart(by_language("pl", "16.0.0-cldr46"))
+        for it in (NAMES_IN_ORDER, NAMES_BY_KEY, by_index + NAMES_IN_ORDER, by_index + NAMES_BY_KEY, "SELECT uca_key('a');", "INSERT INTO words VALUES ('c');"):
+            same(says(it, fails=True), OTHER_FILES, f"{it} by another language")
+        for it in ("uca_use_files()", "uca_use_files(again => NULL)"):
+            same(says(f"SELECT {it};", fails=True), KEYS_ARE_KEPT, f"{it} by another language")
+        same(says(f"SELECT uca_use_files(again => true); {in_order}"), "2\n" + "b bh bz\n" * 4, "another language")
+        server.restart(by_language(PHONE_BOOK, more=f"uca.book_file = '{folder}/15.0.0-cldr41/{PHONE_BOOK}/book.txt'\n"))
         compact = fingerprint_of(TAILORED, DATA, book=BOOK)
-        same(says(f"SELECT uca_use_language('{PHONE_BOOK}', book => true, again => true); {by_index} {BY_NAME} {BY_KEY} SELECT uca_fingerprint(), uca_expand(uca_key('a'));"),
-             f"2\nb bz bh\nb bz bh\n{compact}|\\x1c4700000020000000020000ffff\n", "a book")
-        for role in ("", "GRANT EXECUTE ON FUNCTION uca_use_language TO joe;"):
-            found = says(f"{role and 'SET ROLE postgres;'}{role or 'CREATE ROLE joe; GRANT ALL ON words TO joe;'} SET ROLE joe; SELECT uca_use_language('pl', '16.0.0-cldr46');", fails=True)
-            same("permission denied" in found, True, f"a role without rights: {found}")
-        for it in (f"uca_find_language('{PHONE_BOOK}', NULL, false)", "uca_lock_files('')", "uca_change_files('', false)"):
-            same("permission denied for function" in says(f"SET ROLE joe; SELECT {it};", fails=True), True, it)
-        same(says(f"SET ROLE joe; {BY_NAME} SELECT uca_fingerprint();"), f"b bz bh\n{compact}\n", "a role without rights that sorts")
-        parallel = "SET max_parallel_workers_per_gather = 4; SET parallel_setup_cost = 0; SET parallel_tuple_cost = 0; SET min_parallel_table_scan_size = 0;"
-        same(says(f"CREATE TABLE numbers AS SELECT i::text AS n FROM generate_series(1, 100000) i; {parallel} SELECT count(*) FROM numbers WHERE uca_key(n) > '\\x00';"), "100000\n", "parallel workers")
-        same(says(f"DROP TABLE numbers; {parallel} BEGIN; SELECT uca_use_language('pl', '15.0.0-cldr41', again => true); CREATE TABLE numbers AS SELECT i::text AS n FROM generate_series(1, 100000) i;"
-                  " CREATE INDEX ON numbers(uca_key(n)); SELECT count(*) FROM numbers WHERE uca_key(n) > '\\x00'; ROLLBACK;"), "2\n100000\n", "parallel workers of a transaction that uses another language")
-        same(says(f"{by_index} {BY_NAME}"), "b bz bh\n", "a language that is not used after all")
+        same(says(f"SELECT uca_use_files(again => true); {in_order} SELECT uca_fingerprint();"), "2\n" + "b bz bh\n" * 4 + f"{compact}\n", "a book beside the language")
+        table, data = (f"{folder}/15.0.0-cldr41/{PHONE_BOOK}/{it}.txt" for it in ("table", "data"))
+        server.restart(f"{BARE}uca.table_file = '{table}'\nuca.data_file = '{data}'\n")
+        same(says(f"SELECT uca_use_files(again => true); {NAMES_IN_ORDER} SELECT uca_fingerprint();"), f"2\nb bz bh\n{OTHER}\n", "the files of the language by their names")
+        server.restart(by_language(PHONE_BOOK))
+        same(says(NAMES_IN_ORDER), "b bz bh\n", "the language again")
+        postgresql_language_errors(server, says, folder)
 
 
-def postgresql_language_settings(work):
-    """A language beside files that the settings name, and by settings of the server."""
-    with language_server(work) as (server, says, folder):
-        says(f"{THREE_NAMES} SELECT uca_use_language('{PHONE_BOOK}'); CREATE INDEX by_name ON words(name);")
-        files = f"{BARE}uca.table_file = '{folder}/15.0.0-cldr41/pl/table.txt'\nuca.data_file = '{folder}/15.0.0-cldr41/pl/data.txt'\n"
-        server.restart(files)
-        same(says(f"{BY_NAME} SELECT uca_fingerprint(), uca_server_fingerprint();"), f"b bz bh\n{OTHER}|{USED}\n", "a language beside the files of the settings")
-        same(says("CREATE DATABASE plain;") + says(f"CREATE EXTENSION uca; {THREE_NAMES} {BY_NAME} SELECT uca_fingerprint();", database="plain"), f"b bh bz\n{USED}\n", "another database")
-        same(says("SELECT uca_use_files();", fails=True), KEYS_ARE_KEPT, "the files of the settings, while there are indexes")
-        same(says(f"SELECT uca_use_files(again => true); {BY_NAME} SELECT uca_fingerprint();"), f"1\nb bh bz\n{USED}\n", "the files of the settings")
-        same(says(f"SELECT uca_use_language('{PHONE_BOOK}', again => true); {BY_NAME}"), "1\nb bz bh\n", "the language again")
-        server.restart(files.replace(f"pl/table.txt", f"{PHONE_BOOK}/table.txt"))
-        same(says(f"{BY_NAME} SELECT uca_fingerprint() = uca_server_fingerprint();"), "b bz bh\nt\n", "the files of the language in the settings")
-        for setting in ("uca.weighting = 'non-ignorable'", "uca.identical = on"):
-            server.restart(f"{BARE}{setting}\n")
-            same(says(BY_NAME, fails=True), f"{NOT_FOUND} {PHONE_BOOK}, edition 15.0.0-cldr41, with the database's fingerprint", setting)
-            same(says("SET enable_sort = off; SET enable_seqscan = off; SELECT name FROM words ORDER BY name;", fails=True)[:60], NOT_FOUND[:60], f"an index by other settings: {setting}")
-        same(says(f"SELECT uca_use_language('{PHONE_BOOK}', again => true); SELECT uca_fingerprint();"), f"1\n{fingerprint_of(TAILORED, DATA, depth='identical')}\n", "other settings from now on")
-        server.restart(f"{BARE}uca.numeric = on\n")
-        same(says(f"SELECT uca_use_language('{PHONE_BOOK}', again => true);", fails=True), "ERROR:  uca: table: Digits", "a table without digits, by value")
-
-
-def postgresql_language_sessions(work):
-    """While one session uses the order of a language, another one changes it. Nobody gets another order without an error."""
-    with language_server(work) as (server, says, folder):
-        says(f"SELECT uca_use_language('{PHONE_BOOK}'); {THREE_NAMES} CREATE INDEX by_name ON words(name); CREATE INDEX by_key ON words(uca_key(name));")
-        polish, german = "SELECT uca_use_language('pl', '16.0.0-cldr46', again => true)", f"SELECT uca_use_language('{PHONE_BOOK}', again => true)"
-        other = "\\! psql -XAtqc \"{}\" 2>&1 | head -1\n".format
-        waits = "ERROR:  canceling statement due to lock timeout\n"
-        hurried = other("SET lock_timeout = '500ms'; " + polish)
-        for begun in (BY_NAME, "SELECT uca_key('a') IS NULL;", "SELECT max(name) FROM words;", "SAVEPOINT s; SELECT uca_key('a') IS NULL; RELEASE s;"):
-            found = says(f"BEGIN; {begun}\n{hurried}{BY_NAME} COMMIT;")
-            same(found.splitlines()[-2:], [waits.strip(), "b bz bh"], f"a change while a transaction goes on that has run {begun}")
-        by_index = "SET enable_seqscan = off; SET enable_sort = off;"
-        for asked in (BY_NAME, BY_KEY, by_index + BY_NAME, by_index + BY_KEY, "SELECT uca_key('a') IS NULL;", "INSERT INTO words VALUES ('c');", "SELECT max(name) FROM words;"):
-            # The snapshot of the transaction is from before the change.
-            found = says(f"BEGIN ISOLATION LEVEL REPEATABLE READ; SELECT count(*) FROM pg_class WHERE relname = 'words';\n{other(polish)}{asked}", fails=True)
-            same(found, HAVE_CHANGED, f"{asked} by an older snapshot")
-            says(german)
-        asked = "PREPARE k AS SELECT encode(uca_range_low('bh', 1), 'hex'); PREPARE n AS SELECT count(*) FROM words WHERE uca_key(name) >= uca_range_low('bh', 1);"
-        executed = "EXECUTE k; EXECUTE n;"
-        before, after = says(f"{asked} {executed}"), says(f"{polish}; {asked} {executed} {german};").splitlines()[1:3]
-        same(before.splitlines() == after, False, "the bounds of both languages")
-        # Plans with constants are made again. Whoever has used the earlier order gets an error, once.
-        kept = f"SET plan_cache_mode = force_generic_plan; {asked} {executed * 6}\n{other(polish)}"
-        same(says(f"{kept} EXECUTE n;", fails=True), HAVE_CHANGED, "a prepared statement after a change")
-        says(german)
-        found = says(f"\\set ON_ERROR_STOP 0\n{kept} EXECUTE k;\nEXECUTE k;\n{executed} {BY_NAME} {BY_KEY}").splitlines()
-        same(found[-4:], [*after, "b bh bz", "b bh bz"], "prepared statements after a change, once more")
-        same(found.count(before.splitlines()[0]), 6, "bounds by the earlier language")
-        says(german)
-        own = f"{asked} {executed} {polish}; {executed} {BY_NAME} BEGIN; {german}; {executed} {BY_NAME} COMMIT; {executed}"
-        found = says(own).splitlines()
-        same([found[3:5], found[5], found[7:9], found[9], found[10:12]], [after, "b bh bz", before.splitlines(), "b bz bh", before.splitlines()], "a session that changes the language itself")
-        begun = "BEGIN ISOLATION LEVEL {};"
-        for level in ("REPEATABLE READ", "SERIALIZABLE"):
-            same(says(f"{begun.format(level)} {polish};", fails=True), "ERROR:  uca: the files are changed in a transaction with the isolation level READ COMMITTED", level)
-            same(says(f"{begun.format(level)} SELECT uca_use_language('{PHONE_BOOK}'); COMMIT;"), "0\n", f"the same language, {level}")
-        found = says(f"BEGIN; {polish};\n{other('SET lock_timeout = 500; ' + BY_NAME)}ROLLBACK; {BY_NAME}")
-        same(found.splitlines()[-2:], [waits.strip(), "b bz bh"], "an order that another session asks for during a change")
-        same(says(f"{BY_NAME} BEGIN; {polish}; {BY_NAME} ROLLBACK; {BY_NAME}"), "b bz bh\n2\nb bh bz\nb bz bh\n", "a change that is taken back")
-        inside = f"BEGIN; SAVEPOINT s; {polish}; {BY_NAME} ROLLBACK TO s; {BY_NAME} COMMIT; {BY_NAME}"
-        same(says(inside), "2\nb bh bz\nb bz bh\nb bz bh\n", "the same inside a transaction")
-        by_cursor = f"BEGIN; DECLARE c CURSOR FOR SELECT name FROM words ORDER BY name; FETCH 1 FROM c; {polish}; FETCH 2 FROM c; COMMIT;"
-        same("cannot REINDEX INDEX" in says(f"{by_index} {by_cursor}", fails=True), True, "a cursor over an index")
-
-
-def postgresql_language_dumps(work):
-    """A database with a language elsewhere: the same order, or an error."""
-    with language_server(work) as (server, says, folder):
-        table = "CREATE TABLE words(name uca_text, plain text, key bytea); INSERT INTO words SELECT it, it, uca_key(it) FROM (VALUES ('bz'), ('bh'), ('b')) its(it);"
-        says(f"CREATE DATABASE german;")
-        german = lambda statements, **named: says(statements, database="german", **named)
-        german(f"CREATE EXTENSION uca; SELECT uca_use_language('{PHONE_BOOK}'); {table} CREATE INDEX by_name ON words(name); CREATE INDEX by_key ON words(uca_key(plain));")
-        dump = run([f"{server.programs}/pg_dump", "german"], env={**os.environ, **server.environment}).decode()
-        by_index = "SET enable_seqscan = off; SET enable_sort = off;"
-        in_order = f"{by_index} {BY_NAME} {BY_KEY} SELECT uca_fingerprint();"
-        wanted = f"b bz bh\nb bz bh\n{OTHER}\n"
-        same(german(in_order), wanted, "the first database")
-        for at, prepared in enumerate(("", f"CREATE EXTENSION uca; SELECT uca_use_language('{PHONE_BOOK}');")):
-            says(f"CREATE DATABASE copy{at};")
-            says(prepared, database=f"copy{at}")
-            says(dump, database=f"copy{at}")
-            same(says(in_order, database=f"copy{at}"), wanted, f"a restored database, {prepared}")
-        says("CREATE DATABASE by_template TEMPLATE german;")
-        same(says(in_order, database="by_template"), wanted, "a database from a template")
-        # A CHECK and a generated column are made before the rows of uca_files are in. So they need the language before.
-        german("CREATE TABLE a(name uca_text CHECK (name < 'bz'), key bytea GENERATED ALWAYS AS (uca_key(name)) STORED); INSERT INTO a VALUES ('b');")
-        dump = run([f"{server.programs}/pg_dump", "german"], env={**os.environ, **server.environment}).decode()
-        says("CREATE DATABASE copy2; CREATE DATABASE copy3;")
-        same(says(dump, database="copy2", fails=True).startswith("ERROR:  uca: "), True, "keys that are made before the language is known")
-        says(f"CREATE EXTENSION uca; SELECT uca_use_language('{PHONE_BOOK}');\n{dump}", database="copy3")
-        same(says(in_order + "SELECT key = uca_key('b') FROM a;", database="copy3"), wanted + "t\n", "keys that are made after it")
-        # The same in a folder that a second administrator has filled otherwise.
-        place = f"{folder}/15.0.0-cldr41/{PHONE_BOOK}"
-        shutil.copyfile(TABLE, f"{place}/table.txt")
-        for database in ("german", "copy1", "by_template"):
-            for it in (BY_NAME, BY_KEY, by_index + BY_NAME, by_index + BY_KEY, "SELECT uca_fingerprint();", f"SELECT uca_key('a', '{OTHER}');", "INSERT INTO words VALUES ('c');"):
-                same(says(it, database=database, fails=True), f"{NOT_FOUND} {PHONE_BOOK}, edition 15.0.0-cldr41, with the database's fingerprint", f"{it} by another table")
-        same(german(f"SELECT uca_use_language('{PHONE_BOOK}');", fails=True), KEYS_ARE_KEPT, "another table of the same name")
-        shutil.copyfile(TAILORED, f"{place}/table.txt")
-        same(german(in_order), wanted, "the first table again")
-        os.rename(place, f"{place}-x-gone")
-        same(german(BY_NAME, fails=True), f"{NOT_FOUND} {PHONE_BOOK}, edition 15.0.0-cldr41, with the database's fingerprint", "a language that is gone")
-        same(german(f"SELECT uca_use_language('{PHONE_BOOK}-x-gone'); {in_order}"), f"0\n{wanted}", "the same files under another tag")
-        os.rename(f"{place}-x-gone", place)
-        os.chmod(f"{place}/table.txt", 0)
-        found = german(f"SELECT uca_use_language('{PHONE_BOOK}');", fails=True)
-        same(found, "ERROR:  uca: the file of table.txt cannot be read: Permission denied", "a table that the server may not read")
-        os.chmod(f"{place}/table.txt", 0o644)
-        # What is written to uca_languages names no other folder, and an order by other files is not found.
-        for tag, edition in (("../pl", "15.0.0-cldr41"), ("pl", "15.0.0-cldr41/../16.0.0-cldr46"), ("..", ".."), (f"../15.0.0-cldr41/{PHONE_BOOK}", "16.0.0-cldr46"),
-                             (PHONE_BOOK, "16.0.0-cldr46/../15.0.0-cldr41"), (f"./{PHONE_BOOK}", "15.0.0-cldr41"), ("pl", "16.0.0-cldr46")):
-            written = f"DELETE FROM uca_languages; INSERT INTO uca_languages VALUES ('{OTHER}', '{tag}', '{edition}', false);"
-            same(german(f"{written} {BY_NAME}", fails=True).startswith("ERROR:  uca: "), True, f"the tag {tag} and the edition {edition}")
-        german("DELETE FROM uca_languages;")
-        same(german(BY_NAME, fails=True), "ERROR:  uca: the server has not read the files of uca.table_file and uca.data_file", "no row of the language")
+def postgresql_language_errors(server, says, folder):
+    """Settings by which a server has no files: each call is an error that has the reason."""
+    no_tag, no_edition = "uca.language is not letters and digits with single hyphens", "uca.edition is not letters and digits with single hyphens or dots"
+    several, none = "there are several editions of the language pl, and uca.edition names none of them: 15.0.0-cldr41, 16.0.0-cldr46", "no folder has files of the language"
+    table, data = (f"uca.{it}_file = '{folder}/15.0.0-cldr41/{PHONE_BOOK}/{it}.txt'\n" for it in ("table", "data"))
+    both = "uca.language is set, so uca.table_file and uca.data_file may not be set"
+    broken = keep_language(folder, "broken", TABLE)
+    os.remove(f"{broken}/data.txt")
+    keep_language(folder, "xx", TABLE, edition=".making")
+    errors = [(by_language(it), no_tag) for it in ("../pl", "..", "pl/..", "a.b", "pl-", "a" * 101)]
+    errors += [(by_language("pl", it), no_edition) for it in ("..", "15.0.0/pl", "15..0", "a" * 101)]
+    errors += [
+        (by_language("pl"), several), (by_language("PL"), f"{none} PL; an administrator makes them by: uca-files --into /usr/local/share/uca PL"), (by_language("xx"), none),
+        (by_language("pl", "14.0.0-cldr40"), f"{none} pl, edition 14.0.0-cldr40; an administrator"), (by_language(PHONE_BOOK, more=table), both), (by_language("pl", more=data), both),
+        (f"{BARE}uca.edition = '15.0.0-cldr41'\n{table}{data}", "uca.edition is set without uca.language"),
+        (by_language("broken"), "the file of uca.language (data.txt) cannot be read: No such file or directory"), (by_language(PHONE_BOOK, more="uca.numeric = on\n"), "table: Digits"),
+    ]
+    for settings, error in errors:
+        server.restart(settings)
+        for it in ("SELECT uca_key('a');", NAMES_IN_ORDER):
+            same(says(it, fails=True)[: len(f"ERROR:  uca: {error}")], f"ERROR:  uca: {error}", f"{it} by {settings}")
+    os.chmod(f"{folder}/15.0.0-cldr41", 0)
+    server.restart(by_language(PHONE_BOOK))
+    same(says(NAMES_IN_ORDER, fails=True), "ERROR:  uca: the file of uca.language (table.txt) cannot be read: Permission denied", "an edition that the server may not read")
+    os.chmod(f"{folder}/15.0.0-cldr41", 0o755)
+    server.restart(by_language(PHONE_BOOK))
+    same(says(NAMES_IN_ORDER), "b bz bh\n", "an edition that it may read again")
 
 
 def language_page(program):
@@ -1719,23 +1612,37 @@ def language_page(program):
         for it in (program, UCA_FILES, "/usr/share/unicode/allkeys.txt", "/usr/share/unicode/cldr/common/collation"):
             if not os.path.exists(it):
                 raise NotHere(f"there is no {it}")
-        section = re.search(r"^## A language by its tag\n(.*?)^## ", content(f"{TOP}/docs/BINDINGS.md").decode(), re.S | re.M).group(1)
-        blocks = {language: it for language, it in re.findall(r"^```(\w+) (?:language|postgresql)\n(.*?)^```$", section, re.S | re.M)}
+        blocks = {tuple(it.split()): block for it, block in re.findall(r"^```(\w+ (?:language|postgresql))\n(.*?)^```$", content(f"{TOP}/docs/BINDINGS.md").decode(), re.S | re.M)}
         environment = {**python_environment(), "UCA_FILES": UCA_FILES, "XDG_DATA_HOME": f"{work}/home", "XDG_DATA_DIRS": f"{work}/none"}
         made_by = [sys.executable, UCA_FILES, "--uca", program]
         for tag in ("zh", "pl"):
             run([*made_by, tag], env=environment)
-        said = run([sys.executable, "-W", "error", "-c", blocks["python"]], env=environment).decode()
-        same(said.splitlines(), re.findall(r"# (\S.*)", blocks["python"]), "the page's program in Python")
+        in_python = blocks["python", "language"]
+        said = run([sys.executable, "-W", "error", "-c", in_python], env=environment).decode()
+        same(said.splitlines(), re.findall(r"# (\S.*)", in_python), "the page's program in Python")
         keys_of_language(work, program, environment, made_by)
         with language_server(work) as (server, says, folder):
             shutil.rmtree(folder)
             run([*made_by, "--into", folder, "pl", PHONE_BOOK], env=environment)
             says("DROP EXTENSION uca;")
-            same(says(blocks["sql"]).splitlines(), re.findall(r"^-- (.*)", blocks["sql"], re.M), "the page's statements")
-            same(says("SELECT uca_fingerprint();"), run([program, "fingerprint", *kept_in(folder, PHONE_BOOK)]).decode(), "the fingerprint of the phone book")
+            statements = blocks["sql", "postgresql"]
+            server.restart(blocks["conf", "postgresql"])
+            same(says(statements).splitlines(), re.findall(r"^-- (.*)", statements, re.M), "the page's statements")
+            for tag, again in ((PHONE_BOOK, ""), ("pl", "SELECT FROM uca_use_files(again => true);")):
+                server.restart(by_language(tag))
+                says(again)
+                same(says("SELECT uca_fingerprint();"), run([program, "fingerprint", *kept_in(folder, tag)]).decode(), f"the fingerprint of {tag}")
+                keys_of_server(says, program, kept_in(folder, tag))
 
     return check
+
+
+def keys_of_server(says, program, paths):
+    """Keys of a server by these files are those of `uca keys`."""
+    lines = content(f"{EXAMPLES}/lines.txt")
+    rows = ", ".join(f"({number}, {quoted(it)})" for number, it in enumerate(lines.decode().removesuffix("\n").split("\n")))
+    found = says(f"SELECT upper(encode(uca_key(line), 'hex')) FROM (VALUES {rows}) its(number, line) ORDER BY number;")
+    same(found, run([program, "keys", *paths], input=lines).decode().replace(" ", ""), f"keys by {paths[0]}")
 
 
 def kept_in(folder, tag):
@@ -2296,7 +2203,7 @@ def postgresql_books(work):
 def blocks_of(heading):
     """The blocks of a section of docs/BINDINGS.md, each with its language."""
     section = re.search(rf"^### {heading}\n(.*?)^##", content(f"{TOP}/docs/BINDINGS.md").decode(), re.S | re.M).group(1)
-    return re.findall(r"^```(\w*)\n(.*?)^```$", section, re.S | re.M)
+    return re.findall(r"^```([\w ]*)\n(.*?)^```$", section, re.S | re.M)
 
 
 def page_settings(server, blocks):
@@ -2728,8 +2635,8 @@ def main():
               ("SQLite's attached databases", sqlite_attached), ("SQLite's threads", sqlite_threads), ("SQLite's moves from thread to thread", sqlite_moved), ("SQLite's upgrades", sqlite_upgrades),
               ("SQLite's loads of upgrades", sqlite_upgrade_loads), ("SQLite's compact keys in upgrades", sqlite_compact_upgrades), ("SQLite's moves", sqlite_moves),
               ("SQLite's indexes of texts", sqlite_texts), ("SQLite's memory", sqlite_memory), ("SQLite on the page", sqlite_page), ("SQLite's orders", sqlite_like(program)),
-              ("PostgreSQL", postgresql), ("PostgreSQL's settings", postgresql_settings), ("PostgreSQL's numbers", postgresql_numbers), ("PostgreSQL's languages", postgresql_languages), ("PostgreSQL's settings of languages", postgresql_language_settings),
-              ("PostgreSQL's sessions with languages", postgresql_language_sessions), ("PostgreSQL's dumps with languages", postgresql_language_dumps), ("PostgreSQL's dumps", postgresql_dumps),
+              ("PostgreSQL", postgresql), ("PostgreSQL's settings", postgresql_settings), ("PostgreSQL's numbers", postgresql_numbers), ("PostgreSQL's languages", postgresql_languages),
+              ("PostgreSQL's dumps", postgresql_dumps),
               ("PostgreSQL's replication", postgresql_replication), ("PostgreSQL's changes", postgresql_changes), ("PostgreSQL's roles", postgresql_roles),
               ("PostgreSQL's owners", postgresql_owners), ("PostgreSQL's traps", postgresql_traps), ("PostgreSQL's dependents", postgresql_dependents), ("PostgreSQL's columns", postgresql_columns), ("PostgreSQL's compact keys", postgresql_compact),
               ("PostgreSQL's checks", postgresql_checks), ("PostgreSQL's books", postgresql_books), ("PostgreSQL's upgrades", postgresql_upgrades), ("PostgreSQL's files of upgrades", postgresql_upgrade_files),

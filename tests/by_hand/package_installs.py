@@ -336,13 +336,13 @@ def by_server(system, settings, statements):
 
 
 def by_language_in(system, _):
-    """The first examples of docs/BINDINGS.md: Chinese in two lines of Python, and a phone book in PostgreSQL by one statement."""
+    """The first examples of docs/BINDINGS.md: Chinese in two lines of Python, and a phone book in PostgreSQL by one setting."""
     page = content(f"{TOP}/docs/BINDINGS.md").decode()
-    program, statements = (re.search(rf"^```{it}\n(.*?)^```", page, re.M | re.S)[1] for it in ("python language", "sql postgresql"))
+    program, settings, statements = (re.search(rf"^```{it}\n(.*?)^```", page, re.M | re.S)[1] for it in ("python language", "conf postgresql", "sql postgresql"))
     write(f"{system.folder}/test/chinese.py", program)
     same(system.run("python3 /test/chinese.py").decode().strip(), re.search(r"# (\[.*\])$", program, re.M)[1], "Chinese in Python")
     system.run(re.search(r"^sudo (uca-files --into \S+ \S+)$", page, re.M)[1])
-    same(by_server(system, "", statements), re.findall(r"^-- (.*)$", statements, re.M), "a phone book in PostgreSQL")
+    same(by_server(system, settings, statements), re.findall(r"^-- (.*)$", statements, re.M), "a phone book in PostgreSQL")
     # what an administrator made is no package's
     system.run("rm -r /usr/local/share/uca")
 

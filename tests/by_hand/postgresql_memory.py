@@ -11,6 +11,7 @@ it would show little. The checks are
 - names: what takes memory, and is called by the extension or by the library, is in memory.c;
 - starts: the server starts with both editions, with the present one, or with none, and says why. Or it does not start, and is out of memory. What it has makes the right keys. Each of
   the first 200 allocations fails alone, and each fourth of the others. With a book it is each fourth of all. Each 12th fails with all after it;
+- languages: the same for a start by `uca.language`. Each of its first 20 allocations fails alone, and each 16th with all after it;
 - keys and texts: statements that make keys, and statements that compare texts. Each run is in a session that has called nothing of the extension before. A statement prints what it prints
   with memory, or is the error 53200, out of memory. The next statement of this session is right;
 - sessions: the same statements in one session, which goes on after each error. In the end it has as many blocks of the library as a session in which nothing failed;
@@ -19,7 +20,6 @@ it would show little. The checks are
 - pages: an insertion that splits pages of an index, and VACUUM, which deletes some;
 - transactions: after an error the transaction goes on by a savepoint or by a handler of PL/pgSQL. Others end in a cursor or at COMMIT;
 - editions: the transaction of docs/BINDINGS.md that takes a table to the next edition. All rows have the keys of one edition;
-- languages: `uca_use_language(..., again => true)` does all or nothing, and a new session opens the files of the language or is out of memory;
 - files: CREATE EXTENSION, and `uca_use_files(again => true)` after a start with another table. Each does all or nothing. In the second one each third allocation fails
   alone, and each 13th with all after it.
 
@@ -116,8 +116,8 @@ class Session:
 class Tries:
     """What a check uses: a server with both editions, a session in which allocations fail, and another one in which none does."""
 
-    def __init__(self, server, settings, memory, book, languages):
-        self.server, self.settings, self.memory, self.book, self.languages = server, settings, memory, book, languages
+    def __init__(self, server, settings, memory, book):
+        self.server, self.settings, self.memory, self.book = server, settings, memory, book
         self.old, self.new = (fingerprint_of(*it, book=book) for it in ((TABLE, DATA), (NEW_TABLE, NEW_DATA)))
         self.tried, self.other = Session(server), Session(server)
         self.runs = self.errors = 0
@@ -172,11 +172,10 @@ def memory_server(work, book=None):
     bindings.postgresql_programs(work)
     library = run([os.environ.get("PG_CONFIG", "pg_config"), "--pkglibdir"]).decode().strip()
     shutil.copy(f"{EXTENSION}/uca_memory.so", f"{work}/server{library}/uca.so")
-    shared = run([os.environ.get("PG_CONFIG", "pg_config"), "--sharedir"]).decode().strip()
     memory = Memory(work)
     os.environ["UCA_MEMORY"] = memory.path
     with bindings.postgresql_server(work, book=book, editions=EDITIONS[2:], more=SMALL) as (server, _, settings):
-        tries = Tries(server, settings, memory, book, f"{work}/server{shared}/uca")
+        tries = Tries(server, settings, memory, book)
         try:
             yield tries
         finally:
@@ -337,14 +336,15 @@ def names(work):
     called = {*re.findall(r" U (\w+)", run(["nm", "-u", *objects]).decode())} - {*re.findall(r" [TtDdRrBb] (\w+)", run(["nm", *objects]).decode())}
     able = {*re.findall(r" T __wrap_(\w+)", run(["nm", f"{EXTENSION}/memory.o"]).decode())}
     takers = {it for it in called if re.search("alloc|memalign|strn?dup|sprintf|open|mmap|StringInfo|_to_cstring|_to_text|[sS]napshot|SysCache1", it)}
-    known = {"open", "pg_snprintf", "ActiveSnapshotSet", "GetActiveSnapshot", "UnregisterSnapshot", "SnapshotSelfData"}
+    known = {"open", "pg_snprintf", "ActiveSnapshotSet", "GetActiveSnapshot", "UnregisterSnapshot"}
     same(sorted(takers - able - known - {it for it in takers if it.startswith("uca_")}), [], "functions that are not in memory.c")
     same(sorted(able - called - {"malloc", "realloc", "free"}), [], "functions of memory.c that nothing calls")
     return len(able), 0
 
 
 # What the server says of an edition for which memory ran out.
-REASON = re.compile(r"uca: (out of memory|(next )?(table|data|book|changes|certificate) line \d+: Memory|the file of uca\.\w+_file cannot be read: Cannot allocate memory)")
+REASON = re.compile(r"uca: (out of memory|(next )?(table|data|book|changes|certificate) line \d+: Memory|the file of uca\.(\w+_file|language \(\w+\.txt\)) cannot be read: Cannot allocate memory|"
+                    r"a folder of languages cannot be read: Cannot allocate memory: /.*)")
 PROMPT = b"backend> "
 
 
@@ -397,9 +397,14 @@ def stopped(tries):
         tries.server.start(tries.settings)
 
 
+def without_files(*names):
+    """The arguments of a server for no such file."""
+    return [word for name in names for word in ("-c", f"uca.{name}_file=")]
+
+
 def starts(tries):
     """Allocations of a start fail."""
-    no_next = [word for name in ("next_table", "next_data", "next_book", "changes", "certificate") for word in ("-c", f"uca.{name}_file=")]
+    no_next = without_files("next_table", "next_data", "next_book", "changes", "certificate")
     endings = {}
     with stopped(tries):
         most = [started(tries, 0, 0, *settings)[4] for settings in ([], no_next)]
@@ -431,6 +436,35 @@ def try_server(tries, first, has_next):
             same(found, [value], f"{statement}, after a start where allocation {first} fails")
         elif len(found) != 1 or not REASON.fullmatch(found[0].removeprefix("ERROR:  F0000: ")):
             raise AssertionError(f"{statement}, after a start where allocation {first} fails: {found}")
+
+
+def languages(tries):
+    """Allocations of a start by a language fail. The server has the language, or says why not, or it does not start."""
+    shared = run([os.environ.get("PG_CONFIG", "pg_config"), "--sharedir"]).decode().strip()
+    programs = run([os.environ.get("PG_CONFIG", "pg_config"), "--bindir"]).decode().strip()
+    bindings.keep_language(f"{tries.server.programs.removesuffix(programs)}{shared}/uca", "xx", TABLE)
+    settings = [*without_files("table", "data", "next_table", "next_data", "next_book", "changes", "certificate"), "-c", "uca.language=xx"]
+    no_next = bindings.OTHERS_NAMED.removeprefix("ERROR:  ")
+    ended = set()
+
+    def once(first, last):
+        values, errors, status, count, blocks = started(tries, first, last, *settings)
+        if (values, errors, status) == ([OLD_KEYS[3], FEW_SORTED], [no_next], 0):
+            ended.add("language")
+        elif count >= first and (values, errors, status) == ([], ["out of memory"], 1):
+            ended.add("server")
+        elif count >= first and (values, errors, status, blocks) == ([], errors[:1] * 4, 0, 0) and errors and REASON.fullmatch(errors[0]):
+            ended.add("folder" if "folder" in errors[0] else "neither")
+        else:
+            raise AssertionError(f"a start by a language, where allocation {first} of {count} fails: {(values, errors, status, blocks)}")
+        tries.errors += values == []
+        return count
+
+    with stopped(tries):
+        once(0, 0)
+        same(ended, {"language"}, "a start in which nothing fails")
+        tries.each(once, range(1, 21), itertools.count(1, 16))
+    same(sorted(ended), ["folder", "language", "neither", "server"], "how starts by a language ended")
 
 
 def in_new_sessions(chosen):
@@ -726,38 +760,6 @@ def files(tries):
     tries.each(once, itertools.count(1, 3), itertools.count(1, 13))
 
 
-def languages(tries):
-    """The files of a language are used for all or for nothing. A new session that needs them opens them, or is out of memory."""
-    bindings.keep_languages(tries.languages)
-    tries.other.does("CREATE TABLE names(name uca_text); INSERT INTO names VALUES ('bz'), ('bh'), ('b'); CREATE INDEX by_name ON names(name);")
-    used = f"SELECT uca_use_language('{bindings.PHONE_BOOK}', again => true);"
-    its = f"{BY_INDEX} SELECT fingerprint FROM uca_files; SELECT string_agg(name::text, ' ') FROM (SELECT name FROM names ORDER BY name) it;"
-    by_files, by_language = [tries.old, "b bh bz"], [OTHER, "b bz bh"]
-
-    def once(first, last):
-        tries.tried.begin_anew()
-        found, count = tries.failing(used, first, last)
-        is_error = tries.is_error(found, ["1"], count, first, used)
-        tries.other.begin_anew()
-        same(tries.other.says(its), by_files if is_error else by_language, "the order of the index")
-        if not is_error:
-            same(tries.other.says(f"SELECT uca_use_files(again => true); {its}"), ["1", *by_files], "the files that were there before")
-        return count
-
-    tries.each(once, itertools.count(1, 3), itertools.count(1, 13))
-    same(tries.other.says(f"{used} {its}"), ["1", *by_language], "the language")
-    asked = f"SELECT encode(uca_key('bh'), 'hex'), 'bz' < 'bh'::uca_text, uca_fingerprint(), encode(uca_key('bh', '{OTHER}'), 'hex');"
-
-    def anew(first, last):
-        tries.tried.begin_anew()
-        found, count = tries.failing(asked, first, last)
-        tries.is_error(found, [f"{whole_key(['1c61'])}|t|{OTHER}|{whole_key(['1c61'])}"], count, first, asked)
-        same(tries.tried.says(its), by_language, "the order after it")
-        return count
-
-    tries.each(anew)
-
-
 def begin(tries, settings):
     """Starts the server with settings, and has new sessions."""
     tries.server.restart(settings)
@@ -780,9 +782,8 @@ def try_to_create(tries):
     tries.each(once)
 
 
-CHECKS = {"names": names, "starts": both_books(starts), "keys": both_books(in_new_sessions(of_keys)), "texts": both_books(in_new_sessions(of_texts)), "sessions": no_book(sessions),
-          "parallel": no_book(parallel), "writes": both_books(writes), "pages": no_book(pages), "transactions": no_book(transactions), "editions": no_book(editions), "files": no_book(files),
-          "languages": no_book(languages)}
+CHECKS = {"names": names, "starts": both_books(starts), "languages": no_book(languages), "keys": both_books(in_new_sessions(of_keys)), "texts": both_books(in_new_sessions(of_texts)), "sessions": no_book(sessions),
+          "parallel": no_book(parallel), "writes": both_books(writes), "pages": no_book(pages), "transactions": no_book(transactions), "editions": no_book(editions), "files": no_book(files)}
 
 
 def main():

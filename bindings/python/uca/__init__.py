@@ -832,10 +832,10 @@ class Collator:
     ) -> _Self:
         """A collator of a language, such as "pl", "zh" or "de-u-co-phonebk": of the files whose paths ``uca-files`` prints.
 
-        The command is the program that the environment's UCA_FILES names, or else ``uca-files``. It keeps what it has made, so
-        the order stays the same. ``edition`` asks for one of several editions that are kept. With ``book``, keys are compact by
-        the book of the language. The other arguments are those of the constructor. Without ``weighting`` it is that of the
-        language. A copy of the collator is opened by the paths, and runs no command.
+        The command is the program that the environment's UCA_FILES names, or else ``uca-files``. The call waits until it ends.
+        It keeps what it has made, so the order stays the same. ``edition`` asks for one of several editions that are kept. With
+        ``book``, keys are compact by the book of the language. The other arguments are those of the constructor. Without
+        ``weighting`` it is that of the language. A copy of the collator is opened by the paths, and runs no command.
 
         Raises :class:`LanguageError` if there are no files of the language, with the sentence of the command, and what the
         constructor raises. A sentence of a command that has files is a :class:`LanguageWarning`.

@@ -5,7 +5,7 @@ use std::error::Error;
 use std::ffi::{OsStr, OsString};
 use std::fmt;
 use std::fs;
-use std::io;
+use std::io::{self, Write};
 use std::os::unix::ffi::{OsStrExt, OsStringExt};
 use std::path::PathBuf;
 use std::process::{Command, Output, Stdio};
@@ -13,7 +13,7 @@ use std::process::{Command, Output, Stdio};
 /// A language by its tag, such as `pl`, `zh` or `de-u-co-phonebk`, whose files the command `uca-files` has.
 ///
 /// It is the program that the environment's `UCA_FILES` names, or else `uca-files`. It keeps what it has made, so the
-/// order stays the same.
+/// order stays the same. A call waits until this program ends.
 #[derive(Clone, Copy, Debug)]
 #[must_use]
 pub struct Language<'a> {
@@ -63,7 +63,8 @@ impl<'a> Language<'a> {
         if paths.len() != 2 + usize::from(self.has_book) || !paths.iter().all(|it| it.is_absolute()) {
             return Err(LanguageError::Output(OsString::from_vec(ran.stdout)));
         }
-        eprint!("{}", String::from_utf8_lossy(&ran.stderr)); // a sentence on the language: that its order is the root's
+        // A sentence on the language: that its order is the root's. Where it cannot be written, there are files all the same.
+        let _ = io::stderr().write_all(&ran.stderr);
         Ok(paths)
     }
 }

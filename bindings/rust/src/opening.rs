@@ -35,7 +35,7 @@ pub enum Numbers {
     ///
     /// Before a number is read how many digits it has, without its leading zeros: `file 9` is read as `file 19`, and
     /// `file 10` as `file 210`. The limits of texts are those of what is read. The digits of the table have to rise,
-    /// as those of Unicode's table do. No call tests this.
+    /// as those of Unicode's table do: [`OpenError::Digits`] otherwise.
     ByValue = 2,
 }
 
@@ -67,7 +67,9 @@ impl<'a> Options<'a> {
     ///
     /// ```
     /// use uca::{Collator, Numbers};
-    /// # let (table, data) = (b"@version 1\n0061 ; [.1C47.0020.0002]\n", b"@data 1\n");
+    /// # let digits: String = (0..10).map(|it| format!("003{it} ; [.{:04X}.0020.0002]\n", 0x1C3D + it)).collect();
+    /// # let (table, data) = (format!("@version 1\n{digits}"), b"@data 1\n");
+    /// # let table = table.as_bytes();
     ///
     /// let mut collator = Collator::options().numbers(Numbers::ByValue).open(table, data)?;
     /// let mut volumes = ["Band 10", "Band 2", "Band 1"];

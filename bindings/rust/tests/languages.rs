@@ -2,7 +2,8 @@
 //! the same environment.
 use std::os::unix::fs::PermissionsExt;
 use std::path::Path;
-use std::{env, fs, process};
+use std::process::{self, Command, Stdio};
+use std::{env, fs};
 use uca::{Collator, Language, LanguageError, Numbers, OpenError, Weighting};
 
 const TABLE: &str = "@version 1\n@variable non-ignorable\n0020 ; [*0209.0020.0002]\n0061 ; [.1C47.0020.0002]\n";
@@ -36,8 +37,15 @@ fn error_of(language: Language) -> String {
     Collator::of_language(language).unwrap_err().to_string()
 }
 
+/// Is set in a child, which is this test once more.
+const CHILD: &str = "UCA_TEST_CHILD";
+
 #[test]
 fn languages() {
+    if env::var_os(CHILD).is_some() {
+        Collator::of_language("pl").unwrap();
+        return;
+    }
     let folder = env::temp_dir().join(format!("uca languages {}", process::id()));
     fs::create_dir(&folder).unwrap();
     for (name, content) in [("table.txt", TABLE), ("data.txt", DATA), ("book.txt", BOOK), ("command", COMMAND)] {
@@ -47,6 +55,7 @@ fn languages() {
     env::set_var("UCA_FILES", folder.join("command"));
     settings(&folder);
     what_is_no_tag(&folder);
+    sentence(&folder);
     errors(&folder);
     fs::remove_dir_all(folder).unwrap();
 }
@@ -81,6 +90,20 @@ fn what_is_no_tag(folder: &Path) {
         assert!(matches!(Collator::of_language(tag), Err(LanguageError::NoTag)), "{tag:?}");
     }
     assert_eq!(arguments(folder), None);
+}
+
+/// What a command that has files says goes to standard error. A child whose standard error cannot be written ends well too.
+fn sentence(folder: &Path) {
+    print_files(folder, &["table.txt", "data.txt"]);
+    let paths = fs::read_to_string(folder.join("script")).unwrap();
+    write(folder, "script", &format!("echo 'the order of the root' >&2\n{paths}"));
+    let mut child = Command::new(env::current_exe().unwrap());
+    child.env(CHILD, "1").arg("--nocapture").stdout(Stdio::null());
+    let said = child.stderr(Stdio::piped()).output().unwrap();
+    assert!(said.status.success());
+    assert_eq!(String::from_utf8(said.stderr).unwrap(), "the order of the root\n");
+    let full = fs::OpenOptions::new().write(true).open("/dev/full").unwrap();
+    assert!(child.stderr(full).status().unwrap().success());
 }
 
 fn errors(folder: &Path) {

@@ -379,15 +379,13 @@ fn keys_of_other_files_and_settings_are_an_error() {
     assert_eq!(error, UpgradeError::OtherFiles { wanted: other, found: kept });
     let said = format!("the old files and settings have the fingerprint {OLD_FINGERPRINT}, and not {NEW_FINGERPRINT}");
     assert_eq!(error.to_string(), said);
-    let others = [
-        options.weighting(Weighting::NonIgnorable),
-        options.depth(Depth::Identical),
-        options.numbers(Numbers::ByValue),
-    ];
-    for options in others {
+    for options in [options.weighting(Weighting::NonIgnorable), options.depth(Depth::Identical)] {
         let error = options.open(FILES).unwrap_err();
         assert!(matches!(error, UpgradeError::OtherFiles { wanted, found } if wanted == kept && found != kept));
     }
+    let kept = Upgrade::options().open(NUMBERS).unwrap().old_fingerprint();
+    let error = Upgrade::options().numbers(Numbers::ByValue).fingerprint(kept).open(NUMBERS).unwrap_err();
+    assert!(matches!(error, UpgradeError::OtherFiles { wanted, found } if wanted == kept && found != kept));
 }
 
 #[test]
