@@ -10,7 +10,14 @@ import time
 import small_cldr
 from program import LIMIT, TOP, UCA, Ended, ProgramTest
 
-TOOL = f"{TOP}/tools/uca_files.py"
+# Runs the script with two folders, the first arguments, in the place of those of the packages.
+SCRIPT = f"""import sys
+sys.path.insert(0, {TOP + '/tools'!r})
+import languages, unicode_files
+unicode_files.FOLDER, languages.CLDR = sys.argv[1:3]
+del sys.argv[1:3]
+import uca_files
+uca_files.main()"""
 EDITION, NEXT = "15.0.0-cldr41", "15.0.0-cldr42"
 NEXT_DTD = small_cldr.CLDR["dtd/ldml.dtd"].replace("41", "42")
 ROOT_ORDER = "eu: CLDR has no rules of its own for this language, so its order is that of the root (und)\n"
@@ -61,18 +68,17 @@ class UcaFiles(ProgramTest):
         small_cldr.write(f"{self.folder}/cldr", small_cldr.CLDR)
         self.home = f"{self.folder}/home"
 
-    def words(self, arguments):
-        named = [] if "--unicode" in arguments else ["--unicode", "unicode", "--cldr", "cldr"]
-        return [sys.executable, TOOL, *([] if "--uca" in arguments else ["--uca", UCA]), *named, *arguments]
+    def words(self, arguments, installed=("unicode", "cldr")):
+        return [sys.executable, "-c", SCRIPT, *installed, *([] if "--uca" in arguments else ["--uca", UCA]), *arguments]
 
     def streams(self, **others):
         """How each call is run: its files are kept in a folder of the test."""
         environment = {**os.environ, "XDG_DATA_HOME": self.home, "XDG_DATA_DIRS": f"{self.folder}/system", **others}
         return {"cwd": self.folder, "env": environment, "stdout": subprocess.PIPE, "stderr": subprocess.PIPE}
 
-    def call(self, *arguments, given=b"", **others):
+    def call(self, *arguments, given=b"", installed=("unicode", "cldr"), **others):
         """Runs the script. No error is a traceback."""
-        ran = subprocess.run(self.words(arguments), input=given, timeout=LIMIT, **{**self.streams(), **others})
+        ran = subprocess.run(self.words(arguments, installed), input=given, timeout=LIMIT, **{**self.streams(), **others})
         self.assertNotIn(b"Traceback", ran.stderr)
         return Ended(ran.returncode, ran.stdout, ran.stderr)
 
@@ -80,9 +86,9 @@ class UcaFiles(ProgramTest):
         """The paths of the files of a tag, as they are printed."""
         return [f"{home or self.home}/uca/{edition}/{tag}/{name}" for name in ("table.txt", "data.txt")]
 
-    def made(self, *arguments, err=b""):
+    def made(self, *arguments, err=b"", **others):
         """The paths that a call prints, which ends well."""
-        found = self.call(*arguments)
+        found = self.call(*arguments, **others)
         self.assertEqual((found.status, found.err), (0, err), arguments)
         return found.out.decode().splitlines()
 
@@ -124,11 +130,13 @@ class UcaFiles(ProgramTest):
 
     def test_missing_packages(self):
         """The sentence names those packages whose files are missing."""
-        self.fails("--unicode", "none", "--cldr", "none", "pl", said="there is no none/allkeys.txt: apt install unicode-data unicode-cldr-core, or")
-        self.fails("--unicode", "none", "--cldr", "cldr", "pl", said="apt install unicode-data, or")
-        self.fails("--unicode", "unicode", "--cldr", "none", "pl", said="apt install unicode-cldr-core, or")
-        self.made("pl")
-        self.assertEqual(self.made("--unicode", "none", "--cldr", "none", "pl"), self.paths("pl"))
+        none = {"installed": ("none", "none")}
+        self.fails("pl", said="there is no none/allkeys.txt: apt install unicode-data unicode-cldr-core, or name the folders with such files by --unicode and --cldr\n", **none)
+        self.fails("pl", installed=("none", "cldr"), said="apt install unicode-data, or")
+        self.fails("pl", installed=("unicode", "none"), said="apt install unicode-cldr-core, or")
+        self.made("pl", "de")
+        self.assertEqual(self.made("pl", **none), self.paths("pl"))
+        self.fails("PL", said="apt install unicode-data unicode-cldr-core, or name the folders with such files by --unicode and --cldr. These tags are kept: de, pl\n", **none)
 
     def test_kept_files_stay(self):
         """Other rules, or another edition, change nothing of what is kept."""
