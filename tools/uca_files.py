@@ -163,9 +163,9 @@ def check_packages(options):
     lacking = {name: [it for it in files if not os.path.exists(it)] for name, files in wanted.items()}
     names = [it for it, files in lacking.items() if files]
     if names:
-        tags = sorted({os.path.basename(it) for folder in folders(options) for edition in editions(folder) for it in glob.glob(os.path.join(glob.escape(folder), edition, "*"))})
+        tags = sorted({os.path.basename(it) for folder in folders(options) for it in glob.glob(os.path.join(glob.escape(folder), "*-cldr*", "*"))})
         also = f". These tags are kept: {', '.join(tags)}" if tags else ""
-        raise CldrError(f"there is no {lacking[names[0]][0]}: apt install {' '.join(names)}, or name the folders with such files by --unicode and --cldr{also}")
+        raise CldrError(f"there is no {lacking[names[0]][0]}: apt install {' '.join(names)}, or name the folders with such files by --unicode and --cldr, with --into FOLDER{also}")
 
 
 def edition_of(options):
@@ -245,7 +245,7 @@ def book_of(options, kept):
 def names_of(options, text):
     """The names under which a tag is kept: the given one, and that of CLDR, such as `he` for `iw`."""
     try:
-        return dict.fromkeys([text, read_tag(options.cldr, text).text])
+        return [text, read_tag(options.cldr, text).text]
     except CldrError:  # CLDR's files are not there, or have no such tag any more
         return [text]
 
@@ -253,10 +253,10 @@ def names_of(options, text):
 def files_of(options, text):
     """The files of a tag, which are made where none are kept. A sentence says where its order is the root's."""
     parts_of(text)
-    if is_own(options):
+    if options.is_own:
         check_packages(options)
         options.edition = options.edition or edition_of(options)
-    kept = find(options, [*names_of(options, text)])
+    kept = find(options, names_of(options, text))
     if not kept:
         check_packages(options)
         kept = make(options, read_tag(options.cldr, text))
@@ -293,7 +293,8 @@ def print_list(options):
             wrong.append(sentence(error))
             return []
 
-    for kept in (Kept(folder, edition, tag) for folder in folders(options) for edition in read(editions, folder) for tag in read(os.listdir, os.path.join(folder, edition))):
+    places = ((folder, edition) for folder in folders(options) for edition in read(editions, folder))
+    for kept in (Kept(*place, tag) for place in places for tag in read(os.listdir, os.path.join(*place))):
         out, said = languages.run([uca, "fingerprint", *kept.files])
         put(["\t".join([kept.tag, kept.edition, out.strip() or said, kept.path])])
         wrong += [] if out else [f"{kept.path}: {said}"]
@@ -325,11 +326,6 @@ def print_buckets(options):
 # ---- Arguments
 
 
-def is_own(options):
-    """Whether other folders than those of the packages are named."""
-    return (options.unicode, options.cldr) != (unicode_files.FOLDER, languages.CLDR)
-
-
 def arguments():
     parser = argparse.ArgumentParser(prog="uca-files", description=__doc__.split("\n", maxsplit=1)[0], epilog="uca sort $(uca-files pl) < names.txt")
     parser.add_argument("tags", nargs="*", metavar="TAG", help="a language tag, such as pl or de-u-co-phonebk")
@@ -341,14 +337,15 @@ def arguments():
     what.add_argument("--names", action="store_true", help="prints all languages and variants by plain names")
     what.add_argument("--labels", action="store_true", help="prints the labels of an index")
     what.add_argument("--buckets", action="store_true", help="prints each line of standard input after its label")
-    parser.add_argument("--unicode", metavar="FOLDER", default=unicode_files.FOLDER, help=f"Unicode's files ({unicode_files.FOLDER})")
-    parser.add_argument("--cldr", metavar="FOLDER", default=languages.CLDR, help=f"CLDR's files ({languages.CLDR})")
+    parser.add_argument("--unicode", metavar="FOLDER", default=unicode_files.FOLDER, help=f"Unicode's files ({unicode_files.FOLDER}); others need --into")
+    parser.add_argument("--cldr", metavar="FOLDER", default=languages.CLDR, help=f"CLDR's files ({languages.CLDR}); others need --into")
     parser.add_argument("--uca", metavar="PROGRAM", help="the program uca")
     options = parser.parse_args()
     most = 0 if options.list or options.names else 1 if options.labels or options.buckets else None
     if most is not None and len(options.tags) != most or most is None and not options.tags:
         parser.error("a language is named by its tag, such as pl: --names lists them" if not options.tags else f"these are too many: {' '.join(options.tags[most:])}")
-    if is_own(options) and options.into is None and not (options.list or options.names):
+    options.is_own = (options.unicode, options.cldr) != (unicode_files.FOLDER, languages.CLDR)
+    if options.is_own and options.into is None and not (options.list or options.names):
         parser.error("what is made of folders of your own is kept apart: name a folder for it by --into")
     return options
 
