@@ -12,7 +12,7 @@ The files of a tag are FOLDER/EDITION/TAG/table.txt, data.txt and book.txt. FOLD
 folders uca of $XDG_DATA_DIRS (/usr/local/share and /usr/share) are read too. EDITION is such as 15.0.0-cldr41: that of Unicode's table and the version of CLDR.
 
 What is kept is given, whatever packages are installed now, and never written over. Where several editions of a tag are kept, --edition names one. What is not
-kept is made of the files of Debian's packages unicode-data and unicode-cldr-core, or of other folders with these files. `uca` has to accept the table first.
+kept is made of the files of Debian's packages unicode-data and unicode-cldr-core. Other folders of such files need --into. `uca` has to accept the table first.
 
 The status is 0, or 1 after an error with a sentence, or 2 for wrong arguments. docs/LANGUAGES.md says more.
 """
