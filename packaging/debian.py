@@ -17,6 +17,7 @@ and dpkg-dev, and for the last two packages libsqlite3-dev and postgresql-server
 """
 import argparse
 import dataclasses
+import glob
 import gzip
 import hashlib
 import os
@@ -32,6 +33,7 @@ REVISION = "1"
 ARCHITECTURE, TRIPLET = "amd64", "x86_64-linux-gnu"
 MAINTAINER = "The uca authors <uca@example.org>"
 SERVER = "15"
+ANY_PYTHON = "#!/usr/bin/env python3\n"
 
 WHAT_IT_IS = """Sort keys and comparison of texts in any language, by a table of weights
 such as Unicode's allkeys.txt. The library has machine-checked proofs that
@@ -63,12 +65,18 @@ def full_version():
 
 
 def fill_program(root, _):
-    """What tools/install.sh installs, at Debian's places. The licenses are in Debian's file of copyright, to which the links of pages lead."""
+    """What tools/install.sh installs, at Debian's places. The licenses are in Debian's file of copyright, to which the links of pages lead. Scripts are run by
+    Debian's Python, whichever is first on the path."""
     made.run(f"{made.TOP}/tools/install.sh", "/usr", more={"DESTDIR": root})
     documents = f"{root}/usr/share/doc/uca"
     os.remove(f"{documents}/installed_files")
     made.run("strip", "--strip-unneeded", f"{root}/usr/bin/uca")
     move(f"{root}/usr/share/zsh/site-functions", f"{root}/usr/share/zsh/vendor-completions")
+    for path in glob.glob(f"{root}/usr/share/uca/**/*.py", recursive=True):
+        with open(path, encoding="utf-8") as file:
+            text = file.read()
+        if text.startswith(ANY_PYTHON):
+            made.write(path, text.replace(ANY_PYTHON, "#!/usr/bin/python3\n", 1), os.stat(path).st_mode & 0o777)
     for name in made.LICENSES:
         os.remove(f"{documents}/{name}")
     for name in ("LICENSE", "NOTICE"):
@@ -157,7 +165,7 @@ unicode-data and unicode-cldr-core.""",
         fill_program,
         binaries=("usr/bin/uca",),
         # the program needs none of them, and uca-files all
-        recommends="python3, unicode-data, unicode-cldr-core",
+        recommends="python3 (>= 3.10), unicode-data, unicode-cldr-core",
     ),
     Package(
         "libuca1",

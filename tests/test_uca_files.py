@@ -2,6 +2,7 @@
 import hashlib
 import os
 import resource
+import shutil
 import signal
 import subprocess
 import sys
@@ -10,7 +11,14 @@ import time
 import small_cldr
 from program import LIMIT, TOP, UCA, Ended, ProgramTest
 
-TOOL = f"{TOP}/tools/uca_files.py"
+# Runs the script with two folders, the first arguments, in the place of those of the packages.
+SCRIPT = f"""import sys
+sys.path.insert(0, {TOP + '/tools'!r})
+import languages, unicode_files
+unicode_files.FOLDER, languages.CLDR = sys.argv[1:3]
+del sys.argv[1:3]
+import uca_files
+uca_files.main()"""
 EDITION, NEXT = "15.0.0-cldr41", "15.0.0-cldr42"
 NEXT_DTD = small_cldr.CLDR["dtd/ldml.dtd"].replace("41", "42")
 ROOT_ORDER = "eu: CLDR has no rules of its own for this language, so its order is that of the root (und)\n"
@@ -47,6 +55,10 @@ WRONG = [
     (["de-u-co-../../pl"], 1, "is no language tag"),
     (["de-u-co-trad"], 1, "no such collation"),
     (["de-u-kn"], 1, "`kn` cannot be had"),
+    (["de-POSIX"], 1, "`POSIX` is neither a script nor a region"),
+    (["de-DE-POSIX"], 1, "`POSIX` is neither a script nor a region"),
+    (["--cldr", "other", "pl"], 2, "name a folder for it by --into"),
+    (["--unicode", "other", "--buckets", "pl"], 2, "name a folder for it by --into"),
     (["--edition", NEXT, "pl"], 1, f"the edition {NEXT} is not kept, and what is installed is {EDITION}"),
     (["--into", "a b", "pl"], 1, "a shell would not leave this path whole, because of ' '"),
     (["--into", "a*", "pl"], 1, "because of '*'"),
@@ -61,18 +73,17 @@ class UcaFiles(ProgramTest):
         small_cldr.write(f"{self.folder}/cldr", small_cldr.CLDR)
         self.home = f"{self.folder}/home"
 
-    def words(self, arguments):
-        named = [] if "--unicode" in arguments else ["--unicode", "unicode", "--cldr", "cldr"]
-        return [sys.executable, TOOL, *([] if "--uca" in arguments else ["--uca", UCA]), *named, *arguments]
+    def words(self, arguments, installed=("unicode", "cldr")):
+        return [sys.executable, "-c", SCRIPT, *installed, *([] if "--uca" in arguments else ["--uca", UCA]), *arguments]
 
     def streams(self, **others):
         """How each call is run: its files are kept in a folder of the test."""
         environment = {**os.environ, "XDG_DATA_HOME": self.home, "XDG_DATA_DIRS": f"{self.folder}/system", **others}
         return {"cwd": self.folder, "env": environment, "stdout": subprocess.PIPE, "stderr": subprocess.PIPE}
 
-    def call(self, *arguments, given=b"", **others):
+    def call(self, *arguments, given=b"", installed=("unicode", "cldr"), **others):
         """Runs the script. No error is a traceback."""
-        ran = subprocess.run(self.words(arguments), input=given, timeout=LIMIT, **{**self.streams(), **others})
+        ran = subprocess.run(self.words(arguments, installed), input=given, timeout=LIMIT, **{**self.streams(), **others})
         self.assertNotIn(b"Traceback", ran.stderr)
         return Ended(ran.returncode, ran.stdout, ran.stderr)
 
@@ -80,9 +91,9 @@ class UcaFiles(ProgramTest):
         """The paths of the files of a tag, as they are printed."""
         return [f"{home or self.home}/uca/{edition}/{tag}/{name}" for name in ("table.txt", "data.txt")]
 
-    def made(self, *arguments, err=b""):
+    def made(self, *arguments, err=b"", **others):
         """The paths that a call prints, which ends well."""
-        found = self.call(*arguments)
+        found = self.call(*arguments, **others)
         self.assertEqual((found.status, found.err), (0, err), arguments)
         return found.out.decode().splitlines()
 
@@ -124,11 +135,13 @@ class UcaFiles(ProgramTest):
 
     def test_missing_packages(self):
         """The sentence names those packages whose files are missing."""
-        self.fails("--unicode", "none", "--cldr", "none", "pl", said="there is no none/allkeys.txt: apt install unicode-data unicode-cldr-core, or")
-        self.fails("--unicode", "none", "--cldr", "cldr", "pl", said="apt install unicode-data, or")
-        self.fails("--unicode", "unicode", "--cldr", "none", "pl", said="apt install unicode-cldr-core, or")
-        self.made("pl")
-        self.assertEqual(self.made("--unicode", "none", "--cldr", "none", "pl"), self.paths("pl"))
+        none = {"installed": ("none", "none")}
+        self.fails("pl", said="there is no none/allkeys.txt: apt install unicode-data unicode-cldr-core, or name the folders with such files by --unicode and --cldr, with --into FOLDER\n", **none)
+        self.fails("pl", installed=("none", "cldr"), said="apt install unicode-data, or")
+        self.fails("pl", installed=("unicode", "none"), said="apt install unicode-cldr-core, or")
+        self.made("pl", "de")
+        self.assertEqual(self.made("pl", **none), self.paths("pl"))
+        self.fails("PL", said="apt install unicode-data unicode-cldr-core, or name the folders with such files by --unicode and --cldr, with --into FOLDER. These tags are kept: de, pl\n", **none)
 
     def test_kept_files_stay(self):
         """Other rules, or another edition, change nothing of what is kept."""
@@ -160,6 +173,100 @@ class UcaFiles(ProgramTest):
             self.assertEqual(found.out.decode().splitlines(), self.paths("de", home=f"{self.folder}/user/.local/share"))
         self.write(file="")
         self.fails("--into", "file/x", "pl", said="Not a directory")
+
+    def test_no_home(self):
+        """Nothing is made in a folder of the administrator in its place."""
+        for home in ("", "relative", "./here"):
+            self.fails("pl", said=f"the home folder is {home!r}, which is no absolute path", **self.streams(XDG_DATA_HOME="", HOME=home))
+        self.fails("--list", said="no absolute path", **self.streams(XDG_DATA_HOME="", XDG_DATA_DIRS="", HOME="relative"))
+        self.assertFalse(os.path.exists(f"{self.folder}/system"))
+
+    def test_folders_that_cannot_be_read(self):
+        """They may keep the tag, so it is not made anew. A link to itself has no rights that root could have. tests/by_hand/uca_files.py has another user."""
+        os.makedirs(f"{self.folder}/system")
+        os.symlink("uca", f"{self.folder}/system/uca")
+        self.fails("pl", said=f"{self.folder}/system/uca: Too many levels of symbolic links")
+        os.makedirs(f"{self.folder}/other/{EDITION}")
+        os.symlink("pl", f"{self.folder}/other/{EDITION}/pl")
+        self.fails("--into", "other", "pl", said=f"{self.folder}/other/{EDITION}/pl: Too many levels")
+        self.assertFalse(os.path.exists(self.home))
+
+    def test_rights(self):
+        """What is made by --into is there for all users. What is made for one user has the rights that this user gives."""
+        for words, folder, rights in ((["--into", "system/uca"], f"{self.folder}/system", (0o755, 0o444)), ([], self.home, (0o700, 0o400))):
+            self.made(*words, "--book", "pl", preexec_fn=lambda: os.umask(0o077))
+            for at, _, names in os.walk(folder):
+                self.assertEqual([os.stat(it).st_mode & 0o777 for it in (at, *(f"{at}/{name}" for name in names))], [rights[0], *[rights[1]] * len(names)])
+            os.rename(folder, f"{folder}.seen")
+
+    def test_a_link_to_nothing(self):
+        os.makedirs(f"{self.home}/uca/{EDITION}")
+        os.symlink("none", f"{self.home}/uca/{EDITION}/pl")
+        self.fails("pl", said=f"{self.home}/uca/{EDITION}/pl: Not a directory\n")
+        self.nothing_is_left()
+
+    def test_own_folders(self):
+        """Folders that are named ask for their edition, whatever is kept."""
+        self.assertEqual(self.made("--into", "own", "pl"), [f"{self.folder}/own/{EDITION}/pl/{it}" for it in ("table.txt", "data.txt")])
+        small_cldr.write(f"{self.folder}/newer", {**small_cldr.CLDR, "dtd/ldml.dtd": NEXT_DTD})
+        found = self.made("--into", "own", "--cldr", "newer", "pl")
+        self.assertEqual(found, [f"{self.folder}/own/{NEXT}/pl/{it}" for it in ("table.txt", "data.txt")])
+        self.fails("--into", "own", "--cldr", "newer", "--edition", "1.0-cldr1", "pl", said=f"the edition 1.0-cldr1 is not kept, and what is installed is {NEXT}")
+        self.fails("--into", "own", "--cldr", "none", "pl", said="there is no none/collation/root.xml")
+
+    def test_packages_of_another_edition(self):
+        """A book or labels for what is kept are not made of them."""
+        self.made("pl")
+        shutil.copytree(f"{self.folder}/cldr", f"{self.folder}/older")
+        small_cldr.write(f"{self.folder}/cldr", {"dtd/ldml.dtd": NEXT_DTD})
+        self.assertEqual(self.made("pl"), self.paths("pl"))
+        for option, what in (("--book", "a book"), ("--labels", "an index"), ("--buckets", "an index")):
+            self.fails(option, "pl", said=f"{what} for {EDITION} cannot be made of {NEXT}: name folders of its edition")
+        self.assertFalse(os.path.exists(f"{os.path.dirname(self.paths('pl')[0])}/book.txt"))
+        named = ["--unicode", "unicode", "--cldr", "older", "--into", f"{self.home}/uca"]
+        self.assertEqual(self.call("--labels", *named, "pl").out[:4], b"B\tB\n")
+        book = self.made("--book", *named, "pl")
+        self.assertEqual(self.made("--book", "pl"), book)
+
+    def test_damaged_tables(self):
+        table, _ = self.made("pl")
+        for text in (b"0061 ; [.0000.0020.0002]\n", b"\xff\n"):
+            os.chmod(table, 0o644)
+            with open(table, "ab") as file:
+                file.write(text)
+            self.assertEqual(self.made("pl")[0], table)
+            for option in ("--labels", "--buckets"):
+                self.fails(option, "pl", said=f"the table that is given, {table}: ")
+
+    def test_two_names(self):
+        """A tag that is kept under the name of one edition and under that of another is kept twice."""
+        paths = self.made("iw")
+        self.assertEqual(paths, self.paths("he"))
+        older = self.paths("iw", "14.0.0-cldr40")
+        shutil.copytree(os.path.dirname(paths[0]), os.path.dirname(older[0]))
+        self.fails("iw", said="keeps several editions, 14.0.0-cldr40, 15.0.0-cldr41: name one by --edition")
+        self.assertEqual(self.made("--edition", "14.0.0-cldr40", "iw"), older)
+        self.assertEqual(self.made("--edition", EDITION, "iw"), paths)
+        self.assertEqual(self.made("iw", installed=("none", "none")), older)
+
+    def test_list_goes_on(self):
+        """What cannot be read is named after the list."""
+        table, _ = self.made("pl")
+        self.write(**{"home/uca/14.0.0-cldr40": "", "home/uca/notes": ""})
+        os.symlink("16.0.0-cldr46", f"{self.home}/uca/16.0.0-cldr46")
+        found = self.call("--list")
+        self.assertEqual((found.status, found.out.split(b"\t")[:2]), (1, [b"pl", EDITION.encode()]))
+        self.assertEqual(found.out.count(b"\n"), 1)
+        said = ["14.0.0-cldr40: Not a directory", "16.0.0-cldr46: Too many levels of symbolic links"]
+        self.assertEqual(found.err.decode().splitlines(), [f"{self.home}/uca/{it}" for it in said])
+
+    def test_a_reader_that_stops(self):
+        """The call ends quietly, as by the signal SIGPIPE."""
+        for words in (["--names"], ["pl"]):
+            reader, writer = os.pipe()
+            os.close(reader)
+            self.assertEqual(self.call(*words, stdout=writer), Ended(141, None, b""))
+            os.close(writer)
 
     def test_list(self):
         """The fingerprint is worked out from docs/FORMATS.md."""
@@ -193,6 +300,10 @@ Traditional Chinese, by strokes: zh-Hant
         wanted = ["…\t0", "B\tb", "C\tc", "A\ta", "A\tA", "A\ta b", "A\tAb", "A\taa", "D\td"]
         self.assertEqual(found, Ended(0, "".join(f"{it}\n" for it in wanted).encode(), b""))
         self.fails("--buckets", "pl", given=b"a\n\xff\n", said="input line 2: Utf8")
+        self.fails("--buckets", "pl", given=b"\xff\n" + b"a\n" * 200_000, said="input line 1: Utf8")
+        found = self.call("--labels", "eu")
+        self.assertEqual((found.out.split(b"\n")[0], found.err.decode()), (b"A\tA", ROOT_ORDER))
+        self.assertEqual(self.call("--buckets", "eu", given=b"b\n"), Ended(0, b"B\tb\n", ROOT_ORDER.encode()))
         self.assertEqual(self.call("--buckets", "pl", given=b""), Ended(0, b"", b""))
 
     def test_calls_at_once(self):

@@ -143,7 +143,7 @@ for page in "$top"/docs/* "$top"/examples/* "$top"/examples/*/*; do
 done
 put_own tools/uca_files.py tools/unicode_files.py tools/languages.py
 put_own tools/cldr_rules.py tools/profile_rules.py tools/language_tags.py tools/language_tables.py tools/language_names.py
-put_own tools/weight_lists.py tools/script_order.py tools/han_order.py tools/kept_changes.py tools/index_labels.py
+put_own tools/weight_lists.py tools/script_order.py tools/han_order.py tools/kept_changes.py tools/index_labels.py tools/index_buckets.py
 put_own tools/table_books.py examples/books/choose_book.py examples/books/general.book
 put_link "../$own/tools/uca_files.py" bin/uca-files
 # the pages name these by tools/ and examples/

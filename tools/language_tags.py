@@ -94,7 +94,7 @@ def locale_of(folder, text, parts):
                 raise CldrError(f"{text}: `{rest[0]}` is no {what} of CLDR")
             found[what] = code
             rest.pop(0)
-    if [it.upper() for it in rest] == ["POSIX"]:
+    if [it.upper() for it in rest] == ["POSIX"] and found == {"language": "en", "region": "US"}:  # the only order of a variant
         found["variant"] = rest.pop().upper()
     if rest:
         raise CldrError(f"{text}: `{rest[0]}` is neither a script nor a region. A collation comes after -u-co-, as in de-u-co-phonebk")

@@ -4,7 +4,7 @@ A book fits the table whose weights it names. examples/books/general.book fits U
 `uca book` make the book that fits its table. It is taken where the language's own letters are short by it, as those of Latin languages are. For all others a book
 is chosen by texts that CLDR has in the language. Lines of English and numbers are among them, since most lists have some.
 
-The same table and the same files of CLDR always give the same book.
+The same table and the same files of Unicode and CLDR always give the same book. tools/uca_files.py makes none of files of another edition than the table's.
 """
 import io
 import os

@@ -4,7 +4,7 @@
     tools/tidy.py [CHECK ..]        all checks, unless some are named
 
 - layout: `rattle fmt --check` over all files of all crates;
-- columns: no line of a page has more than 120 columns, but for tables and blocks of code;
+- columns: no line of a page has more than 120 columns, but for tables and blocks of code, and none has `@@`, which stands for a figure to come;
 - edits: each `old:` text of an edit is in its file exactly once, in crates/*/must-fail and in edits/;
 - english: tools/plain_english.py;
 - definitions: tools/definitions.py;
@@ -38,7 +38,7 @@ def layout():
 
 
 def columns():
-    """How many pages there are, and their long lines."""
+    """How many pages there are, and their long lines and those with `@@`."""
     pages = subprocess.run(["git", "ls-files", "*.md"], cwd=kit.TOP, check=True, stdout=subprocess.PIPE, encoding="utf-8").stdout.split()
     found = []
     for page in pages:
@@ -46,6 +46,8 @@ def columns():
         with open(f"{kit.TOP}/{page}", encoding="utf-8") as file:
             for number, line in enumerate(file, 1):
                 in_code ^= line.lstrip().startswith("```")
+                if "@@" in line:
+                    found.append(f"{page}:{number}: @@")
                 if len(line.rstrip("\n")) > COLUMNS and not in_code and not line.startswith("|"):
                     found.append(f"{page}:{number}: {len(line) - 1} columns")
     return f"{len(pages)} pages", found

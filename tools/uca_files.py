@@ -12,12 +12,11 @@ The files of a tag are FOLDER/EDITION/TAG/table.txt, data.txt and book.txt. FOLD
 folders uca of $XDG_DATA_DIRS (/usr/local/share and /usr/share) are read too. EDITION is such as 15.0.0-cldr41: that of Unicode's table and the version of CLDR.
 
 What is kept is given, whatever packages are installed now, and never written over. Where several editions of a tag are kept, --edition names one. What is not
-kept is made of the files of Debian's packages unicode-data and unicode-cldr-core, or of other folders with these files. `uca` has to accept the table first.
+kept is made of the files of Debian's packages unicode-data and unicode-cldr-core. Other folders of such files need --into. `uca` has to accept the table first.
 
 The status is 0, or 1 after an error with a sentence, or 2 for wrong arguments. docs/LANGUAGES.md says more.
 """
 import argparse
-import bisect
 import contextlib
 import errno
 import glob
@@ -25,8 +24,6 @@ import itertools
 import os
 import re
 import shutil
-import signal
-import subprocess
 import sys
 import tempfile
 import time
@@ -37,7 +34,8 @@ import cldr_rules
 import languages
 import unicode_files
 from cldr_rules import CldrError
-from index_labels import NO_BUCKET, index_labels
+from index_buckets import buckets
+from index_labels import index_labels
 from language_names import all_names
 from language_tags import NO_RULES, parts_of, read_tag
 
@@ -80,28 +78,35 @@ def folders(options):
     if options.into is not None:
         return [os.path.abspath(options.into)]
     home = os.environ.get("XDG_DATA_HOME", "")
+    if not home.startswith("/"):
+        home = os.path.expanduser("~/.local/share")
+        if not home.startswith("/") or os.environ.get("HOME") == "":
+            raise CldrError(f"the home folder is {os.environ.get('HOME', '')!a}, which is no absolute path: name a folder by --into FOLDER")
     others = os.environ.get("XDG_DATA_DIRS") or "/usr/local/share:/usr/share"
-    found = [home if home.startswith("/") else os.path.expanduser("~/.local/share"), *others.split(":")]
-    return [os.path.join(it, "uca") for it in dict.fromkeys(found) if it.startswith("/")]
+    return [os.path.join(it, "uca") for it in dict.fromkeys([home, *others.split(":")]) if it.startswith("/")]
+
+
+def is_there(path):
+    """Whether a file or a folder is there. It is an error if the user may not look."""
+    with contextlib.suppress(FileNotFoundError, NotADirectoryError):
+        return bool(os.stat(path))
+    return False
 
 
 def editions(folder):
-    """The names of the editions in a folder."""
-    try:
-        return sorted(it for it in os.listdir(folder) if EDITION.fullmatch(it))
-    except OSError:
-        return []
+    """The names of the editions in a folder. It is an error if the user may not read it."""
+    return sorted(it for it in os.listdir(folder) if EDITION.fullmatch(it)) if is_there(folder) else []
 
 
-def find(options, tag):
-    """The files of a tag in the first folder that has some, or None. It is an error if that folder has several editions, and none is asked for."""
+def find(options, names):
+    """The files of a tag by any of its names, in the first folder that has some, or None. It is an error if that folder has several editions, and none is asked for."""
     for folder in folders(options):
-        found = [it for it in (Kept(folder, edition, tag) for edition in editions(folder)) if os.path.isdir(it.path)]
-        found = [it for it in found if options.edition in (None, it.edition)]
+        asked = [it for it in editions(folder) if options.edition in (None, it)]
+        found = {it.edition: it for it in (Kept(folder, edition, name) for edition in asked for name in names) if is_there(it.path)}
         if len(found) > 1:
-            raise CldrError(f"{tag}: {folder} keeps several editions, {', '.join(it.edition for it in found)}: name one by --edition")
+            raise CldrError(f"{names[0]}: {folder} keeps several editions, {', '.join(found)}: name one by --edition")
         if found:
-            return found[0]
+            return next(iter(found.values()))
     return None
 
 
@@ -109,7 +114,7 @@ def checked(kept):
     """The files of a tag, which have to be there under names that a shell leaves whole."""
     if torn := TORN.search(kept.path):
         raise CldrError(f"{kept.path!a}: a shell would not leave this path whole, because of {torn[0]!a}: name another folder by --into FOLDER")
-    if lacking := [it for it in kept.files if not os.path.exists(it)]:
+    if lacking := [it for it in kept.files if not is_there(it)]:
         raise CldrError(f"{lacking[0]} is not there: take the folder {kept.path} away, and its files are made again")
     return kept
 
@@ -158,7 +163,9 @@ def check_packages(options):
     lacking = {name: [it for it in files if not os.path.exists(it)] for name, files in wanted.items()}
     names = [it for it, files in lacking.items() if files]
     if names:
-        raise CldrError(f"there is no {lacking[names[0]][0]}: apt install {' '.join(names)}, or name the folders with such files by --unicode and --cldr")
+        tags = sorted({os.path.basename(it) for folder in folders(options) for it in glob.glob(os.path.join(glob.escape(folder), "*-cldr*", "*"))})
+        also = f". These tags are kept: {', '.join(tags)}" if tags else ""
+        raise CldrError(f"there is no {lacking[names[0]][0]}: apt install {' '.join(names)}, or name the folders with such files by --unicode and --cldr, with --into FOLDER{also}")
 
 
 def edition_of(options):
@@ -170,9 +177,16 @@ def edition_of(options):
     return f"{found[1]}-cldr{cldr_rules.version(options.cldr)}"
 
 
+def check_edition(options, kept, what):
+    """Whether more can be made for a table: the files of Unicode and CLDR have to be of its edition."""
+    check_packages(options)
+    if (found := edition_of(options)) != kept.edition:
+        more = ". Or choose one by lines of your own: examples/books/choose_book.py" if what == "a book" else ""
+        raise CldrError(f"{kept.path}: {what} for {kept.edition} cannot be made of {found}: name folders of its edition by --unicode, --cldr and --into {kept.folder}{more}")
+
+
 def make(options, tag):
     """Makes the files of a tag in a hidden folder, and moves them to their place as a whole. If another call was faster, its files stay."""
-    check_packages(options)
     edition = edition_of(options)
     if options.edition not in (None, edition):
         raise CldrError(f"{tag.text}: the edition {options.edition} is not kept, and what is installed is {edition}")
@@ -185,6 +199,7 @@ def make(options, tag):
                 os.rename(made, kept.path)
             except OSError as error:
                 if error.errno not in (errno.EEXIST, errno.ENOTEMPTY):
+                    error.filename = kept.path
                     raise
         for it in (os.path.dirname(kept.path), kept.folder):
             sync(it)
@@ -212,7 +227,7 @@ def book_of(options, kept):
             import table_books
         except ModuleNotFoundError as error:
             raise CldrError(f"there is no module {error.name}: books are not made without it") from error
-        check_packages(options)
+        check_edition(options, kept, "a book")
         if not os.access(kept.path, os.W_OK):
             raise CldrError(f"{kept.path} has no book, and you cannot write there: whoever can makes it by uca-files --into {kept.folder} --book {kept.tag}")
         with room_in(kept.folder) as room:
@@ -227,16 +242,26 @@ def book_of(options, kept):
     return path
 
 
+def names_of(options, text):
+    """The names under which a tag is kept: the given one, and that of CLDR, such as `he` for `iw`."""
+    try:
+        return [text, read_tag(options.cldr, text).text]
+    except CldrError:  # CLDR's files are not there, or have no such tag any more
+        return [text]
+
+
 def files_of(options, text):
-    """The files of a tag, which are made where none are kept. A tag that CLDR names otherwise, such as `iw`, is looked for under its other name."""
+    """The files of a tag, which are made where none are kept. A sentence says where its order is the root's."""
     parts_of(text)
-    kept = find(options, text)
+    if options.is_own:
+        check_packages(options)
+        options.edition = options.edition or edition_of(options)
+    kept = find(options, names_of(options, text))
     if not kept:
-        if not os.path.isdir(options.cldr):
-            check_packages(options)
-        tag = read_tag(options.cldr, text)
-        kept = find(options, tag.text) or make(options, tag)
-    return checked(kept)
+        check_packages(options)
+        kept = make(options, read_tag(options.cldr, text))
+    languages.tell(remark_of(checked(kept)))
+    return kept
 
 
 def remark_of(kept):
@@ -254,22 +279,27 @@ def print_files(options):
     for text in options.tags:
         kept = files_of(options, text)
         found += [*kept.files, *([book_of(options, kept)] if options.book else [])]
-        languages.tell(remark_of(kept))
     put(map(os.fsencode, found))
 
 
 def print_list(options):
-    """What is kept in all folders. A table that the program rejects is an error after the list."""
+    """What is kept in all folders. What cannot be read, and a table that the program rejects, are errors after the list."""
     uca, wrong = languages.program(options), []
-    for folder in folders(options):
-        for edition in editions(folder):
-            for tag in sorted(os.listdir(os.path.join(folder, edition))):
-                kept = Kept(folder, edition, tag)
-                out, said = languages.run([uca, "fingerprint", *kept.files])
-                put(["\t".join([tag, edition, out.strip() or said, kept.path])])
-                wrong += [] if out else [f"{kept.path}: {said}"]
+
+    def read(call, folder):
+        try:
+            return sorted(call(folder))
+        except OSError as error:
+            wrong.append(sentence(error))
+            return []
+
+    places = ((folder, edition) for folder in folders(options) for edition in read(editions, folder))
+    for kept in (Kept(*place, tag) for place in places for tag in read(os.listdir, os.path.join(*place))):
+        out, said = languages.run([uca, "fingerprint", *kept.files])
+        put(["\t".join([kept.tag, kept.edition, out.strip() or said, kept.path])])
+        wrong += [] if out else [f"{kept.path}: {said}"]
     if wrong:
-        raise CldrError(wrong[0])
+        raise CldrError("\n".join(wrong))
 
 
 def print_names(options):
@@ -277,6 +307,9 @@ def print_names(options):
 
 
 def labels_of(options, kept):
+    """Where each part of an index begins, and its label. The table has to be whole, and of the edition of CLDR's files."""
+    check_edition(options, kept, "an index")
+    languages.check_table(options, *kept.files)
     return list(index_labels(read_tag(options.cldr, kept.tag), *kept.files, options.cldr, options.unicode))
 
 
@@ -284,36 +317,10 @@ def print_labels(options):
     put(f"{text}\t{label}" for text, label in labels_of(options, files_of(options, options.tags[0])))
 
 
-def piped(words, lines):
-    """What the program prints for lines."""
-    done = subprocess.run(words, input=lines, stdout=subprocess.PIPE, stderr=subprocess.PIPE, check=False)
-    if done.returncode:
-        raise CldrError(done.stderr.decode().strip())
-    return done.stdout
-
-
-def letters_of(key):
-    """Level 1 of a key in hexadecimal."""
-    at = next(at for at in range(0, len(key), 4) if key[at : at + 4] == b"0000")
-    return key[:at]
-
-
-def keyed(uca, kept, lines):
-    """The letters of each line's key, and the line."""
-    for row in piped([uca, "keys", "--lines", *kept.files], lines).split(b"\n")[:-1]:
-        key, _, line = row.partition(b"\t")
-        yield letters_of(key), line
-
-
 def print_buckets(options):
-    """Each line in order after the label of its bucket: that of the last label whose letters do not come after its own."""
-    uca, kept = languages.program(options), files_of(options, options.tags[0])
-    labels = labels_of(options, kept)
-    starts = [letters for letters, _ in keyed(uca, kept, "".join(f"{text}\n" for text, _ in labels).encode())]
-    names = [*(label.encode() for _, label in labels), NO_BUCKET.encode()]  # a line before the first label takes the last of these
-    lines = piped([uca, "sort", *kept.files], sys.stdin.buffer.read())
-    for letters, line in keyed(uca, kept, lines):
-        put([names[bisect.bisect_right(starts, letters) - 1] + b"\t" + line])
+    """Each line in order after the label of its bucket."""
+    kept = files_of(options, options.tags[0])
+    put(label + b"\t" + line for label, line in buckets(languages.program(options), kept.files, labels_of(options, kept), sys.stdin.buffer.read()))
 
 
 # ---- Arguments
@@ -330,13 +337,16 @@ def arguments():
     what.add_argument("--names", action="store_true", help="prints all languages and variants by plain names")
     what.add_argument("--labels", action="store_true", help="prints the labels of an index")
     what.add_argument("--buckets", action="store_true", help="prints each line of standard input after its label")
-    parser.add_argument("--unicode", metavar="FOLDER", default=unicode_files.FOLDER, help=f"Unicode's files ({unicode_files.FOLDER})")
-    parser.add_argument("--cldr", metavar="FOLDER", default=languages.CLDR, help=f"CLDR's files ({languages.CLDR})")
+    parser.add_argument("--unicode", metavar="FOLDER", default=unicode_files.FOLDER, help=f"Unicode's files ({unicode_files.FOLDER}); others need --into")
+    parser.add_argument("--cldr", metavar="FOLDER", default=languages.CLDR, help=f"CLDR's files ({languages.CLDR}); others need --into")
     parser.add_argument("--uca", metavar="PROGRAM", help="the program uca")
     options = parser.parse_args()
     most = 0 if options.list or options.names else 1 if options.labels or options.buckets else None
     if most is not None and len(options.tags) != most or most is None and not options.tags:
         parser.error("a language is named by its tag, such as pl: --names lists them" if not options.tags else f"these are too many: {' '.join(options.tags[most:])}")
+    options.is_own = (options.unicode, options.cldr) != (unicode_files.FOLDER, languages.CLDR)
+    if options.is_own and options.into is None and not (options.list or options.names):
+        parser.error("what is made of folders of your own is kept apart: name a folder for it by --into")
     return options
 
 
@@ -349,12 +359,16 @@ def sentence(error):
 
 
 def main():
-    signal.signal(signal.SIGPIPE, signal.SIG_DFL)
     options = arguments()
+    if options.into is not None:
+        os.umask(0o022)  # all users of the machine may read what is made there
     calls = {"list": print_list, "names": print_names, "labels": print_labels, "buckets": print_buckets}
     try:
         next((call for name, call in calls.items() if getattr(options, name)), print_files)(options)
         sys.stdout.flush()
+    except BrokenPipeError:  # whoever reads has read enough
+        sys.stdout = None
+        sys.exit(141)  # as by the signal SIGPIPE
     except (CldrError, OSError) as error:
         sys.stdout = None  # what it has is not written any more
         sys.exit(sentence(error))

@@ -388,6 +388,7 @@ def languages_in(system, _):
         said = system.run(f"uca sort $(uca-files {tag})", given="".join(f"{it}\n" for it in reversed(lines)).encode())
         same(said.decode().split(), lines, f"the order of {tag}")
     same(system.run("uca check $(uca-files und)"), b"well-formed\n", "the table of CLDR's root")
+    same(system.run("head -n 1 /usr/bin/uca-files"), b"#!/usr/bin/python3\n", "the Python of uca-files, also where another one is first on the path")
 
 
 def debian(tests):

@@ -45,7 +45,7 @@ LOCALES = "/usr/share/locale/*/LC_MESSAGES/iso_*.mo"
 SCRIPTS = {"latin": "Latn", "cyrillic": "Cyrl", "iqtelif": "Latn"}
 # The order of names in Polish, and tags with another name in CLDR.
 NAMES = ["Anna Zych", "Annabel", "Lutek", "Łapka", "Zych", "Żak"]
-OTHERWISE = {"iw": "he", "in": "id", "sh": "sr-Latn", "tl": "fil", "mo": "ro", "no_NO": "no-NO", "root": "und", "zh_TW": "zh-Hant-TW", "de-u-co-phonebook": "de-u-co-phonebk"}
+OTHERWISE = {"iw": "he", "en-us-posix": "en-US-POSIX", "cnr": "sr-ME", "zh-US": "zh-Hant-US", "in": "id", "sh": "sr-Latn", "tl": "fil", "mo": "ro", "no_NO": "no-NO", "root": "und", "zh_TW": "zh-Hant-TW", "de-u-co-phonebook": "de-u-co-phonebk"}
 TRADITIONAL = ["zh-Hant", "zh-TW", "zh-HK", "zh-MO", "yue"]
 # Errors that docs/LANGUAGES.md has, by their locales.
 DOCUMENTED = {"fr-CA": "fr-CA-u-kb-false is the order without this"}
@@ -250,6 +250,11 @@ def other_user(tries):
     tries.see(status == 0 and out[0].startswith(f"{user}/uca/"), f"and makes others in the folder of its own {said}")
     status, out, said = tries.call("--into", f"{system}/uca", "sk", **streams)
     tries.see(status == 1 and not out and said.endswith("Permission denied: name another folder by --into FOLDER"), f"it cannot write there: {said}")
+    for path in (f"{system}/uca/15.0.0-cldr41", f"{system}/uca"):
+        os.chmod(path, 0o700)
+        status, out, said = tries.call("cs", **streams)
+        tries.see(status == 1 and not out and "Permission denied" in said, f"a folder that it may not read: {said}")
+        os.chmod(path, 0o755)
 
 
 # ---- Editions
@@ -264,10 +269,13 @@ def two_editions(tries):
     shutil.copy(packages.OLD_KEYS, f"{folder}/allkeys.txt")
     newer = tries.call("cs")[1]
     before = contents(os.path.dirname(newer[0]))
-    status, _, said = tries.call("--unicode", folder, "--edition", "13.0.0-cldr41", "cs")
+    kept = f"{tries.room}/home/uca"
+    status, _, said = tries.call("--unicode", folder, "--into", kept, "cs")
     tries.see(status == 0, f"an older edition is made beside the newer one {said}")
     status, out, said = tries.call("cs")
     tries.see(status == 1 and not out and "keeps several editions" in said, said)
+    status, out, said = tries.call("--edition", "13.0.0-cldr41", "--book", "cs")
+    tries.see(status == 1 and not out and "cannot be made of 15.0.0-cldr41" in said, said)
     tries.see(tries.call("--edition", newer[0].split("/")[-3], "cs")[1] == newer and contents(os.path.dirname(newer[0])) == before, "the newer one is as it was")
     rows = [it.split("\t") for it in tries.call("--list")[1] if it.startswith("cs\t")]
     tries.see(len(rows) == 2 and rows[0][2] != rows[1][2] and all(it[2] == tries.run("fingerprint", f"{it[3]}/table.txt", f"{it[3]}/data.txt").decode().strip() for it in rows), "--list has both")
