@@ -62,7 +62,7 @@ pub two_are_found : (s : Settings) (t : ReadText) (key : List ℕ) (found : Bool
     → (found ≡ true) × (low ≡ levels_low (letters_in s.weighting t ∷ accents_in s.weighting t ∷ []))
     × (high ≡ levels_high (letters_in s.weighting t ∷ accents_in s.weighting t ∷ []))
 two_are_found s t key found low high are is finds =
-    finds s.depth s.weighting (text_parts s.depth s.weighting t) (letters_in s.weighting t ∷ accents_in s.weighting t ∷ [])
+    finds.0 s.depth s.weighting (text_parts s.depth s.weighting t) (letters_in s.weighting t ∷ accents_in s.weighting t ∷ [])
     (parts_of_bytes s.depth s.weighting t (subst AreBytes is.is are) is.scalars) (is.is ∙ sym (keys_keep_order.key s.depth s.weighting t))
     (two_begin s.depth s.weighting t) refl (omega arith)
 

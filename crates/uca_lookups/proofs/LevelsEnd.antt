@@ -1,5 +1,5 @@
 -- Where the first levels of a stored key end.
-use Rattle.std.proofs.Common.{◌≡◌, ◌≢◌, ◌⊎◌, inl, inr, ℕ, suc, ◌+◌, ◌*◌, ◌-◌, ◌/◌, ◌%◌, ◌<◌, ◌≤◌, List, [], ◌∷◌, ◌++◌, Bool, true, false, cond, Option, Some, None, option_map, nat_eq, nat_lt, length, get_or, take, drop, drop-cons, refl, ap, sym, subst, ◌∙◌, arith, append_assoc, length-append}
+use Rattle.std.proofs.Common.{◌≡◌, ◌≢◌, ◌⊎◌, inl, inr, ℕ, suc, ◌+◌, ◌*◌, ◌-◌, ◌/◌, ◌%◌, ◌<◌, ◌≤◌, List, [], ◌∷◌, ◌++◌, Bool, true, false, cond, Option, Some, None, option_map, nat_eq, nat_lt, length, get_or, take, drop, drop-cons, take-append-drop, refl, ap, sym, subst, ◌∙◌, arith, append_assoc, length-append}
 use Rattle.std.specs.List.{AllByRecursion}
 use Rattle.std.proofs.lemmas.List.{drop_all, take_at}
 use Rattle.std.proofs.lemmas.Bool.Decides.{nat_tests}
@@ -8,7 +8,7 @@ use Rattle.uca_order.specs.Levels.{level_bytes, levels_bytes}
 use Rattle.uca_compact.specs.Forms.{AreWeights, AreLevels}
 use Rattle.uca_compact.specs.CompactKeys.{stored_key, KeyParts}
 use Rattle.uca_compact.proofs.OnlyCells.{AreBytes, nothing, same_some}
-use Rattle.uca_lookups.specs.Ranges.{LevelsBegin, FindsLevels}
+use Rattle.uca_lookups.specs.Ranges.{LevelsBegin, levels_low, levels_high, FindsLevelsOfKey, HasLevels}
 use Rattle.uca_lookups.specs.inside.LevelsLength.{levels_length}
 use Rattle.uca_lookups.proofs.StoredReads.{two_at}
 use Rattle.uca_lookups.proofs.StoredRanges.{IsTail, after_first, after_tail, first_then, points_part, points_tail, stored_is}
@@ -181,7 +181,7 @@ key_length depth k (a ∷ fs) key weights is begins some =
 
 -- both ends, if the program found where the levels end
 pub finds_some : (count : ℕ) (key : List ℕ) (end : ℕ) (low high : List ℕ) → Some end ≡ levels_length count key → low ≡ take end key
-    → high ≡ take end key ++ (0 ∷ 1 ∷ []) → FindsLevels count key true low high
+    → high ≡ take end key ++ (0 ∷ 1 ∷ []) → FindsLevelsOfKey count key true low high
 finds_some count key end low high found below above depth weighting k firsts parts is begins long some =
     let there = key_length depth k firsts key parts.levels.1 is begins (omega (arith, long)) in
     let both : Some end ≡ Some (length (levels_bytes firsts)) = found ∙ ap (λ (n : ℕ). levels_length n key) (sym long) ∙ there.0 in
@@ -190,7 +190,7 @@ finds_some count key end low high found below above depth weighting k firsts par
     (refl, below ∙ front, above ∙ ap (λ (xs : List ℕ). xs ++ (0 ∷ 1 ∷ [])) front)
 
 -- a key has an end of these levels
-pub finds_none : (count : ℕ) (key : List ℕ) (low high : List ℕ) → None ≡ levels_length count key → FindsLevels count key false low high
+pub finds_none : (count : ℕ) (key : List ℕ) (low high : List ℕ) → None ≡ levels_length count key → FindsLevelsOfKey count key false low high
 finds_none count key low high none depth weighting k firsts parts is begins long some =
     let there = key_length depth k firsts key parts.levels.1 is begins (omega (arith, long)) in
     let both : None ≡ Some (length (levels_bytes firsts)) = none ∙ ap (λ (n : ℕ). levels_length n key) (sym long) ∙ there.0 in
@@ -281,3 +281,17 @@ levels_found count (a ∷ b ∷ bytes) end are some h =
         let weight : 256 * a + b ≢ 0 = grind (arith, nat_tests) in
         let it = mapped (levels_length count bytes) end found in
         weight_begins count end it.0 a b bytes some are.0 are.1.0 weight it.2 (same it.0 it.1)
+
+-- and both ends are those of these levels
+pub has_levels : (count : ℕ) (key : List ℕ) (end : ℕ) (low high : List ℕ) → AreBytes key → Some end ≡ levels_length count key → low ≡ take end key
+    → high ≡ take end key ++ (0 ∷ 1 ∷ []) → 0 < count → HasLevels count key low high
+has_levels count key end low high are ends below above some =
+    let found = levels_found count key end are some (sym ends) in
+    record {
+      firsts = found.0;
+      rest = drop end key;
+      levels = found.1;
+      begins = sym (take-append-drop end key) ∙ ap (λ (xs : List ℕ). xs ++ drop end key) found.2;
+      low_end = below ∙ found.2;
+      high_end = above ∙ ap (λ (xs : List ℕ). xs ++ (0 ∷ 1 ∷ [])) found.2;
+    }

@@ -42,10 +42,24 @@ abbrev pub letters_high : List ℕ → List ℕ
 letters_high letters = level_bytes letters ++ (0xFF ∷ 0xFF ∷ [])
 
 -- What a program finds in a stored key: both ends of the range of its first levels, if it has so many.
-abbrev pub FindsLevels : (count : ℕ) → (key : List ℕ) → (found : Bool) → (low high : List ℕ) → Type 0
-FindsLevels count key found low high = (depth : Depth) (weighting : Weighting) (k : KeyParts) (firsts : List (List ℕ)) → AreParts depth weighting k →
+abbrev pub FindsLevelsOfKey : (count : ℕ) → (key : List ℕ) → (found : Bool) → (low high : List ℕ) → Type 0
+FindsLevelsOfKey count key found low high = (depth : Depth) (weighting : Weighting) (k : KeyParts) (firsts : List (List ℕ)) → AreParts depth weighting k →
     key ≡ stored_key depth k → LevelsBegin firsts k.levels → length firsts ≡ count → 0 < count →
     (found ≡ true) × (low ≡ levels_low firsts) × (high ≡ levels_high firsts)
+
+-- What a program found in any bytes: they begin with so many levels of weights, and both ends are those of the range by
+-- these. Of what follows them nothing is said.
+pub record HasLevels (count : ℕ) (key low high : List ℕ) : Type 0 where
+  pub firsts : List (List ℕ)
+  pub rest : List ℕ
+  pub levels : AreLevels count firsts
+  pub begins : key ≡ levels_bytes firsts ++ rest
+  pub low_end : low ≡ levels_low firsts
+  pub high_end : high ≡ levels_high firsts
+
+-- What a program finds: the range of a key that has so many levels, and no range where the bytes do not begin with so many.
+abbrev pub FindsLevels : (count : ℕ) → (key : List ℕ) → (found : Bool) → (low high : List ℕ) → Type 0
+FindsLevels count key found low high = FindsLevelsOfKey count key found low high × (found ≡ true → 0 < count → HasLevels count key low high)
 
 -- ---- Ranges of compact keys
 

@@ -42,8 +42,8 @@ pub(crate) fn levels_end(key: &[u8], count: usize) -> Option<usize>
 /// Writes both ends of the range of stored keys that have the first levels of this one, over the bytes that were there,
 /// and returns `true`. For example, `count` is 1 for the same letters, and 2 for the same letters and accents.
 ///
-/// The bytes are to be a stored key of at least so many levels, and `count` is at least 1. For others the result is
-/// unspecified: it may be `false`, with nothing written.
+/// The bytes are to be a stored key, and `count` is at least 1. If they do not begin with so many levels of weights, it
+/// returns `false`, and the ends are unspecified.
 ///
 /// # Errors
 ///
