@@ -6,9 +6,9 @@ use Rattle.uca_lookups.proofs.levels.write_same_levels_range.Goals as goal
 
 pub returns-in-None : goal.returns-in-None
 returns-in-None g c = (
-      finds_none c.args.count c.args.key.now c.args.low.now.items c.args.high.now.items c.in-None.ensures.value,
-      λ found some. absurd (false≢true found),
-    )
+  finds_none c.args.count c.args.key.now c.args.low.now.items c.args.high.now.items c.in-None.ensures.value,
+  λ found some. absurd (false≢true found),
+)
 
 pub returns : goal.returns
 returns g c =
