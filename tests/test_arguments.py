@@ -44,7 +44,7 @@ class Help(ProgramTest):
         none = "error: 'uca' requires a subcommand but one was not provided\n"
         none += f"  [subcommands: {', '.join(COMMANDS)}, help]\n\nUsage: uca <COMMAND>\n\n"
         other = "error: unrecognized subcommand 'other'\n\nUsage: uca <COMMAND>\n\n"
-        languages = "\n       The order of a language is a TABLE: docs/LANGUAGES.md"
+        languages = "\n       For <TABLE> <DATA> of Polish, write $(uca-files pl)"
         keys, sort = (f"{name} [OPTIONS] <TABLE> <DATA> < LINES{languages}" for name in ("keys", "sort"))
         compare = f"compare [OPTIONS] <TABLE> <DATA> <LEFT> <RIGHT>{languages}"
         tailor = "tailor <TABLE> <DATA> <RULES> <CERTIFICATE>"

@@ -184,7 +184,7 @@ const NO_DATA: &str = "error: the following required arguments were not provided
     \x20 <DATA>\n\
     \n\
     Usage: uca keys [OPTIONS] <TABLE> <DATA> < LINES\n\
-    \x20      The order of a language is a TABLE: docs/LANGUAGES.md\n\
+    \x20      For <TABLE> <DATA> of Polish, write $(uca-files pl)\n\
     \n\
     For more information, try '--help'.\n";
 

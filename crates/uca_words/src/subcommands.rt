@@ -241,7 +241,7 @@ const KEYS_COMMAND: Subcommand<'static> = Subcommand {
            book too.",
     usage: Some(
         "uca keys [OPTIONS] <TABLE> <DATA> < LINES\n\
-        \x20      The order of a language is a TABLE: docs/LANGUAGES.md",
+        \x20      For <TABLE> <DATA> of Polish, write $(uca-files pl)",
     ),
     example: "Examples:\n\
          \x20 uca keys allkeys.txt data.txt < lines.txt\n\
@@ -261,7 +261,7 @@ const SORT_COMMAND: Subcommand<'static> = Subcommand {
            their values: `file 9` comes before `file 10`.",
     usage: Some(
         "uca sort [OPTIONS] <TABLE> <DATA> < LINES\n\
-        \x20      The order of a language is a TABLE: docs/LANGUAGES.md",
+        \x20      For <TABLE> <DATA> of Polish, write $(uca-files pl)",
     ),
     example: "Examples:\n\
          \x20 uca sort --weighting non-ignorable allkeys.txt data.txt < lines.txt\n\
@@ -278,7 +278,7 @@ const COMPARE_COMMAND: Subcommand<'static> = Subcommand {
            compare by their values.",
     usage: Some(
         "uca compare [OPTIONS] <TABLE> <DATA> <LEFT> <RIGHT>\n\
-        \x20      The order of a language is a TABLE: docs/LANGUAGES.md",
+        \x20      For <TABLE> <DATA> of Polish, write $(uca-files pl)",
     ),
     example: "Example: uca compare allkeys.txt data.txt cote côté",
     arguments: &[WEIGHTING, IDENTICAL, NUMERIC, TABLE, DATA, LEFT, RIGHT],
