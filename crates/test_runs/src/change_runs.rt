@@ -10,8 +10,8 @@ use uca_change_files::write_changes;
 use uca_change_runs::{run_affected_by_changes_in, run_audit_changes, run_changes};
 use uca_editions::FoundChanges;
 use uca_key_runs::{run_compact_lines, run_headed_compact_keys};
-use uca_rekey::{run_compact, run_expand, run_headed_compact, run_headed_expand, run_rekey};
-use uca_run_parts::RunFault;
+use uca_rekey::{run_compact, run_expand, run_rekey};
+use uca_run_parts::{KeySizes, RunFault};
 use uca_weights::Depth::Weights;
 use uca_weights::Weighting::NonIgnorable;
 use uca_weights::{Asked, Numbers, Sink, Source};
@@ -160,49 +160,60 @@ fn audit(tried: &Refusing, out: &mut Sink<Vec<u8>>) -> End {
     }
 }
 
+// How a run over stored keys ends.
+fn ended(run: Result<KeySizes, RunFault>) -> End {
+    match run {
+        Ok(_) => Ok(()),
+        Err(fault) => Err(fault),
+    }
+}
+
 /// Rekeys these lines.
 pub fn rekey<A: Allocator + Copy, I: Read, W: Write>(
     alloc: A,
     input: &mut Source<I>,
     out: &mut Sink<W>,
 ) -> End {
-    run_rekey(alloc, &mut file(5), input, out, NonIgnorable, Weights)
-}
-
-fn compact(tried: &Refusing, out: &mut Sink<Vec<u8>>) -> End {
-    let mut book = Source::new(BOOK.as_bytes());
-    let mut input = Source::new(KEYS.as_bytes());
-    run_compact(tried, &mut book, &mut input, out, NonIgnorable, Weights)
-}
-
-fn expand(tried: &Refusing, out: &mut Sink<Vec<u8>>) -> End {
-    let mut book = Source::new(BOOK.as_bytes());
-    let mut input = Source::new(COMPACT.as_bytes());
-    run_expand(tried, &mut book, &mut input, out, NonIgnorable, Weights)
-}
-
-fn headed_compact(tried: &Refusing, out: &mut Sink<Vec<u8>>) -> End {
-    run_headed_compact(
-        tried,
-        &mut Source::new(BOOK.as_bytes()),
-        &mut Source::new(HEADED.as_bytes()),
+    let mut certificate = file(5);
+    ended(run_rekey(
+        alloc,
+        &mut certificate,
+        input,
         out,
         NonIgnorable,
         Weights,
-        &OF_KEYS,
-    )
+        None,
+    ))
 }
 
-fn headed_expand(tried: &Refusing, out: &mut Sink<Vec<u8>>) -> End {
-    run_headed_expand(
+// Compacts the keys of these lines, after a header if there is a fingerprint.
+fn compact(tried: &Refusing, lines: &str, keys: Option<[u8; 32]>, out: &mut Sink<Vec<u8>>) -> End {
+    let mut book = Source::new(BOOK.as_bytes());
+    let mut input = Source::new(lines.as_bytes());
+    ended(run_compact(
         tried,
-        &mut Source::new(BOOK.as_bytes()),
-        &mut Source::new(HEADED_COMPACT.as_bytes()),
+        &mut book,
+        &mut input,
         out,
         NonIgnorable,
         Weights,
-        &OF_KEYS,
-    )
+        keys,
+    ))
+}
+
+// Expands the compact keys of these lines, after a header if there is a fingerprint.
+fn expand(tried: &Refusing, lines: &str, keys: Option<[u8; 32]>, out: &mut Sink<Vec<u8>>) -> End {
+    let mut book = Source::new(BOOK.as_bytes());
+    let mut input = Source::new(lines.as_bytes());
+    ended(run_expand(
+        tried,
+        &mut book,
+        &mut input,
+        out,
+        NonIgnorable,
+        Weights,
+        keys,
+    ))
 }
 
 fn book(tried: &Refusing, out: &mut Sink<Vec<u8>>) -> End {
@@ -254,10 +265,10 @@ pub fn call(ample: Global, tried: &Refusing, run: Run, out: &mut Sink<Vec<u8>>) 
             )
         }
         Run::Rekey => rekey(tried, &mut Source::new(KEYS.as_bytes()), out),
-        Run::Compact => compact(tried, out),
-        Run::Expand => expand(tried, out),
-        Run::HeadedCompact => headed_compact(tried, out),
-        Run::HeadedExpand => headed_expand(tried, out),
+        Run::Compact => compact(tried, KEYS, None, out),
+        Run::Expand => expand(tried, COMPACT, None, out),
+        Run::HeadedCompact => compact(tried, HEADED, Some(OF_KEYS), out),
+        Run::HeadedExpand => expand(tried, HEADED_COMPACT, Some(OF_KEYS), out),
         Run::CompactLines => compact_lines(ample, tried, out),
         Run::HeadedCompactKeys => headed_compact_keys(ample, tried, out),
         Run::Book => book(tried, out),

@@ -1,6 +1,6 @@
 -- What the whole command does: it reads its arguments, opens the files that they name in their order, runs over them,
 -- and ends with a status.
-use Rattle.std.specs.Prelude.{◌≡◌, ◌≢◌, ◌⊎◌, ◌<◌, ℕ, List, [], ◌∷◌, ◌||◌, Bool, true, false, Option, Some, None, Result, Ok, Err, IfErr, is_err, length, unwrap_or}
+use Rattle.std.specs.Prelude.{◌≡◌, ◌≢◌, ◌⊎◌, ◌<◌, ℕ, List, [], ◌∷◌, ◌||◌, Bool, true, false, Option, Some, None, Result, Ok, Err, IfErr, is_err, length, option_map, unwrap_or}
 use Rattle.std.specs.Borrow.{Bor}
 use Rattle.std.specs.Global.{Global}
 use Rattle.uca_weights.specs.declared.Asked.{Asked}
@@ -37,6 +37,7 @@ use Rattle.uca_words.specs.declared.WordFault.{WordFault}
 use Rattle.uca_run_parts.specs.declared.faults.Role.{Role}
 use Rattle.uca_run_parts.specs.declared.faults.Role.TheVariants as roles
 use Rattle.uca_run_parts.specs.declared.faults.RunFault.{RunFault}
+use Rattle.uca_run_parts.specs.declared.key_sizes.KeySizes.{KeySizes}
 use Rattle.uca_run_parts.specs.declared.faults.RunFault.TheVariants.{CertificateWrite, Memory, Open, SameAs, Words, Write}
 use Rattle.uca_run_parts.specs.CheckRun.{Checks}
 use Rattle.uca_key_runs.specs.CompactRun.{PrintsCompactKeys, PrintsCompactLines}
@@ -49,9 +50,7 @@ use Rattle.uca_key_runs.specs.SortRun.{SortsLines}
 use Rattle.uca_change_runs.specs.ChangesRun.{FindsChanges}
 use Rattle.uca_change_runs.specs.AuditRun.{AuditsChanges}
 use Rattle.uca_change_runs.specs.AffectedRun.{PrintsAffectedByChanges}
-use Rattle.uca_rekey.specs.HeadedRun.{RekeysHeaded}
-use Rattle.uca_rekey.specs.RekeyRun.{RekeysLines}
-use Rattle.uca_rekey.specs.ChangeRun.{CompactsHeaded, CompactsLines, ExpandsHeaded, ExpandsLines}
+use Rattle.uca_rekey.specs.ChangeRun.{CompactsLines, ExpandsLines, RekeysLines}
 use Rattle.uca_fingerprint_runs.specs.FingerprintRun.{PrintsCompactFingerprint, PrintsFingerprint}
 use Rattle.uca_book_runs.specs.BookRun.{PrintsBookImage}
 use Rattle.uca_host.specs.NamedFiles.{FileSystem, NamedFile, file_for, table_and_data, tailor_files, affected_files, audit_files, edition_files, change_files, AreOpened, DoesNotOpen, AreOthers, IsFirstSame, KeepsCertificate}
@@ -333,57 +332,35 @@ DoesAffected files old new words start end result =
     (λ olds news. Ran (done_result {A = Unit {0}})
     (PrintsLines words.changes words.numbers olds news start.input end.input start.out end.out) result) result
 
--- ---- Rekey
+-- ---- Stored keys
 
--- the run of `rekey`: with fingerprints, the input begins with a header that has the old one, and the output with one that has the new
-abbrev pub Rekeys : Weighting → Depth → Option Fingerprints → List SourceState → List SourceState → SourceState → SourceState
-    → SinkState → SinkState → Result (Unit {0}) RunFault → Type 0
-Rekeys weighting depth None olds news input input_new out out_new run =
-    RekeysLines weighting depth olds news input input_new out out_new run
-Rekeys weighting depth (Some given) olds news input input_new out out_new run =
-    RekeysHeaded weighting depth given.from given.to olds news input input_new out out_new run
+-- the fingerprints of the old header and of the new one
+abbrev pub sums_of : Fingerprints → List ℕ × List ℕ
+sums_of given = (given.from, given.to)
 
 -- what `rekey` does: the weighting is the one that is asked for, or else shifted
 abbrev pub DoesRekey : {O F M : Type 0} → FileSystem O F M → O → O → RekeyWords → Streams → Streams
     → Result ℕ RunFault → Type 0
 DoesRekey files old new words start end result =
     OpensAndRuns files old new (file_for roles.Certificate words.certificate.now ∷ []) (end ≡ start)
-    (λ olds news. Ran (done_result {A = Unit {0}})
-    (Rekeys (unwrap_or words.weighting Shifted) words.depth words.fingerprints olds news start.input end.input start.out end.out) result) result
-
--- ---- Compact keys
-
--- the run of `compact`: with the fingerprint of the keys, their header comes first, and that of compact keys is written in its place
-abbrev pub Compacts : Weighting → Depth → Option (List ℕ) → List SourceState → List SourceState → SourceState → SourceState
-    → SinkState → SinkState → Result (Unit {0}) RunFault → Type 0
-Compacts weighting depth None olds news input input_new out out_new run =
-    CompactsLines weighting depth olds news input input_new out out_new run
-Compacts weighting depth (Some keys) olds news input input_new out out_new run =
-    CompactsHeaded weighting depth keys olds news input input_new out out_new run
-
--- the run of `expand`: with that fingerprint, the header of compact keys comes first, and that of keys is written in its place
-abbrev pub Expands : Weighting → Depth → Option (List ℕ) → List SourceState → List SourceState → SourceState → SourceState
-    → SinkState → SinkState → Result (Unit {0}) RunFault → Type 0
-Expands weighting depth None olds news input input_new out out_new run =
-    ExpandsLines weighting depth olds news input input_new out out_new run
-Expands weighting depth (Some keys) olds news input input_new out out_new run =
-    ExpandsHeaded weighting depth keys olds news input input_new out out_new run
+    (λ olds news. Ran (done_result {A = KeySizes})
+    (RekeysLines (unwrap_or words.weighting Shifted) words.depth (option_map sums_of words.fingerprints) olds news start.input end.input start.out end.out) result) result
 
 -- what `compact` does: the weighting is the one that is asked for, or else shifted
 abbrev pub DoesCompact : {O F M : Type 0} → FileSystem O F M → O → O → BookWords → Streams → Streams
     → Result ℕ RunFault → Type 0
 DoesCompact files old new words start end result =
     OpensAndRuns files old new (file_for roles.Book words.book.now ∷ []) (end ≡ start)
-    (λ olds news. Ran (done_result {A = Unit {0}})
-    (Compacts (unwrap_or words.weighting Shifted) words.depth words.keys olds news start.input end.input start.out end.out) result) result
+    (λ olds news. Ran (done_result {A = KeySizes})
+    (CompactsLines (unwrap_or words.weighting Shifted) words.depth words.keys olds news start.input end.input start.out end.out) result) result
 
 -- what `expand` does: the weighting is the one that is asked for, or else shifted
 abbrev pub DoesExpand : {O F M : Type 0} → FileSystem O F M → O → O → BookWords → Streams → Streams
     → Result ℕ RunFault → Type 0
 DoesExpand files old new words start end result =
     OpensAndRuns files old new (file_for roles.Book words.book.now ∷ []) (end ≡ start)
-    (λ olds news. Ran (done_result {A = Unit {0}})
-    (Expands (unwrap_or words.weighting Shifted) words.depth words.keys olds news start.input end.input start.out end.out) result) result
+    (λ olds news. Ran (done_result {A = KeySizes})
+    (ExpandsLines (unwrap_or words.weighting Shifted) words.depth words.keys olds news start.input end.input start.out end.out) result) result
 
 -- what `book` does
 abbrev pub DoesBook : {O F M : Type 0} → FileSystem O F M → O → O → BookImageWords → SinkState → SinkState

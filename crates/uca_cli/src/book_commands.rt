@@ -2,7 +2,7 @@
 //! book for keys of a new edition.
 
 ghost use Rattle.std.specs.Prelude.{◌∷◌, []};
-ghost use Rattle.uca_cli.specs.Command.{Compacts, DoesBook, DoesCompact, DoesExpand, Expands, streams};
+ghost use Rattle.uca_cli.specs.Command.{DoesBook, DoesCompact, DoesExpand, streams};
 ghost use Rattle.uca_host.specs.NamedFiles.{file_system};
 
 use crate::statuses::done;
@@ -11,7 +11,7 @@ use std::io::{Read, Write};
 use uca_book_runs::run_book;
 use uca_host::Opens;
 use uca_host::files::opening::{open_one, open_two};
-use uca_rekey::{run_compact, run_expand, run_headed_compact, run_headed_expand};
+use uca_rekey::{run_compact, run_expand};
 use uca_run_parts::faults::{Role, RunFault};
 use uca_weights::{Sink, Source, Weighting};
 use uca_words::{BookImageWords, BookWords};
@@ -29,27 +29,17 @@ pub(crate) fn compact<O: Opens, I: Read, W: Write>(
     match open_one(opener, Role::Book, words.book) {
         Ok(mut book) => {
             let weighting = words.weighting.unwrap_or(Weighting::Shifted);
-            done(compact_lines(alloc, words, weighting, &mut book, input, out))
+            done(run_compact(
+                alloc,
+                &mut book,
+                input,
+                out,
+                weighting,
+                words.depth,
+                words.keys,
+            ))
         }
         Err(role) => Err(RunFault::Open(role)),
-    }
-}
-
-// The run of `compact`: over lines, or over lines after a header.
-fn compact_lines<B: Read, I: Read, W: Write>(
-    alloc: Global,
-    words: &BookWords,
-    weighting: Weighting,
-    book: &mut Source<B>,
-    input: &mut Source<I>,
-    out: &mut Sink<W>,
-) -> Result<(), RunFault>
-    ensures { Compacts weighting words.now.depth words.now.keys (book.old ∷ []) (book.new ∷ [])
-        input.old input.new out.old out.new result }
-{
-    match &words.keys {
-        None => run_compact(alloc, book, input, out, weighting, words.depth),
-        Some(keys) => run_headed_compact(alloc, book, input, out, weighting, words.depth, keys),
     }
 }
 
@@ -66,27 +56,17 @@ pub(crate) fn expand<O: Opens, I: Read, W: Write>(
     match open_one(opener, Role::Book, words.book) {
         Ok(mut book) => {
             let weighting = words.weighting.unwrap_or(Weighting::Shifted);
-            done(expand_lines(alloc, words, weighting, &mut book, input, out))
+            done(run_expand(
+                alloc,
+                &mut book,
+                input,
+                out,
+                weighting,
+                words.depth,
+                words.keys,
+            ))
         }
         Err(role) => Err(RunFault::Open(role)),
-    }
-}
-
-// The run of `expand`: over lines, or over lines after a header.
-fn expand_lines<B: Read, I: Read, W: Write>(
-    alloc: Global,
-    words: &BookWords,
-    weighting: Weighting,
-    book: &mut Source<B>,
-    input: &mut Source<I>,
-    out: &mut Sink<W>,
-) -> Result<(), RunFault>
-    ensures { Expands weighting words.now.depth words.now.keys (book.old ∷ []) (book.new ∷ [])
-        input.old input.new out.old out.new result }
-{
-    match &words.keys {
-        None => run_expand(alloc, book, input, out, weighting, words.depth),
-        Some(keys) => run_headed_expand(alloc, book, input, out, weighting, words.depth, keys),
     }
 }
 

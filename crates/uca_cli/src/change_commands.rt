@@ -1,7 +1,7 @@
 //! The subcommands that work with changes from a table and its data file to others: `changes`, `audit-changes` and `rekey`.
 
-ghost use Rattle.std.specs.Prelude.{◌∷◌, []};
-ghost use Rattle.uca_cli.specs.Command.{DoesAuditChanges, DoesChanges, DoesRekey, Finds, KeepsAndPrints, KeepsMade, MakesOpened, Rekeys, made_changes, streams};
+ghost use Rattle.std.specs.Prelude.{◌≡◌, ◌∷◌, [], option_map};
+ghost use Rattle.uca_cli.specs.Command.{DoesAuditChanges, DoesChanges, DoesRekey, Finds, KeepsAndPrints, KeepsMade, MakesOpened, made_changes, streams, sums_of};
 ghost use Rattle.uca_host.specs.NamedFiles.{edition_files, file_system};
 
 use crate::printing::print_changes;
@@ -13,10 +13,10 @@ use uca_editions::FoundChanges;
 use uca_host::Opens;
 use uca_host::files::keeping::{find_certificate_of_editions, keep_certificate};
 use uca_host::files::opening::{open_change_files, open_editions, open_one};
-use uca_rekey::{run_headed_rekey, run_rekey};
+use uca_rekey::run_rekey;
 use uca_run_parts::faults::{Role, RunFault};
 use uca_weights::{Sink, Source, Weighting};
-use uca_words::{AuditChangesWords, ChangesWords, EditionNames, RekeyWords};
+use uca_words::{AuditChangesWords, ChangesWords, EditionNames, Fingerprints, RekeyWords};
 
 pub(crate) fn changes<O: Opens, W: Write>(
     alloc: Global,
@@ -136,35 +136,27 @@ pub(crate) fn rekey<O: Opens, I: Read, W: Write>(
     match open_one(opener, Role::Certificate, words.certificate) {
         Ok(mut certificate) => {
             let weighting = words.weighting.unwrap_or(Weighting::Shifted);
-            done(rekey_lines(alloc, words, weighting, &mut certificate, input, out))
+            let sums = sums_of(words.fingerprints);
+            done(run_rekey(
+                alloc,
+                &mut certificate,
+                input,
+                out,
+                weighting,
+                words.depth,
+                sums,
+            ))
         }
         Err(role) => Err(RunFault::Open(role)),
     }
 }
 
-// The run of `rekey`: over lines, or over lines after a header.
-fn rekey_lines<C: Read, I: Read, W: Write>(
-    alloc: Global,
-    words: &RekeyWords,
-    weighting: Weighting,
-    certificate: &mut Source<C>,
-    input: &mut Source<I>,
-    out: &mut Sink<W>,
-) -> Result<(), RunFault>
-    ensures { Rekeys weighting words.now.depth words.now.fingerprints (certificate.old ∷ []) (certificate.new ∷ [])
-        input.old input.new out.old out.new result }
+// The fingerprints of the old header and of the new one, if they are given.
+fn sums_of(given: Option<Fingerprints>) -> Option<([u8; 32], [u8; 32])>
+    ensures { result ≡ option_map sums_of given }
 {
-    match &words.fingerprints {
-        None => run_rekey(alloc, certificate, input, out, weighting, words.depth),
-        Some(given) => run_headed_rekey(
-            alloc,
-            certificate,
-            input,
-            out,
-            weighting,
-            words.depth,
-            &given.from,
-            &given.to,
-        ),
+    match given {
+        Some(given) => Some((given.from, given.to)),
+        None => None,
     }
 }

@@ -27,10 +27,7 @@ pub use uca_key_runs::{
     run_headed_lines_in, run_keyed_lines, run_keyed_lines_in, run_keys, run_keys_in, run_sort,
     run_sort_in, sort_lines, untouched_lines_keep_their_order,
 };
-pub use uca_rekey::{
-    lines_move_with_keys, run_compact, run_expand, run_headed_compact, run_headed_expand,
-    run_headed_rekey, run_rekey,
-};
+pub use uca_rekey::{lines_move_with_keys, run_compact, run_expand, run_rekey};
 pub use uca_run_parts::{
     Affects, FileFault, InputKind, Role, RunFault, StoredKeyKind, print_affected, run_affected,
     run_affected_in, run_check,

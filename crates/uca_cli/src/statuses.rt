@@ -7,11 +7,11 @@ use uca_host::{DONE, REFUSED};
 use uca_run_parts::RunFault;
 
 /// The status of a run that was done.
-pub(crate) fn done(run: Result<(), RunFault>) -> Result<u8, RunFault>
+pub(crate) fn done<T: Copy>(run: Result<T, RunFault>) -> Result<u8, RunFault>
     ensures { result ≡ done_result run }
 {
     match run {
-        Ok(()) => Ok(DONE),
+        Ok(_) => Ok(DONE),
         Err(fault) => Err(fault),
     }
 }

@@ -2,9 +2,8 @@ pub mod LineKeys
 pub mod Places
 pub mod LinesRead
 pub mod Ending
-pub mod Rekeying
 pub mod Headers
 pub mod MovedLines
 pub mod Changing
-pub mod ByBook
+pub mod ByFile
 pub mod WorkedLines

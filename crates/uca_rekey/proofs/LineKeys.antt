@@ -1,27 +1,15 @@
 -- The key of a line, read and written digit by digit.
-use Rattle.std.proofs.Common.{◌≡◌, ℕ, ◌+◌, ◌*◌, ◌-◌, ◌<◌, ◌≤◌, List, [], ◌∷◌, ◌++◌, length, length-drop, take, drop, get_or, set, map, Bool, true, false, cond, nat_eq, ◌&&◌, Option, Some, None, refl, ap, sym, subst, ◌∙◌, append_assoc, append-nil, arith, take-append-drop}
-use Rattle.std.specs.List.{flat_map, list_all, range_with_len}
-use Rattle.std.specs.Option.{option_and_then, option_map}
+use Rattle.std.proofs.Common.{◌≡◌, ℕ, ◌+◌, ◌*◌, ◌-◌, ◌<◌, ◌≤◌, List, [], ◌∷◌, ◌++◌, length, length-drop, take, drop, get_or, set, Bool, true, false, cond, nat_eq, ◌&&◌, Option, Some, None, refl, ap, sym, subst, ◌∙◌, append_assoc, append-nil, arith, take-append-drop}
+use Rattle.std.specs.List.{flat_map, list_all}
+use Rattle.std.specs.Option.{option_map}
 use Rattle.std.proofs.lemmas.List.{drop_all, take_all, take_more_set}
-use Rattle.std.proofs.lemmas.List.FromFn.{get_or-map-range_with_len}
 use Rattle.std.specs.Str.Parse.{digits_value}
 use Rattle.std.proofs.lemmas.Bool.Decides.{nat_tests}
-use Rattle.uca_lines.specs.Numbers.{hex_of, is_hex_digit, upper_digit}
+use Rattle.uca_lines.specs.Numbers.{hex_of, is_hex_digit}
 use Rattle.uca_run_parts.specs.Print.{byte_digits}
 use Rattle.uca_compact.proofs.StoredSteps.{two_at}
-use Rattle.uca_rekey.specs.declared.line.TheConstants.{DIGITS}
-use Rattle.uca_rekey.specs.ChangedLines.{from_tab}
 use Rattle.uca_rekey.specs.inside.LinesInPlace.{ReadsBytes}
-use Rattle.uca_rekey.specs.RekeyedLines.{digits_of, byte_before, bytes_of, key_in, rekeyed_by, with_digits, with_key}
-
--- ---- Digits
-
-digits_are : DIGITS ≡ map upper_digit (range_with_len 0 16)
-digits_are = refl
-
--- the table has the digit of each value
-pub digit_in_table : (value : ℕ) → value < 16 → get_or DIGITS value 0 ≡ upper_digit value
-digit_in_table value h = ap (λ t. get_or t value 0) digits_are ∙ get_or-map-range_with_len upper_digit 0 16 value value 0 h (omega arith)
+use Rattle.uca_rekey.specs.ChangedLines.{digits_of, byte_before, bytes_of, from_tab, key_in, with_digits}
 
 -- ---- The key of a line
 
@@ -153,13 +141,3 @@ pub all_written : (line key : List ℕ) (at i : ℕ) → length key ≤ i → wr
 all_written line key at i end =
     ap (λ rest. written_from line at (flat_map byte_digits rest)) (drop_all i key end)
     ∙ ap (λ l. take at line ++ l) (with_no_digits (drop at line)) ∙ take-append-drop at line
-
--- ---- The line
-
--- the key of a line was moved, and written in its place
-pub key_replaced : (moved : List ℕ → Option (List ℕ)) (line key given new written now : List ℕ) → key_in line ≡ Some key → given ≡ key → moved given ≡ Some new
-    → written ≡ new → now ≡ with_key line written → rekeyed_by moved line ≡ Some now
-key_replaced moved line key given new written now read same done out put =
-    ap (λ k. option_map (with_key line) (option_and_then moved k)) read
-    ∙ ap (option_map (with_key line)) (ap moved (sym same) ∙ done)
-    ∙ ap (λ k. Some (with_key line k)) (sym out) ∙ ap (λ l. Some l) (sym put)

@@ -1,5 +1,5 @@
 -- The lines that were read so far, and the next one.
-use Rattle.std.proofs.Common.{◌≡◌, ℕ, suc, ◌^◌, ◌<◌, Bool, true, false, List, [], ◌∷◌, ◌++◌, length, Option, Some, None, IfSome, Err, refl, ap, sym, subst, subst₂, ◌∙◌, append_assoc, append-nil, arith}
+use Rattle.std.proofs.Common.{◌≡◌, ℕ, suc, ◌^◌, ◌<◌, Bool, true, false, List, [], ◌∷◌, ◌++◌, length, Option, Some, None, IfSome, Err, inl, refl, ap, sym, subst, ◌∙◌, append_assoc, append-nil, arith}
 use Rattle.std.specs.Prelude.{MatchBool, ⊤}
 use Rattle.std.specs.Io.KnownBytes.{Consumes, IsAtEnd, prepend_known}
 use Rattle.std.specs.List.{flat_map, position_or_len}
@@ -12,7 +12,8 @@ use Rattle.uca_run_parts.specs.declared.faults.StoredKeyKind.TheVariants as kind
 use Rattle.uca_run_parts.specs.Input.{is_stored_key_read}
 use Rattle.uca_run_parts.specs.LinesSoFar.{OnKnown}
 use Rattle.uca_run_parts.proofs.LineCuts.{first_line, lines_of-ended, lines_of-last}
-use Rattle.uca_rekey.specs.RekeyRun.{Begins, HasCause, IsLineFault}
+use Rattle.uca_rekey.specs.ChangedLines.{Headers, KeyChange}
+use Rattle.uca_rekey.specs.ChangeRun.{Begins, HasCause, IsChangeCause, IsLineFault}
 use Rattle.uca_rekey.specs.inside.LinesInPlace.{FindsLine, HasRead, HasReadCause, IsAfter, IsNotRead, LinesState, left_of}
 
 -- ---- A line that is read
@@ -117,23 +118,17 @@ not_read (Some bytes) (Some xs) new unread at_end before line kind after more fo
 
 -- ---- The error of a line
 
--- A line has a cause if it is long by itself, or if an allocation fails. None is the reader's.
-pub record AreCauses (Cause : List (List ℕ) → List ℕ → StoredKeyKind → Type 0) : Type 0 where
-  pub long : (before : List (List ℕ)) (line : List ℕ) → 2 ^ 30 < length line → Cause before line kinds.TooLong
-  pub memory : (before : List (List ℕ)) (line : List ℕ) → Cause before line kinds.Memory
-  pub no_read : (before : List (List ℕ)) (line : List ℕ) → Cause before line kinds.Read → ⊥
-
-module _ (Cause : List (List ℕ) → List ℕ → StoredKeyKind → Type 0) (are : AreCauses Cause) where
-  long_line : (before rest : List (List ℕ)) → Begins rest (λ line. 2 ^ 30 < length line) → Begins rest (λ line. Cause before line kinds.TooLong)
+module _ (change : KeyChange) (headers : Option Headers) where
+  long_line : (before rest : List (List ℕ)) → Begins rest (λ line. 2 ^ 30 < length line) → Begins rest (λ line. IsChangeCause change headers before line kinds.TooLong)
   long_line before [] long = absurd long
-  long_line before (line ∷ later) long = are.long before line long
+  long_line before (line ∷ later) long = inl long
 
-  no_memory : (before rest : List (List ℕ)) → Begins rest (λ line. ⊤) → Begins rest (λ line. Cause before line kinds.Memory)
+  no_memory : (before rest : List (List ℕ)) → Begins rest (λ line. ⊤) → Begins rest (λ line. IsChangeCause change headers before line kinds.Memory)
   no_memory before [] some = absurd some
-  no_memory before (line ∷ later) some = are.memory before line
+  no_memory before (line ∷ later) some = tt
 
   unread_cause : (bytes : List ℕ) (left : Option (List ℕ)) (before rest : List (List ℕ)) (kind : StoredKeyKind)
-      → HasReadCause bytes left before rest kind → HasCause Cause bytes left before rest kind
+      → HasReadCause bytes left before rest kind → HasCause change headers bytes left before rest kind
   unread_cause bytes left before rest kinds.TooLong cause = long_line before rest cause
   unread_cause bytes left before rest kinds.Read cause = cause
   unread_cause bytes left before rest kinds.Memory cause = no_memory before rest cause
@@ -145,7 +140,7 @@ module _ (Cause : List (List ℕ) → List ℕ → StoredKeyKind → Type 0) (ar
 
   -- a line that is not read
   pub unread_fault : (start left : Option (List ℕ)) (before : List (List ℕ)) (number : ℕ) (kind : StoredKeyKind) → number ≡ suc (length before)
-      → IfSome start (λ bytes. IsNotRead bytes left before kind) → IfSome start (λ bytes. IsLineFault Cause bytes left before number kind)
+      → IfSome start (λ bytes. IsNotRead bytes left before kind) → IfSome start (λ bytes. IsLineFault change headers bytes left before number kind)
   unread_fault None left before number kind place unread = tt
   unread_fault (Some bytes) left before number kind place unread = record {
     rest = unread.rest;
@@ -154,36 +149,36 @@ module _ (Cause : List (List ℕ) → List ℕ → StoredKeyKind → Type 0) (ar
     cause = unread_cause bytes left before unread.rest kind unread.cause;
   }
 
-  cause_there : (bytes : List ℕ) (left : Option (List ℕ)) (before later : List (List ℕ)) (line : List ℕ) (kind : StoredKeyKind) → Cause before line kind
-      → HasCause Cause bytes left before (line ∷ later) kind
+  cause_there : (bytes : List ℕ) (left : Option (List ℕ)) (before later : List (List ℕ)) (line : List ℕ) (kind : StoredKeyKind) → IsChangeCause change headers before line kind
+      → HasCause change headers bytes left before (line ∷ later) kind
   cause_there bytes left before later line kinds.NoKey cause = cause
   cause_there bytes left before later line kinds.NoImage cause = cause
   cause_there bytes left before later line kinds.OtherKey cause = cause
   cause_there bytes left before later line kinds.NoCompactKey cause = cause
   cause_there bytes left before later line kinds.Header cause = cause
   cause_there bytes left before later line kinds.TooLong cause = cause
-  cause_there bytes left before later line kinds.Read cause = absurd (are.no_read before line cause)
+  cause_there bytes left before later line kinds.Read cause = absurd cause
   cause_there bytes left before later line kinds.Memory cause = cause
 
   -- no cause of a line is the reader's
-  pub cause_of_line : (before : List (List ℕ)) (line : List ℕ) (kind : StoredKeyKind) → Cause before line kind → is_stored_key_read kind ≡ false
+  pub cause_of_line : (before : List (List ℕ)) (line : List ℕ) (kind : StoredKeyKind) → IsChangeCause change headers before line kind → is_stored_key_read kind ≡ false
   cause_of_line before line kinds.NoKey cause = refl
   cause_of_line before line kinds.NoImage cause = refl
   cause_of_line before line kinds.OtherKey cause = refl
   cause_of_line before line kinds.NoCompactKey cause = refl
   cause_of_line before line kinds.Header cause = refl
   cause_of_line before line kinds.TooLong cause = refl
-  cause_of_line before line kinds.Read cause = absurd (are.no_read before line cause)
+  cause_of_line before line kinds.Read cause = absurd cause
   cause_of_line before line kinds.Memory cause = refl
 
   -- the line that was read has a cause
   pub line_fault : (start : Option (List ℕ)) (before : List (List ℕ)) (line : List ℕ) (lines : LinesState) (input : SourceState) (number : ℕ) (kind : StoredKeyKind)
-      → HasRead start (before ++ line ∷ []) lines input → Cause before line kind → number ≡ suc (length before)
-      → IfSome start (λ bytes. IsLineFault Cause bytes input.remaining before number kind)
+      → HasRead start (before ++ line ∷ []) lines input → IsChangeCause change headers before line kind → number ≡ suc (length before)
+      → IfSome start (λ bytes. IsLineFault change headers bytes input.remaining before number kind)
   line_fault start before line lines input number kind read cause place = go start (left_of lines input) read
     where
       go : (s o : Option (List ℕ)) → OnKnown s o (λ bytes left. IsAfter bytes left lines.at_end (before ++ line ∷ []))
-          → IfSome s (λ bytes. IsLineFault Cause bytes input.remaining before number kind)
+          → IfSome s (λ bytes. IsLineFault change headers bytes input.remaining before number kind)
       go None o after = tt
       go (Some bytes) None after = absurd after
       go (Some bytes) (Some xs) after = record {
@@ -192,12 +187,6 @@ module _ (Cause : List (List ℕ) → List ℕ → StoredKeyKind → Type 0) (ar
         place = place;
         cause = cause_there bytes input.remaining before (lines_of xs) line kind cause;
       }
-
--- what was read stays while the line changes
-pub read_stays : (start : Option (List ℕ)) (before : List (List ℕ)) (lines now : LinesState) (input : SourceState) → now.pending ≡ lines.pending
-    → now.at_end ≡ lines.at_end → HasRead start before lines input → HasRead start before now input
-read_stays start before lines now input pending at_end read =
-    subst₂ (λ (p : List ℕ) (e : Bool). HasRead start before (record { line = now.line; pending = p; at_end = e }) input) (sym pending) (sym at_end) read
 
 -- some lines come first
 pub begins_with : (start : Option (List ℕ)) (before : List (List ℕ)) (lines : LinesState) (input : SourceState) → HasRead start before lines input
@@ -229,7 +218,7 @@ of_all None before all = tt
 of_all (Some bytes) before all = ([], all ∙ sym (append-nil before))
 
 -- so are the lines before an error
-pub of_fault : (Cause : List (List ℕ) → List ℕ → StoredKeyKind → Type 0) (start left : Option (List ℕ)) (before : List (List ℕ)) (number : ℕ) (kind : StoredKeyKind)
-    → IfSome start (λ bytes. IsLineFault Cause bytes left before number kind) → IfSome start (λ bytes. (rest : List (List ℕ)) × (lines_of bytes ≡ before ++ rest))
-of_fault Cause None left before number kind fault = tt
-of_fault Cause (Some bytes) left before number kind fault = (fault.rest, fault.lines)
+pub of_fault : (change : KeyChange) (headers : Option Headers) (start left : Option (List ℕ)) (before : List (List ℕ)) (number : ℕ) (kind : StoredKeyKind)
+    → IfSome start (λ bytes. IsLineFault change headers bytes left before number kind) → IfSome start (λ bytes. (rest : List (List ℕ)) × (lines_of bytes ≡ before ++ rest))
+of_fault change headers None left before number kind fault = tt
+of_fault change headers (Some bytes) left before number kind fault = (fault.rest, fault.lines)

@@ -1,9 +1,8 @@
 -- The line of a key that is put through the maps is the line of the new key: its digits, alone and in groups. And the line of a
 -- key becomes that of its compact key.
-use Rattle.std.proofs.Common.{◌≡◌, ℕ, zero, suc, ◌+◌, ◌*◌, ◌/◌, ◌%◌, ◌<◌, ◌≤◌, false, List, [], ◌∷◌, ◌++◌, map, length, Option, Some, None, nat_eq, nat_lt, refl, ap, ap₂, sym, ◌∙◌, append_assoc, append-nil, arith, length-append, chars, subst, ◌↔◌}
+use Rattle.std.proofs.Common.{◌≡◌, ℕ, zero, suc, ◌+◌, ◌*◌, ◌/◌, ◌%◌, ◌<◌, ◌≤◌, true, false, List, [], ◌∷◌, ◌++◌, map, length, Option, Some, None, nat_eq, nat_lt, refl, ap, ap₂, sym, ◌∙◌, append_assoc, append-nil, arith, length-append, chars, subst, ◌↔◌}
 use Rattle.std.specs.Prelude.{◌==◌}
 use Rattle.std.specs.List.{flat_map, join_with_byte}
-use Rattle.std.specs.Option.{option_map, option_and_then}
 use Rattle.std.proofs.lemmas.Bool.{cond_both, ne_eqb}
 use Rattle.std.proofs.lemmas.Grind.{flat_map-append}
 use Rattle.std.proofs.lemmas.List.{append_cancel_right, map-append}
@@ -29,11 +28,10 @@ use Rattle.uca_compact.specs.CompactTexts.{compact_of_bytes}
 use Rattle.uca_compact.specs.StoredParts.{IsCompactOf}
 use Rattle.uca_compact.proofs.CompactTexts.{compact_is}
 use Rattle.uca_tailorings.specs.Images.{Maps}
-use Rattle.uca_tailorings.specs.Moves.{KeyMoves, are_points, level_images, moved_from, moved_key, weight_before}
+use Rattle.uca_tailorings.specs.Moves.{KeyMoves, are_points, level_images, moved_from, weight_before}
 use Rattle.uca_run_parts.specs.Print.{byte_digits, digits_line_of, groups, keyed_line_of, print_line_at, printed_after, printed_groups, spaced_point}
 use Rattle.uca_rekey.specs.Laws.{AreBytes, LinesMoveWithKeys, LinesBecomeCompactLines}
-use Rattle.uca_rekey.specs.RekeyedLines.{byte_before, bytes_of, digits_of, key_in, rekeyed, with_digits, with_key}
-use Rattle.uca_rekey.specs.ChangedLines.{LineBecomes, from_tab, with_new_key}
+use Rattle.uca_rekey.specs.ChangedLines.{LineBecomes, byte_before, bytes_of, compacts, digits_of, from_tab, key_in, moves, with_digits, with_key}
 use Rattle.uca_rekey.proofs.LineKeys.{with_no_digits}
 
 -- ---- The digits of a key
@@ -252,27 +250,31 @@ printed_is depth key points before is =
     append_cancel_right before (printed_groups key ++ printed_after depth points) (10 ∷ [])
     (is ∙ sym (append_assoc (printed_groups key) (printed_after depth points) (10 ∷ [])))
 
-module _ (maps : Maps) (old new : ReadText) (moves : KeyMoves maps old new) where
+module _ (maps : Maps) (old new : ReadText) (move : KeyMoves maps old new) where
   long_key : (depth : Depth) (weighting : Weighting) → length (key_at depth weighting old) ≡ length (key_at depth weighting new)
   long_key depth weighting =
-      sym (length-moved maps depth 1 (level_count weighting) (key_at depth weighting old) (key_at depth weighting new) (moves.mended depth weighting))
+      sym (length-moved maps depth 1 (level_count weighting) (key_at depth weighting old) (key_at depth weighting new) (move.mended depth weighting))
 
   -- the line has the digits of the new key then
-  becomes : (depth : Depth) (weighting : Weighting) (line : List ℕ) → AreBytes (key_at depth weighting old) → digits_of line ≡ flat_map byte_digits (key_at depth weighting old)
-      → rekeyed maps depth weighting line ≡ Some (with_key line (key_at depth weighting new))
-  becomes depth weighting line bytes is =
-      ap (λ k. option_map (with_key line) (option_and_then (moved_key maps depth weighting) k)) (ap bytes_of is ∙ bytes_of-key (key_at depth weighting old) bytes)
-      ∙ ap (option_map (with_key line)) (moves.mended depth weighting)
+  line_moves : (depth : Depth) (weighting : Weighting) (line now : List ℕ) → AreBytes (key_at depth weighting old) → digits_of line ≡ flat_map byte_digits (key_at depth weighting old)
+      → with_key true line (key_at depth weighting new) ≡ now → LineBecomes (moves depth weighting maps) line now
+  line_moves depth weighting line now bytes is put = record {
+    key = key_at depth weighting old;
+    new_key = key_at depth weighting new;
+    has = ap bytes_of is ∙ bytes_of-key (key_at depth weighting old) bytes;
+    becomes = move.mended depth weighting;
+    put = sym put;
+  }
 
   keyed_moves : (depth : Depth) (weighting : Weighting) → AreBytes (key_at depth weighting old) → (line before after : List ℕ)
       → ended before ≡ keyed_line_of (key_at depth weighting old) line → ended after ≡ keyed_line_of (key_at depth weighting new) line
-      → rekeyed maps depth weighting before ≡ Some after
+      → LineBecomes (moves depth weighting maps) before after
   keyed_moves depth weighting bytes line before after is becoming =
       let was = key_at depth weighting old in
       let now = key_at depth weighting new in
       let front = keyed_is was line before is in
-      becomes depth weighting before bytes (ap digits_of front ∙ digits_of-key was (9 ∷ line) ∙ append-nil (flat_map byte_digits was))
-      ∙ ap (λ l. Some l) (ap₂ with_digits front (sym (append-nil (flat_map byte_digits now))) ∙ with_digits-key was now (9 ∷ line) [] (long_key depth weighting)
+      line_moves depth weighting before after bytes (ap digits_of front ∙ digits_of-key was (9 ∷ line) ∙ append-nil (flat_map byte_digits was))
+      (ap₂ with_digits front (sym (append-nil (flat_map byte_digits now))) ∙ with_digits-key was now (9 ∷ line) [] (long_key depth weighting)
       ∙ sym (keyed_is now line after becoming))
 
   same_parts : (depth : Depth) (weighting : Weighting)
@@ -302,18 +304,18 @@ module _ (maps : Maps) (old new : ReadText) (moves : KeyMoves maps old new) wher
 
   printed_moves : (depth : Depth) (weighting : Weighting) → AreBytes (key_at depth weighting old) → (before after : List ℕ)
       → ended before ≡ print_line_at depth (key_bytes weighting old.elements) old.points → ended after ≡ print_line_at depth (key_bytes weighting new.elements) new.points
-      → rekeyed maps depth weighting before ≡ Some after
+      → LineBecomes (moves depth weighting maps) before after
   printed_moves depth weighting bytes before after is becoming =
       let was = key_bytes weighting old.elements in
       let now = key_bytes weighting new.elements in
       let front = printed_is depth was old.points before is in
-      becomes depth weighting before bytes
+      line_moves depth weighting before after bytes
       (ap digits_of front ∙ digits_of-printed depth was old.points ∙ ap (flat_map byte_digits) (all_of-parts depth weighting old))
-      ∙ ap (λ l. Some l) (ap₂ with_digits front (ap (flat_map byte_digits) (sym (all_of-parts depth weighting new)))
+      (ap₂ with_digits front (ap (flat_map byte_digits) (sym (all_of-parts depth weighting new)))
       ∙ with_digits-printed depth was now old.points new.points (long_key Weights weighting) (same_parts depth weighting) ∙ sym (printed_is depth now new.points after becoming))
 
 pub lines_move : LinesMoveWithKeys
-lines_move maps old new moves = record { keyed = keyed_moves maps old new moves; printed = printed_moves maps old new moves }
+lines_move maps old new move = record { keyed = keyed_moves maps old new move; printed = printed_moves maps old new move }
 
 -- ---- Compact keys
 
@@ -334,12 +336,12 @@ from_tab-printed depth (a ∷ key) points = ap from_tab (some_key-spelled depth 
 
 -- the key of a line has one compact key
 one_line : (depth : Depth) (weighting : Weighting) (b : BookContent) (line key compact new : List ℕ) → key_in line ≡ Some key →
-    IsCompactOf depth weighting b key compact → LineBecomes (IsCompactOf depth weighting b) line new ↔ (new ≡ with_new_key line compact)
+    IsCompactOf depth weighting b key compact → LineBecomes (compacts depth weighting b) line new ↔ (new ≡ with_key false line compact)
 one_line depth weighting b line key compact new has is = (
   (λ h. let same : h.key ≡ key = cc (h.has, has) in
       let of_key : IsCompactOf depth weighting b key h.new_key = subst (λ (k : List ℕ). IsCompactOf depth weighting b k h.new_key) same h.becomes in
       let one : h.new_key ≡ compact = cc (of_key, is) in
-      h.put ∙ ap (with_new_key line) one),
+      h.put ∙ ap (with_key false line) one),
   (λ put. record { key = key; new_key = compact; has = has; becomes = is; put = put }),
 )
 
@@ -360,17 +362,17 @@ module _ (asked : Asked) (table : TableContent) (properties : Properties) (b : B
 
   -- what the line becomes, by its digits
   line_becomes : (before after : List ℕ) → digits_of before ≡ flat_map byte_digits key →
-      LineBecomes (IsCompactOf k.settings.depth k.settings.weighting b) before after ↔ (after ≡ with_new_key before compact)
+      LineBecomes (compacts k.settings.depth k.settings.weighting b) before after ↔ (after ≡ with_key false before compact)
   line_becomes before after digits_are =
       one_line k.settings.depth k.settings.weighting b before key compact after (ap bytes_of digits_are ∙ bytes_of-key key are_bytes)
       (compact_is asked table properties is bytes utf8 b)
 
   -- a key before a row
   keyed_compact : (row before after : List ℕ) → ended before ≡ keyed_line_of key row →
-      LineBecomes (IsCompactOf k.settings.depth k.settings.weighting b) before after ↔ (ended after ≡ keyed_line_of compact row)
+      LineBecomes (compacts k.settings.depth k.settings.weighting b) before after ↔ (ended after ≡ keyed_line_of compact row)
   keyed_compact row before after was =
       let front = keyed_is key row before was in
-      let new : with_new_key before compact ≡ flat_map byte_digits compact ++ 9 ∷ row =
+      let new : with_key false before compact ≡ flat_map byte_digits compact ++ 9 ∷ row =
       ap (λ l. flat_map byte_digits compact ++ l) (ap from_tab front ∙ from_tab-key key (9 ∷ row)) in
       let line = line_becomes before after (ap digits_of front ∙ digits_of-key key (9 ∷ row) ∙ append-nil (flat_map byte_digits key)) in (
         (λ h. ap ended (line.0 h ∙ new) ∙ append_assoc (flat_map byte_digits compact) (9 ∷ row) (10 ∷ [])),
@@ -379,12 +381,12 @@ module _ (asked : Asked) (table : TableContent) (properties : Properties) (b : B
 
   -- a key alone, in groups
   printed_compact : (before after : List ℕ) → ended before ≡ print_line_at k.settings.depth (key_bytes k.settings.weighting (read_of k bytes).elements) (read_of k bytes).points →
-      LineBecomes (IsCompactOf k.settings.depth k.settings.weighting b) before after ↔ (ended after ≡ digits_line_of compact)
+      LineBecomes (compacts k.settings.depth k.settings.weighting b) before after ↔ (ended after ≡ digits_line_of compact)
   printed_compact before after was =
       let weights = key_bytes k.settings.weighting (read_of k bytes).elements in
       let points = (read_of k bytes).points in
       let front = printed_is k.settings.depth weights points before was in
-      let new : with_new_key before compact ≡ flat_map byte_digits compact =
+      let new : with_key false before compact ≡ flat_map byte_digits compact =
       ap (λ l. flat_map byte_digits compact ++ l) (ap from_tab front ∙ from_tab-printed k.settings.depth weights points) ∙ append-nil (flat_map byte_digits compact) in
       let line =
       line_becomes before after

@@ -1,15 +1,6 @@
 -- The worked lines follow from the definitions.
-use Rattle.std.proofs.Common.{◌≡◌, ℕ, List, [], ◌∷◌, Some, None, length, codes, refl, ap, arith}
-use Rattle.uca_compact.specs.WorkedKeys.{small_book}
-use Rattle.uca_rekey.specs.ChangedLines.{compacts}
-use Rattle.uca_rekey.specs.WorkedLines.{WorkedLines, three_levels}
-
--- a key of two levels
-few : (other : List ℕ) → ¬ (compacts three_levels small_book (0x1C ∷ 0x47 ∷ 0 ∷ 0 ∷ 0 ∷ 0x20 ∷ []) other)
-few other is =
-    let both : None ≡ Some other = is in
-    let never : ⊥ = cc in
-    never
+use Rattle.std.proofs.Common.{◌≡◌, ℕ, List, [], ◌∷◌, length, codes, refl, ap, arith}
+use Rattle.uca_rekey.specs.WorkedLines.{WorkedLines}
 
 -- the header of compact keys is not that of keys
 other : codes "#uca compact" ≡ codes "#uca keys" → ⊥
@@ -23,6 +14,6 @@ worked = record {
   expanded = record { key = 8 ∷ 2 ∷ []; new_key = 0x1C ∷ 0x47 ∷ 0 ∷ 0 ∷ 0 ∷ 0x20 ∷ 0 ∷ 0 ∷ 0 ∷ 2 ∷ []; has = refl; becomes = refl; put = refl };
   headed = (refl, refl, (record { key = 0x1C ∷ 0x47 ∷ 0 ∷ 0 ∷ 0 ∷ 0x20 ∷ 0 ∷ 0 ∷ 0 ∷ 2 ∷ []; new_key = 8 ∷ 2 ∷ []; has = refl; becomes = refl; put = refl }, tt));
   other_header = λ after. other after.0;
-  few_levels = (refl, λ other bytes is. few other is);
+  few_levels = (refl, refl);
   odd = refl;
 }

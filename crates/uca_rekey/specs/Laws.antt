@@ -1,5 +1,5 @@
 -- How the lines of a text change whose key moves, and how they become lines of compact keys.
-use Rattle.std.specs.Prelude.{◌≡◌, ◌↔◌, ℕ, ◌<◌, List, Some}
+use Rattle.std.specs.Prelude.{◌≡◌, ◌↔◌, ℕ, ◌<◌, List}
 use Rattle.std.specs.List.{AllByRecursion}
 use Rattle.std.specs.Str.{IsUtf8}
 use Rattle.uca_weights.specs.declared.Asked.{Asked}
@@ -12,12 +12,10 @@ use Rattle.uca_order.specs.Depths.{ReadText, key_at}
 use Rattle.uca_order.specs.Keyings.{Keying, keying, key_of_bytes, read_of}
 use Rattle.uca_books.specs.Books.{BookContent}
 use Rattle.uca_compact.specs.CompactTexts.{compact_of_bytes}
-use Rattle.uca_compact.specs.StoredParts.{IsCompactOf}
 use Rattle.uca_tailorings.specs.Images.{Maps}
 use Rattle.uca_tailorings.specs.Moves.{KeyMoves}
 use Rattle.uca_run_parts.specs.Print.{digits_line_of, keyed_line_of, print_line_at}
-use Rattle.uca_rekey.specs.RekeyedLines.{rekeyed}
-use Rattle.uca_rekey.specs.ChangedLines.{LineBecomes}
+use Rattle.uca_rekey.specs.ChangedLines.{LineBecomes, compacts, moves}
 
 -- each is a number below 256
 abbrev pub AreBytes : List ℕ → Type 0
@@ -28,12 +26,12 @@ pub record LinesMove (maps : Maps) (old new : ReadText) : Type 0 where
   -- the key before a line
   pub keyed : (depth : Depth) (weighting : Weighting) → AreBytes (key_at depth weighting old) → (line before after : List ℕ) →
       ended before ≡ keyed_line_of (key_at depth weighting old) line → ended after ≡ keyed_line_of (key_at depth weighting new) line →
-      rekeyed maps depth weighting before ≡ Some after
+      LineBecomes (moves depth weighting maps) before after
   -- the key alone, in groups
   pub printed : (depth : Depth) (weighting : Weighting) → AreBytes (key_at depth weighting old) → (before after : List ℕ) →
       ended before ≡ print_line_at depth (key_bytes weighting old.elements) old.points →
       ended after ≡ print_line_at depth (key_bytes weighting new.elements) new.points →
-      rekeyed maps depth weighting before ≡ Some after
+      LineBecomes (moves depth weighting maps) before after
 
 -- This is so of each text whose key moves by the maps.
 abbrev pub LinesMoveWithKeys : Type 0
@@ -46,11 +44,11 @@ LinesMoveWithKeys = (maps : Maps) (old new : ReadText) → KeyMoves maps old new
 pub record KeyLinesBecomeCompact (b : BookContent) (k : Keying) (bytes : List ℕ) : Type 0 where
   -- the key before a row, such as the text itself
   pub keyed : (row before after : List ℕ) → ended before ≡ keyed_line_of (key_of_bytes k bytes) row →
-      LineBecomes (IsCompactOf k.settings.depth k.settings.weighting b) before after ↔ (ended after ≡ keyed_line_of (compact_of_bytes b k bytes) row)
+      LineBecomes (compacts k.settings.depth k.settings.weighting b) before after ↔ (ended after ≡ keyed_line_of (compact_of_bytes b k bytes) row)
   -- the key alone, in groups
   pub printed : (before after : List ℕ) →
       ended before ≡ print_line_at k.settings.depth (key_bytes k.settings.weighting (read_of k bytes).elements) (read_of k bytes).points →
-      LineBecomes (IsCompactOf k.settings.depth k.settings.weighting b) before after ↔ (ended after ≡ digits_line_of (compact_of_bytes b k bytes))
+      LineBecomes (compacts k.settings.depth k.settings.weighting b) before after ↔ (ended after ≡ digits_line_of (compact_of_bytes b k bytes))
 
 -- This is so of each text of UTF-8 under each table.
 abbrev pub LinesBecomeCompactLines : Type 0

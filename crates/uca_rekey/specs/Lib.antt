@@ -1,6 +1,3 @@
-pub mod RekeyedLines
-pub mod RekeyRun
-pub mod HeadedRun
 pub mod ChangedLines
 pub mod ChangeRun
 pub mod Laws

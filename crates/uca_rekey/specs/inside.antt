@@ -1,3 +1,2 @@
 pub mod LinesInPlace
-pub mod RekeySoFar
 pub mod ChangeSoFar

@@ -6,8 +6,7 @@ ghost use Rattle.uca_run_parts.specs.EachLine.{ended_before_input};
 ghost use Rattle.uca_run_parts.specs.Runs.{ended_by_output, is_input_read};
 ghost use Rattle.uca_rekey.specs.ChangedLines.{Headers};
 ghost use Rattle.uca_rekey.specs.ChangeRun.{RunsChange};
-ghost use Rattle.uca_rekey.specs.inside.ChangeSoFar.{ChangesLine, ChangesRest, HasChanged, IsBegun, header_pair, headers_of};
-ghost use Rattle.uca_rekey.specs.inside.RekeySoFar.{HasReadHeader};
+ghost use Rattle.uca_rekey.specs.inside.ChangeSoFar.{ChangesLine, ChangesRest, HasChanged, HasReadHeader, IsBegun, header_pair, headers_of};
 
 use crate::changed_line::{Keys, change_line};
 use crate::changes::ChangesKeys;
@@ -16,7 +15,7 @@ use crate::written::WrittenLines;
 use std::alloc::{AllocError, Allocator};
 use std::io::{Read, Write};
 use uca_fingerprint::KeyHeader;
-use uca_run_parts::RunFault;
+use uca_run_parts::{KeySizes, RunFault};
 use uca_weights::{Sink, Source};
 
 /// The header that the input has to begin with, and the one that is written in its place.
@@ -34,14 +33,16 @@ pub(crate) struct ChangeRun<A: Allocator, C: ChangesKeys> {
     keys: Keys<A>,
     line: Vec<u8, A>,
     written: WrittenLines,
+    // how many bytes the keys have, and what they become
+    sizes: KeySizes,
 }
 
 impl<A: Allocator, C: ChangesKeys> ChangeRun<A, C> {
     // Reads the next line and makes its new line, and returns whether there was a line.
     fn next<I: Read>(&mut self, input: &mut Source<I>) -> Result<bool, RunFault>
         ensures changes { (headers : Option Headers) (start begun : Option (List ℕ)) (before news : List (List ℕ)) (out : SinkState) →
-            HasChanged (C.becomes self.old.change) headers start begun before news self.old.lines input.old self.old.written out →
-            ChangesLine (C.becomes self.old.change) headers C.none start before self.new.lines input.new self.new.line.items result }
+            HasChanged (C.means self.old.change) headers start begun before news self.old.lines input.old self.old.written out →
+            ChangesLine (C.means self.old.change) headers start before self.new.lines input.new self.new.line.items result }
         ensures change { self.new.change ≡ self.old.change }
         ensures written { self.new.written ≡ self.old.written }
         ensures few { self.old.written.number ≤ 2 ^ 63 }
@@ -54,7 +55,11 @@ impl<A: Allocator, C: ChangesKeys> ChangeRun<A, C> {
             Ok(true) => {
                 let old = self.lines.line();
                 match change_line(&mut self.change, old, &mut self.keys, &mut self.line) {
-                    Ok(()) => Ok(true),
+                    Ok(()) => {
+                        self.sizes
+                            .add(self.keys.key.len(), self.keys.changed.len());
+                        Ok(true)
+                    }
                     Err(kind) => Err(RunFault::StoredKey { line, kind }),
                 }
             }
@@ -68,10 +73,10 @@ impl<A: Allocator, C: ChangesKeys> ChangeRun<A, C> {
         &mut self,
         input: &mut Source<I>,
         out: &mut Sink<W>,
-    ) -> Result<(), RunFault>
+    ) -> Result<KeySizes, RunFault>
         ensures changes { (headers : Option Headers) (start begun : Option (List ℕ)) (before news : List (List ℕ)) →
-            HasChanged (C.becomes self.old.change) headers start begun before news self.old.lines input.old self.old.written out.old →
-            ChangesRest (C.becomes self.old.change) headers C.none start begun input.new self.new.written.buffer out.new result }
+            HasChanged (C.means self.old.change) headers start begun before news self.old.lines input.old self.old.written out.old →
+            ChangesRest (C.means self.old.change) headers start begun input.new self.new.written.buffer out.new result }
         ensures of_lines { ended_before_input result ≡ false }
         ensures input_failed { input.new.failed ≡ (input.old.failed || is_input_read result) }
         ensures out_failed { out.new.failed ≡ (out.old.failed || ended_by_output result) }
@@ -79,7 +84,7 @@ impl<A: Allocator, C: ChangesKeys> ChangeRun<A, C> {
         while self.next(input)? {
             self.written.write(out, &self.line)?;
         }
-        Ok(())
+        Ok(self.sizes)
     }
 
     // Writes a header in place of the one that was read, and then the new lines of all lines after it.
@@ -88,10 +93,10 @@ impl<A: Allocator, C: ChangesKeys> ChangeRun<A, C> {
         input: &mut Source<I>,
         out: &mut Sink<W>,
         header: &[u8],
-    ) -> Result<(), RunFault>
+    ) -> Result<KeySizes, RunFault>
         ensures changes { (old : List ℕ) (start begun : Option (List ℕ)) → length header.now ≤ 128 →
             HasReadHeader old start begun self.old.lines input.old self.old.written out.old →
-            ChangesRest (C.becomes self.old.change) (Some (header_pair old header.now)) C.none start begun input.new self.new.written.buffer out.new result }
+            ChangesRest (C.means self.old.change) (Some (header_pair old header.now)) start begun input.new self.new.written.buffer out.new result }
         ensures of_lines { ended_before_input result ≡ false }
         ensures input_failed { input.new.failed ≡ (input.old.failed || is_input_read result) }
         ensures out_failed { out.new.failed ≡ (out.old.failed || ended_by_output result) }
@@ -108,9 +113,9 @@ impl<A: Allocator, C: ChangesKeys> ChangeRun<A, C> {
         input: &mut Source<I>,
         out: &mut Sink<W>,
         headers: &HeaderLines,
-    ) -> Result<(), RunFault>
+    ) -> Result<KeySizes, RunFault>
         requires { IsBegun self.old.lines self.old.written }
-        ensures changes { RunsChange (C.becomes self.old.change) (Some (header_pair headers.now.from headers.now.to)) C.none input.old input.new out.old out.new result }
+        ensures changes { RunsChange (C.means self.old.change) (Some (header_pair headers.now.from headers.now.to)) input.old input.new out.old out.new result }
         ensures of_lines { ended_before_input result ≡ false }
         ensures input_failed { ended_by_output result ≡ false → input.new.failed ≡ (input.old.failed || is_input_read result) }
         ensures out_failed { out.new.failed ≡ (out.old.failed || ended_by_output result) }
@@ -129,9 +134,9 @@ impl<A: Allocator, C: ChangesKeys> ChangeRun<A, C> {
         &mut self,
         input: &mut Source<I>,
         out: &mut Sink<W>,
-    ) -> Result<(), RunFault>
+    ) -> Result<KeySizes, RunFault>
         requires { IsBegun self.old.lines self.old.written }
-        ensures changes { RunsChange (C.becomes self.old.change) None C.none input.old input.new out.old out.new result }
+        ensures changes { RunsChange (C.means self.old.change) None input.old input.new out.old out.new result }
         ensures of_lines { ended_before_input result ≡ false }
         ensures input_failed { ended_by_output result ≡ false → input.new.failed ≡ (input.old.failed || is_input_read result) }
         ensures out_failed { out.new.failed ≡ (out.old.failed || ended_by_output result) }
@@ -147,9 +152,9 @@ impl<A: Allocator, C: ChangesKeys> ChangeRun<A, C> {
         input: &mut Source<I>,
         out: &mut Sink<W>,
         headers: Option<HeaderLines>,
-    ) -> Result<(), RunFault>
+    ) -> Result<KeySizes, RunFault>
         requires { IsBegun self.old.lines self.old.written }
-        ensures changes { RunsChange (C.becomes self.old.change) (headers_of headers) C.none input.old input.new out.old out.new result }
+        ensures changes { RunsChange (C.means self.old.change) (headers_of headers) input.old input.new out.old out.new result }
         ensures of_lines { ended_before_input result ≡ false }
         ensures input_failed { ended_by_output result ≡ false → input.new.failed ≡ (input.old.failed || is_input_read result) }
         ensures out_failed { out.new.failed ≡ (out.old.failed || ended_by_output result) }
@@ -183,6 +188,7 @@ pub(crate) fn begin<A: Allocator + Copy, C: ChangesKeys>(
             },
             line: Vec::new(alloc),
             written: WrittenLines::new(),
+            sizes: KeySizes::new(),
         }),
         Err(error) => {
             drop(change);

@@ -1,9 +1,10 @@
 //! A line that begins with the digits of a key, and the same line with what that key becomes.
 
-ghost use Rattle.std.specs.Prelude.{◌≡◌, ◌++◌, ◌*◌, ℕ, List, Option, OnOk, IfErr, length};
+ghost use Rattle.std.specs.Prelude.{◌≡◌, ◌++◌, ◌∷◌, ◌*◌, ◌<◌, ◌≤◌, ℕ, List, Option, OnOk, IfErr, length, take, drop, true};
 ghost use Rattle.std.specs.List.{flat_map};
+ghost use Rattle.uca_lines.specs.Numbers.{upper_digit};
 ghost use Rattle.uca_run_parts.specs.Print.{byte_digits};
-ghost use Rattle.uca_rekey.specs.ChangedLines.{Headers, LineBecomes, from_tab, with_new_key};
+ghost use Rattle.uca_rekey.specs.ChangedLines.{Headers, LineBecomes, from_tab, with_digits, with_key};
 ghost use Rattle.uca_rekey.specs.ChangeRun.{IsChangeCause};
 
 use crate::changes::ChangesKeys;
@@ -21,8 +22,8 @@ pub(crate) struct Keys<A: Allocator> {
     pub changed: Vec<u8, A>,
 }
 
-/// Writes the new line of a line over the bytes that were there: the digits of what its key becomes, and all from its
-/// first tab on.
+/// Writes the new line of a line over the bytes that were there: with the digits of what its key becomes, and with all
+/// from its first tab on.
 ///
 /// # Errors
 ///
@@ -35,31 +36,49 @@ pub(crate) fn change_line<A: Allocator, C: ChangesKeys>(
     made: &mut Vec<u8, A>,
 ) -> Result<(), StoredKeyKind>
     ensures same { change.new ≡ change.old }
-    ensures becomes { OnOk result (LineBecomes (C.becomes change.old) line.now made.new.items) }
+    ensures becomes { OnOk result (LineBecomes (C.means change.old) line.now made.new.items) }
     ensures cause { (headers : Option Headers) (before : List (List ℕ)) →
-        IfErr result (IsChangeCause (C.becomes change.old) headers C.none before line.now) }
+        IfErr result (IsChangeCause (C.means change.old) headers before line.now) }
 {
     let rest = read_key(line, &mut keys.key)?;
     match change.change(&keys.key, &mut keys.changed) {
-        Ok(true) => put_line(made, &keys.changed, rest),
-        Ok(false) => Err(C::none()),
+        Ok(true) => put_line(change.keeps_spaces(), made, &keys.changed, line, rest),
+        Ok(false) => Err(change.none()),
         Err(_) => Err(StoredKeyKind::Memory),
     }
 }
 
-// Writes the line of a key over the bytes that were there: its digits, and all of a line from its first tab on.
+// Writes a line with this key in place of its own over the bytes that were there. The rest is what follows its key.
 fn put_line<A: Allocator>(
+    keeps_spaces: bool,
     made: &mut Vec<u8, A>,
     key: &[u8],
     line: &[u8],
+    rest: &[u8],
 ) -> Result<(), StoredKeyKind>
-    ensures put { OnOk result (made.new.items ≡ with_new_key line.now key.now) }
+    requires { from_tab line.now ≡ from_tab rest.now }
+    ensures put { OnOk result (made.new.items ≡ with_key keeps_spaces line.now key.now) }
     ensures memory { IfErr result (λ kind. kind ≡ StoredKeyKind.Memory) }
 {
-    match put_bytes(made, key, after_key(line)) {
+    let put = if keeps_spaces {
+        put_spaced(made, key, line)
+    } else {
+        put_bytes(made, key, after_key(rest))
+    };
+    match put {
         Ok(()) => Ok(()),
         Err(_) => Err(StoredKeyKind::Memory),
     }
+}
+
+// Writes a line over the bytes that were there, and then the digits of a key in place of those of its own.
+fn put_spaced<A: Allocator>(made: &mut Vec<u8, A>, key: &[u8], line: &[u8]) -> Result<(), AllocError>
+    ensures { OnOk result (made.new.items ≡ with_key true line.now key.now) }
+{
+    made.clear();
+    made.extend_from_slice(line)?;
+    write_key(made.as_mut_slice(), key);
+    Ok(())
 }
 
 // Writes the digits of a key and then other bytes over the bytes that were there.
@@ -94,4 +113,36 @@ fn after_key(line: &[u8]) -> &[u8]
         rest = later;
     }
     rest
+}
+
+// Writes the digits of a key in place of those of a line's key.
+fn write_key(line: &mut [u8], key: &[u8])
+    ensures { line.new ≡ with_key true line.old key.now }
+{
+    let mut at = 0;
+    for byte in key {
+        at = write_digit(line, at, *byte / 16);
+        at = write_digit(line, at, *byte % 16);
+    }
+}
+
+// Writes the next digit of a line's key, from a position on, and returns the position after it. At the end of the key's field nothing is
+// written.
+#[inline]
+fn write_digit(line: &mut [u8], at: usize, value: u8) -> usize
+    requires within { at ≤ length line.old }
+    requires small { value < 16 }
+    ensures within { result ≤ length line.new }
+    ensures written { (digits : List ℕ) → take at line.old ++ with_digits (drop at line.old) (upper_digit value ∷ digits)
+        ≡ take result line.new ++ with_digits (drop result line.new) digits }
+{
+    let mut at = at;
+    while at < line.len() && line[at] == b' ' {
+        at += 1;
+    }
+    if at == line.len() || line[at] == b'\t' {
+        return at;
+    }
+    line[at] = hexadecimal_digit(value);
+    at + 1
 }

@@ -1,16 +1,13 @@
-//! The run that puts the stored keys of lines through the maps of a certificate (`run_rekey`), and the same for lines
-//! after a header (`run_headed_rekey`). Two runs more put compact keys in place of the stored keys of lines
-//! (`run_compact`), and stored keys in place of compact ones (`run_expand`). These have a form for lines after a header too
-//! (`run_headed_compact`, `run_headed_expand`).
+//! The runs over stored keys, which put other keys in their place: `run_rekey` puts them through the maps of a certificate,
+//! `run_compact` makes compact keys of them by a book, and `run_expand` makes keys of these again. Each may have a header before
+//! its lines.
 //!
-//! None reads a table. `run_rekey` finds the lines in the buffer that they were read into, and puts each key through
-//! the maps in place:
+//! None reads a table. All three are one run, over whatever implements `ChangesKeys`. It makes each new line in a buffer of
+//! its own:
 //!
 //! ```text
-//! input bytes ─> buffer ─> line ─> digits before the tab ─> key ─> KeyMover ─> new digits in place of the old ─> OutputBuffer ─> Sink
+//! input bytes ─> buffer ─> line ─> digits before the tab ─> key ─> ChangesKeys ─> new key ─> new line ─> OutputBuffer ─> Sink
 //! ```
-//!
-//! A compact key has another length. So `run_compact` and `run_expand` make each new line in a buffer of its own.
 #![tactic(auto)]
 
 pub mod change;
@@ -20,9 +17,7 @@ mod changes;
 pub mod laws;
 mod line;
 mod lines;
-pub mod rekey;
 mod written;
 
-pub use change::{run_compact, run_expand, run_headed_compact, run_headed_expand};
+pub use change::{run_compact, run_expand, run_rekey};
 pub use laws::{lines_move_with_keys, worked_lines};
-pub use rekey::{run_headed_rekey, run_rekey};

@@ -1,41 +1,12 @@
-//! A line that begins with the digits of a key, with other digits in their place.
+//! The key of a line that begins with its digits.
 
-ghost use Rattle.std.specs.Prelude.{◌≡◌, ℕ, List, Option, [], ◌∷◌, ◌++◌, ◌*◌, Some, OnOk, IfOk, IfErr, IfSome, MatchOption, ◌≤◌, ◌<◌, length, take, drop};
-ghost use Rattle.std.specs.List.{flat_map};
-ghost use Rattle.uca_lines.specs.Numbers.{upper_digit};
-ghost use Rattle.uca_run_parts.specs.Print.{byte_digits};
-ghost use Rattle.uca_rekey.specs.RekeyedLines.{digits_of, key_in, rekeyed_by, with_digits, with_key};
-ghost use Rattle.uca_rekey.specs.ChangedLines.{from_tab};
-ghost use Rattle.uca_rekey.specs.RekeyRun.{IsLineCause};
+ghost use Rattle.std.specs.Prelude.{◌≡◌, [], ◌∷◌, ◌*◌, Some, OnOk, IfOk, IfErr, IfSome, MatchOption, ◌≤◌, ◌<◌, length, take, drop};
+ghost use Rattle.uca_rekey.specs.ChangedLines.{digits_of, from_tab, key_in};
 ghost use Rattle.uca_rekey.specs.inside.LinesInPlace.{IsKeyCause, IsNextByte, ReadsBytes};
-ghost use Rattle.uca_rekey.specs.inside.RekeySoFar.{moved_by};
 
 use std::alloc::{AllocError, Allocator};
-use uca_images::KeyMover;
 use uca_lines::fields::hexadecimal_byte;
 use uca_run_parts::StoredKeyKind;
-
-/// Puts the key of a line through the maps, in place. The bytes of the key need room, which is used again.
-///
-/// # Errors
-///
-/// `NoKey` if the line begins with no key, and `NoImage` if there is no new key for it. `Memory` if an allocation failed. The line is
-/// then as it was.
-pub(crate) fn rekey_line<M: Allocator, A: Allocator>(
-    mover: &KeyMover<M>,
-    line: &mut [u8],
-    key: &mut Vec<u8, A>,
-) -> Result<(), StoredKeyKind>
-    ensures rekeyed { OnOk result (rekeyed_by (moved_by mover.now) line.old ≡ Some line.new) }
-    ensures cause { (before : List (List ℕ)) → IfErr result (IsLineCause (moved_by mover.now) before line.old) }
-{
-    read_key(line, key)?;
-    if !mover.move_key(key.as_mut_slice()) {
-        return Err(StoredKeyKind::NoImage);
-    }
-    write_key(line, key);
-    Ok(())
-}
 
 /// How many bytes of a key are read at a time.
 const ROOM: usize = 128;
@@ -169,48 +140,3 @@ fn next_digit(text: &[u8]) -> Option<(u8, &[u8])>
     }
     None
 }
-
-// Writes the digits of a key in place of those of a line's key.
-fn write_key(line: &mut [u8], key: &[u8])
-    ensures { line.new ≡ with_key line.old key.now }
-{
-    let mut at = 0;
-    for byte in key {
-        at = write_digit(line, at, *byte / 16);
-        at = write_digit(line, at, *byte % 16);
-    }
-}
-
-// Writes the next digit of a line's key, from a position on, and returns the position after it. At the end of the key's field nothing is
-// written.
-#[inline]
-fn write_digit(line: &mut [u8], at: usize, value: u8) -> usize
-    requires within { at ≤ length line.old }
-    requires small { value < 16 }
-    ensures within { result ≤ length line.new }
-    ensures written { (digits : List ℕ) → take at line.old ++ with_digits (drop at line.old) (upper_digit value ∷ digits)
-        ≡ take result line.new ++ with_digits (drop result line.new) digits }
-{
-    let mut at = at;
-    while at < line.len() && line[at] == b' ' {
-        at += 1;
-    }
-    if at == line.len() || line[at] == b'\t' {
-        return at;
-    }
-    line[at] = digit(value);
-    at + 1
-}
-
-// The digit of a value.
-#[inline]
-fn digit(value: u8) -> u8
-    requires { value < 16 }
-    ensures { result ≡ upper_digit value }
-{
-    DIGITS[value as usize]
-}
-
-static DIGITS: [u8; 16] = [
-    b'0', b'1', b'2', b'3', b'4', b'5', b'6', b'7', b'8', b'9', b'A', b'B', b'C', b'D', b'E', b'F',
-];

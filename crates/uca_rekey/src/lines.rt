@@ -1,21 +1,17 @@
 //! The lines of an input, each in the buffer that it was read into.
 
-ghost use Rattle.std.specs.Prelude.{◌≡◌, ℕ, ◌+◌, ◌-◌, ◌^◌, ◌<◌, ◌≤◌, ◌++◌, ◌||◌, [], Some, List, Option, OnOk, OnErr, IfErr, IfOk, MatchBool, length, take, drop, vec_len, true, false};
+ghost use Rattle.std.specs.Prelude.{◌≡◌, ℕ, ◌+◌, ◌-◌, ◌^◌, ◌<◌, ◌≤◌, ◌++◌, ◌||◌, [], List, Option, OnErr, IfErr, IfOk, MatchBool, length, take, drop, vec_len, true, false};
 ghost use Rattle.std.specs.Bool.{OnTrue, OnFalse};
 ghost use Rattle.std.specs.List.{slice_range};
 ghost use Rattle.std.specs.Io.KnownBytes.{Keeps, IsAtEnd};
 ghost use Rattle.uca_lines.specs.Lines.{is_lf, Lacks};
 ghost use Rattle.uca_rekey.specs.inside.LinesInPlace.{EndsAs, FindsLine, HasRead, IsFillFault, IsFirstLine, IsLast, ReadsLine, is_read, left_of};
-ghost use Rattle.uca_rekey.specs.RekeyedLines.{rekeyed_by};
-ghost use Rattle.uca_rekey.specs.RekeyRun.{IsLineCause};
-ghost use Rattle.uca_rekey.specs.inside.RekeySoFar.{ReadsHeader, moved_by};
+ghost use Rattle.uca_rekey.specs.inside.ChangeSoFar.{ReadsHeader};
 
-use crate::line::rekey_line;
 use memchr::memchr;
 use std::alloc::{AllocError, Allocator};
 use std::io::Read;
 use std::marker::Model;
-use uca_images::KeyMover;
 use uca_lines::NextLine;
 use uca_run_parts::StoredKeyKind;
 use uca_weights::Source;
@@ -86,24 +82,6 @@ impl<A: Allocator> KeyLines<A> {
         ensures within { length result.now ≤ LONGEST_LINE }
     {
         &self.buffer[self.start..self.stop]
-    }
-
-    /// Puts the key of the line through the maps, in place. The bytes of the key need room, which is used again.
-    ///
-    /// # Errors
-    ///
-    /// `NoKey` if the line begins with no key, and `NoImage` if there is no new key for it. `Memory` if an allocation failed.
-    pub fn rekey<M: Allocator, B: Allocator>(
-        &mut self,
-        mover: &KeyMover<M>,
-        key: &mut Vec<u8, B>,
-    ) -> Result<(), StoredKeyKind>
-        ensures rekeyed { OnOk result (rekeyed_by (moved_by mover.now) self.old.line ≡ Some self.new.line) }
-        ensures cause { (before : List (List ℕ)) → IfErr result (IsLineCause (moved_by mover.now) before self.old.line) }
-        ensures pending { self.new.pending ≡ self.old.pending }
-        ensures at_end { self.new.at_end ≡ self.old.at_end }
-    {
-        rekey_line(mover, &mut self.buffer[self.start..self.stop], key)
     }
 
     /// Finds the next line, and returns whether there was one. After a line that no LF ends nothing more is read.

@@ -3,13 +3,13 @@
 ghost use Rattle.std.specs.Prelude.{◌≡◌, ◌^◌, ◌≤◌, ◌||◌, [], ℕ, Bool, false, length};
 ghost use Rattle.uca_run_parts.specs.EachLine.{ended_before_input};
 ghost use Rattle.uca_run_parts.specs.Runs.{ended_by_output, is_input_read};
-ghost use Rattle.uca_rekey.specs.inside.RekeySoFar.{EndsIf, WritesLine};
+ghost use Rattle.uca_rekey.specs.inside.ChangeSoFar.{EndsIf, WritesLine};
 
 use std::io::Write;
 use std::marker::Model;
 use uca_lines::OutputBuffer;
 use uca_run_parts::output::write_line;
-use uca_run_parts::{RunFault, StoredKeyKind};
+use uca_run_parts::{KeySizes, RunFault, StoredKeyKind};
 use uca_weights::Sink;
 
 /// How many bytes all lines may have, each with its LF.
@@ -27,7 +27,7 @@ pub(crate) struct WrittenLines {
 impl Model for WrittenLines {
     ghost use Rattle.std.specs.Prelude.{◌≡◌, ◌^◌, ◌≤◌};
     ghost use Rattle.uca_lines.specs.Buffered.{count_of};
-    ghost use Rattle.uca_rekey.specs.inside.RekeySoFar.{WrittenState};
+    ghost use Rattle.uca_rekey.specs.inside.ChangeSoFar.{WrittenState};
 
     ghost Value = { WrittenState };
 
@@ -99,8 +99,8 @@ impl WrittenLines {
     pub fn end<W: Write>(
         &mut self,
         out: &mut Sink<W>,
-        end: Result<(), RunFault>,
-    ) -> Result<(), RunFault>
+        end: Result<KeySizes, RunFault>,
+    ) -> Result<KeySizes, RunFault>
         ensures ends { EndsIf (ended_by_output end) self.old.buffer out.old out.new end result }
         ensures of_lines { ended_before_input end ≡ false → ended_before_input result ≡ false }
         ensures not_read { ended_by_output result ≡ false → is_input_read result ≡ is_input_read end }
@@ -116,7 +116,7 @@ impl WrittenLines {
 }
 
 // Whether the writer has failed.
-fn is_write_fault(end: &Result<(), RunFault>) -> bool
+fn is_write_fault(end: &Result<KeySizes, RunFault>) -> bool
     ensures { result ≡ ended_by_output end.now }
 {
     match end {

@@ -13,13 +13,13 @@ use Rattle.uca_order.specs.Levels.{lexicographic}
 use Rattle.uca_order.specs.Depths.{ReadText, key_at, levels_at, read_points, written}
 use Rattle.uca_order.specs.StoredKeys.{stored_level}
 use Rattle.uca_order.proofs.DepthOrder.{depth_level, depth_order}
-use Rattle.uca_tailorings.specs.Moves.{KeyMoves, moved_key}
+use Rattle.uca_tailorings.specs.Moves.{KeyMoves}
 use Rattle.uca_tailorings.proofs.Moves.{kept_is_new}
 use Rattle.uca_run_parts.specs.Files.{TableAndData}
 use Rattle.uca_run_parts.specs.Input.{line_text}
 use Rattle.uca_run_parts.specs.Print.{keyed_line_of}
 use Rattle.uca_rekey.specs.Laws.{AreBytes, LinesMove}
-use Rattle.uca_rekey.specs.RekeyedLines.{rekeyed}
+use Rattle.uca_rekey.specs.ChangedLines.{LineBecomes}
 use Rattle.uca_rekey.proofs.MovedLines.{lines_move}
 use Rattle.uca_elements.specs.Collations.{collation_under}
 use Rattle.uca_elements.proofs.Collations.{elements_fit}
@@ -27,8 +27,8 @@ use Rattle.uca_order.specs.Keyings.{Keying, keying}
 use Rattle.uca_order.proofs.Levels.{key_is_bytes}
 use Rattle.uca_key_runs.specs.Keys.{keyed_line, printed_key}
 use Rattle.uca_key_runs.proofs.NormalLines.{line_scalars, normal_line}
-use Rattle.uca_upgrades.specs.Upgrades.{Upgrade, AreUnaffectedLines, IsRekeyed, IsStoredLineKey, IsUnaffectedLine, KeepsOrder, new_key, new_keying, new_weighting, old_key, old_keying, stored_weighting}
-use Rattle.uca_upgrades.proofs.Outputs.{keyed_body, keyed_body_lacks, keyed_is, lines_lack, output_rekeyed, printed_body, printed_body_lacks, printed_is}
+use Rattle.uca_upgrades.specs.Upgrades.{Upgrade, AreUnaffectedLines, IsRekeyed, IsStoredLineKey, IsUnaffectedLine, KeepsOrder, new_key, new_keying, new_weighting, old_key, old_keying, rekeying, stored_weighting}
+use Rattle.uca_upgrades.proofs.Outputs.{keyed_body, keyed_body_lacks, keyed_is, lines_lack, output_becomes, printed_body, printed_body_lacks, printed_is}
 
 -- a line as it is read under some files
 abbrev pub read_line : Numbers → TableAndData → List ℕ → ReadText
@@ -81,13 +81,13 @@ module _ (upgrade : Upgrade) (is : IsTable upgrade.old.table) (moves : Moves upg
 
   -- The line of output of an unaffected line, with its key alone or before a row, and how it changes.
   printed_line : (line before after : List ℕ) → IsUnaffectedLine asked.numbers upgrade line → ended before ≡ printed_key (old_keying upgrade asked) line →
-      ended after ≡ printed_key (new_keying upgrade asked) line → rekeyed upgrade.maps asked.depth weighting before ≡ Some after
+      ended after ≡ printed_key (new_keying upgrade asked) line → LineBecomes (rekeying upgrade asked) before after
   printed_line line before after unaffected was is_now =
       (lines line unaffected).printed asked.depth weighting (old_bytes line unaffected) before after was
       (is_now ∙ ap (λ w. printed_key (keying_under upgrade.new asked w) line) (keeps asked.weighting))
 
   keyed_row : (line row before after : List ℕ) → IsUnaffectedLine asked.numbers upgrade line → ended before ≡ keyed_line_of (old_key upgrade asked line) row →
-      ended after ≡ keyed_line_of (new_key upgrade asked line) row → rekeyed upgrade.maps asked.depth weighting before ≡ Some after
+      ended after ≡ keyed_line_of (new_key upgrade asked line) row → LineBecomes (rekeying upgrade asked) before after
   keyed_row line row before after unaffected was is_now =
       (lines line unaffected).keyed asked.depth weighting (old_bytes line unaffected) row before after was
       (is_now ∙ ap (λ w. keyed_line_of (key_at asked.depth w (read_line asked.numbers upgrade.new line)) row) (keeps asked.weighting))
@@ -99,10 +99,10 @@ module _ (upgrade : Upgrade) (is : IsTable upgrade.old.table) (moves : Moves upg
   printed input unaffected =
       let old = old_keying upgrade asked in
       let new = new_keying upgrade asked in
-      output_rekeyed (moved_key upgrade.maps asked.depth weighting) (printed_key old) (printed_body old) (printed_key new) (printed_body new)
+      output_becomes (rekeying upgrade asked) (printed_key old) (printed_body old) (printed_key new) (printed_body new)
       (printed_is old) (printed_is new) (lines_of input)
       (each_any (λ line. Lacks is_lf (printed_body old line)) (printed_body_lacks old) (lines_of input))
-      (each_weaker (IsUnaffectedLine asked.numbers upgrade) (λ line. rekeyed upgrade.maps asked.depth weighting (printed_body old line) ≡ Some (printed_body new line))
+      (each_weaker (IsUnaffectedLine asked.numbers upgrade) (λ line. LineBecomes (rekeying upgrade asked) (printed_body old line) (printed_body new line))
       (λ line one. printed_line line (printed_body old line) (printed_body new line) one (sym (printed_is old line)) (sym (printed_is new line)))
       (lines_of input) unaffected)
 
@@ -112,10 +112,10 @@ module _ (upgrade : Upgrade) (is : IsTable upgrade.old.table) (moves : Moves upg
   keyed input unaffected =
       let old = old_keying upgrade asked in
       let new = new_keying upgrade asked in
-      output_rekeyed (moved_key upgrade.maps asked.depth weighting) (keyed_line old) (keyed_body old) (keyed_line new) (keyed_body new)
+      output_becomes (rekeying upgrade asked) (keyed_line old) (keyed_body old) (keyed_line new) (keyed_body new)
       (keyed_is old) (keyed_is new) (lines_of input)
       (each_weaker (Lacks is_lf) (λ line. Lacks is_lf (keyed_body old line)) (keyed_body_lacks old) (lines_of input) (lines_lack input))
-      (each_weaker (IsUnaffectedLine asked.numbers upgrade) (λ line. rekeyed upgrade.maps asked.depth weighting (keyed_body old line) ≡ Some (keyed_body new line))
+      (each_weaker (IsUnaffectedLine asked.numbers upgrade) (λ line. LineBecomes (rekeying upgrade asked) (keyed_body old line) (keyed_body new line))
       (λ line one. keyed_row line line (keyed_body old line) (keyed_body new line) one (sym (keyed_is old line)) (sym (keyed_is new line)))
       (lines_of input) unaffected)
 

@@ -1,5 +1,5 @@
--- The output of a run of keys, cut into its lines and with their keys put through maps.
-use Rattle.std.proofs.Common.{◌≡◌, ℕ, ◌+◌, ◌/◌, ◌%◌, ◌≤◌, false, List, [], ◌∷◌, ◌++◌, map, Option, Some, chars, nat_lt, refl, sym, ap, ap₂, ◌∙◌, append_assoc, arith}
+-- The output of a run of keys, cut into its lines and with other keys in place of theirs.
+use Rattle.std.proofs.Common.{◌≡◌, ℕ, ◌+◌, ◌/◌, ◌%◌, ◌≤◌, false, List, [], ◌∷◌, ◌++◌, map, chars, nat_lt, refl, subst, sym, ap, ap₂, ◌∙◌, append_assoc, arith}
 use Rattle.std.specs.List.{AllByRecursion, flat_map, join_with_byte, onto_first}
 use Rattle.std.proofs.lemmas.Bool.{cond_both, ne_eqb}
 use Rattle.uca_weights.specs.declared.Depth.{Depth}
@@ -11,8 +11,7 @@ use Rattle.uca_order.specs.Levels.{key_bytes}
 use Rattle.uca_order.specs.Depths.{point_bytes, read_points}
 use Rattle.uca_run_parts.specs.Print.{byte_digits, groups, printed_after, printed_groups, spaced_point}
 use Rattle.uca_run_parts.proofs.LineCuts.{lines_of-ended}
-use Rattle.uca_rekey.specs.RekeyRun.{AreRekeyed}
-use Rattle.uca_rekey.specs.RekeyedLines.{rekeyed_by}
+use Rattle.uca_rekey.specs.ChangedLines.{KeyChange, LineBecomes, LinesBecome}
 use Rattle.uca_order.specs.Keyings.{Keying, key_of_bytes}
 use Rattle.uca_key_runs.specs.Keys.{keyed_line, printed_key}
 
@@ -81,19 +80,19 @@ cut_again body (line ∷ lines) all =
     ∙ lines_of-ended (body line) (flat_map ended (map body lines)) all.0
     ∙ ap (λ ls. body line ∷ ls) (cut_again body lines all.1)
 
-each_rekeyed : (moved : List ℕ → Option (List ℕ)) (old new : List ℕ → List ℕ) (lines : List (List ℕ)) →
-    AllByRecursion (λ line. rekeyed_by moved (old line) ≡ Some (new line)) lines → AreRekeyed moved (map old lines) (map new lines)
-each_rekeyed moved old new [] all = refl
-each_rekeyed moved old new (line ∷ lines) all = ap₂ (λ l ls. l ∷ ls) all.0 (each_rekeyed moved old new lines all.1)
+each_becomes : (change : KeyChange) (old new : List ℕ → List ℕ) (lines : List (List ℕ)) →
+    AllByRecursion (λ line. LineBecomes change (old line) (new line)) lines → LinesBecome change (map old lines) (map new lines)
+each_becomes change old new [] all = tt
+each_becomes change old new (line ∷ lines) all = (all.0, each_becomes change old new lines all.1)
 
 -- where each line becomes its new line, so does the output
-pub output_rekeyed : (moved : List ℕ → Option (List ℕ)) (old_bytes old new_bytes new : List ℕ → List ℕ) → Prints old_bytes old → Prints new_bytes new →
-    (lines : List (List ℕ)) → AllByRecursion (λ line. Lacks is_lf (old line)) lines → AllByRecursion (λ line. rekeyed_by moved (old line) ≡ Some (new line)) lines →
-    (rekeyed : List (List ℕ)) × AreRekeyed moved (lines_of (flat_map old_bytes lines)) rekeyed × (flat_map new_bytes lines ≡ flat_map ended rekeyed)
-output_rekeyed moved old_bytes old new_bytes new old_prints new_prints lines lack each = (
+pub output_becomes : (change : KeyChange) (old_bytes old new_bytes new : List ℕ → List ℕ) → Prints old_bytes old → Prints new_bytes new →
+    (lines : List (List ℕ)) → AllByRecursion (λ line. Lacks is_lf (old line)) lines → AllByRecursion (λ line. LineBecomes change (old line) (new line)) lines →
+    (now : List (List ℕ)) × LinesBecome change (lines_of (flat_map old_bytes lines)) now × (flat_map new_bytes lines ≡ flat_map ended now)
+output_becomes change old_bytes old new_bytes new old_prints new_prints lines lack each = (
   map new lines,
-  ap (λ bytes. map (rekeyed_by moved) (lines_of bytes)) (output_of old_bytes old old_prints lines)
-      ∙ ap (map (rekeyed_by moved)) (cut_again old lines lack) ∙ each_rekeyed moved old new lines each,
+  subst (λ (ls : List (List ℕ)). LinesBecome change ls (map new lines))
+      (sym (ap lines_of (output_of old_bytes old old_prints lines) ∙ cut_again old lines lack)) (each_becomes change old new lines each),
   output_of new_bytes new new_prints lines,
 )
 

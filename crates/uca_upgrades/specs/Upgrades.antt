@@ -22,8 +22,7 @@ use Rattle.uca_run_parts.specs.Files.{TableAndData, table_with}
 use Rattle.uca_run_parts.specs.Input.{cause_of, line_text}
 use Rattle.uca_run_parts.specs.Print.{keyed_line_of}
 use Rattle.uca_change_runs.specs.AffectedRun.{is_affected_by, listed_in}
-use Rattle.uca_rekey.specs.RekeyedLines.{rekeyed}
-use Rattle.uca_rekey.specs.RekeyRun.{AreRekeyed}
+use Rattle.uca_rekey.specs.ChangedLines.{KeyChange, LineBecomes, LinesBecome, moves}
 use Rattle.uca_key_runs.specs.Keys.{keyed_line, printed_key}
 
 -- ---- Upgrades
@@ -108,11 +107,14 @@ IsStoredLineKey upgrade asked line key =
 abbrev pub AreUnaffectedLines : Numbers → Upgrade → List ℕ → Type 0
 AreUnaffectedLines numbers upgrade input = AllByRecursion (IsUnaffectedLine numbers upgrade) (lines_of input)
 
--- `uca rekey` reads the first bytes and writes the second: these are the lines of the first with their keys put through the maps,
--- each with LF.
+-- what `uca rekey` makes of the keys of a store
+abbrev pub rekeying : Upgrade → Asked → KeyChange
+rekeying upgrade asked = moves asked.depth (stored_weighting upgrade asked.weighting) upgrade.maps
+
+-- `uca rekey` reads the first bytes and writes the second: these are what the lines of the first become, each with LF.
 abbrev pub IsRekeyed : Upgrade → Asked → List ℕ → List ℕ → Type 0
 IsRekeyed upgrade asked bytes now =
-    (lines : List (List ℕ)) × AreRekeyed (moved_key upgrade.maps asked.depth (stored_weighting upgrade asked.weighting)) (lines_of bytes) lines × (now ≡ flat_map ended lines)
+    (lines : List (List ℕ)) × LinesBecome (rekeying upgrade asked) (lines_of bytes) lines × (now ≡ flat_map ended lines)
 
 -- What is true of the keys of a store, where each run was asked for these settings. A run of `uca rekey` has to be asked for the
 -- weighting of the stored keys, since it reads no table, and it need not know how numbers compare.
@@ -136,11 +138,11 @@ pub record KeysAreUpgraded (upgrade : Upgrade) (asked : Asked) : Type 0 where
   -- Both are given here without their LF.
   pub printed_line : (line before after : List ℕ) → IsUnaffectedLine asked.numbers upgrade line →
       ended before ≡ printed_key (old_keying upgrade asked) line →
-      ended after ≡ printed_key (new_keying upgrade asked) line → rekeyed upgrade.maps asked.depth (stored_weighting upgrade asked.weighting) before ≡ Some after
+      ended after ≡ printed_key (new_keying upgrade asked) line → LineBecomes (rekeying upgrade asked) before after
   -- `uca rekey` puts the new key in place of the old one before a tab and what a store has after it, such as the line itself.
   pub keyed_row : (line row before after : List ℕ) → IsUnaffectedLine asked.numbers upgrade line →
       ended before ≡ keyed_line_of (old_key upgrade asked line) row →
-      ended after ≡ keyed_line_of (new_key upgrade asked line) row → rekeyed upgrade.maps asked.depth (stored_weighting upgrade asked.weighting) before ≡ Some after
+      ended after ≡ keyed_line_of (new_key upgrade asked line) row → LineBecomes (rekeying upgrade asked) before after
   -- So the whole output of `uca keys` over an input of unaffected lines becomes its output under the new files.
   pub printed : (input : List ℕ) → AreUnaffectedLines asked.numbers upgrade input →
       IsRekeyed upgrade asked (flat_map (printed_key (old_keying upgrade asked)) (lines_of input))

@@ -13,9 +13,8 @@ use Rattle.uca_run_parts.specs.Input.{is_stored_key_read}
 use Rattle.uca_run_parts.specs.LinesSoFar.{OnKnown}
 use Rattle.uca_rekey.specs.declared.line.NextByte.{NextByte}
 use Rattle.uca_rekey.specs.declared.line.NextByte.TheVariants.{Byte, End, NoByte}
-use Rattle.uca_rekey.specs.RekeyedLines.{byte_before, key_in}
-use Rattle.uca_rekey.specs.ChangedLines.{from_tab}
-use Rattle.uca_rekey.specs.RekeyRun.{Begins, FailsAfter}
+use Rattle.uca_rekey.specs.ChangedLines.{byte_before, from_tab, key_in}
+use Rattle.uca_rekey.specs.ChangeRun.{Begins, FailsAfter}
 
 -- ---- Bytes
 

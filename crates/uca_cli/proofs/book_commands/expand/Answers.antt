@@ -5,7 +5,7 @@ use Rattle.uca_cli.proofs.book_commands.expand.Goals as goal
 pub returns-in-Ok : goal.returns-in-Ok
 returns-in-Ok g c = inr (record {
   before = c.in-Ok.book ∷ [];
-  after = c.expand_lines.new.book ∷ [];
+  after = c.run_expand.new.book ∷ [];
   opened = c.in-Ok.ensures;
-  runs = record { run = c.expand_lines.result; runs = rw c.unwrap_or-weighting.ensures at c.expand_lines.ensures; status = c.done.ensures };
+  runs = record { run = c.run_expand.result; runs = rw c.unwrap_or-weighting.ensures at c.run_expand.ensures; status = c.done.ensures };
 })

@@ -12,7 +12,7 @@ change_lines-end-requires g c = c.in-Ok.ensures.begun
 pub returns-in-Ok-clause-changes : goal.returns-in-Ok-clause-changes
 returns-in-Ok-clause-changes g c =
     let end = c.change_lines-end in
-    subst (λ x. RunsChange (g.C.ChangesKeys.becomes x) (headers_of c.args.headers) g.C.ChangesKeys.none c.args.input.now end.new.input c.args.out.now end.new.out end.result)
+    subst (λ x. RunsChange (g.C.ChangesKeys.means x) (headers_of c.args.headers) c.args.input.now end.new.input c.args.out.now end.new.out end.result)
     c.in-Ok.ensures.same end.ensures.changes
 
 pub returns-in-Ok-clause-nothing_written : goal.returns-in-Ok-clause-nothing_written

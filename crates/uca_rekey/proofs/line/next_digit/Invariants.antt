@@ -1,7 +1,6 @@
 -- The bytes so far are spaces.
 use Rattle.std.proofs.Common.{◌≡◌, ◌≤◌, length}
-use Rattle.uca_rekey.specs.RekeyedLines.{digits_of}
-use Rattle.uca_rekey.specs.ChangedLines.{from_tab}
+use Rattle.uca_rekey.specs.ChangedLines.{digits_of, from_tab}
 use Rattle.uca_rekey.proofs.line.next_digit.Given as goal
 
 abbrev pub invariant-loop-text : goal.invariant-loop-text

@@ -1,6 +1,6 @@
 -- One more byte of the key, its end, and why there is none.
 use Rattle.std.proofs.Common.{◌≡◌, ◌++◌, ◌∷◌, [], rules}
-use Rattle.uca_rekey.specs.RekeyedLines.{key_in}
+use Rattle.uca_rekey.specs.ChangedLines.{key_in}
 use Rattle.uca_rekey.proofs.LineKeys.{key_read, more_read, no_key_read}
 use Rattle.uca_rekey.proofs.line.read_key.Goals as goal
 

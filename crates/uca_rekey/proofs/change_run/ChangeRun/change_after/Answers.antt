@@ -11,14 +11,14 @@ returns-in-Ok-clause-changes g c = λ old start begun short h.
     let to = c.args.header.now in
     let writes = c.in-Ok.ensures.writes in
     c.change_rest.ensures.changes (Some (header_pair old to)) start begun (old ∷ []) (to ∷ [])
-    (new_header_written (g.C.ChangesKeys.becomes self.change) old to start begun self.lines c.args.input.now self.written c.write.new.self c.args.out.now
+    (new_header_written (g.C.ChangesKeys.means self.change) old to start begun self.lines c.args.input.now self.written c.write.new.self c.args.out.now
     c.write.new.out h writes.0 writes.1)
 
 pub returns-in-Err-clause-changes : goal.returns-in-Err-clause-changes
 returns-in-Err-clause-changes g c = λ old start begun short h.
     let self = c.args.self.now in
-    new_header_not_written (g.C.ChangesKeys.becomes self.change) old c.args.header.now start begun self.lines c.args.input.now self.written c.write.new.self
-    c.args.out.now c.write.new.out h g.C.ChangesKeys.none c.in-Err.fault short c.in-Err.ensures.writes
+    new_header_not_written (g.C.ChangesKeys.means self.change) old c.args.header.now start begun self.lines c.args.input.now self.written c.write.new.self
+    c.args.out.now c.write.new.out h c.in-Err.fault short c.in-Err.ensures.writes
 
 pub returns-in-Err-clause-of_lines : goal.returns-in-Err-clause-of_lines
 returns-in-Err-clause-of_lines g c =

@@ -5,14 +5,13 @@ use Rattle.uca_rekey.proofs.change_run.ChangeRun.change_all.Goals as goal
 
 pub returns-clause-changes : goal.returns-clause-changes
 returns-clause-changes g c =
-    let becomes = g.C.ChangesKeys.becomes c.args.self.now.change in
-    let none = g.C.ChangesKeys.none in
+    let means = g.C.ChangesKeys.means c.args.self.now.change in
     let input = c.args.input.now in
     let out = c.args.out.now in
     let end = c.change_rest-end in
-    let begun = changes_begun becomes c.args.self.now.lines input c.args.self.now.written out c.requires in
-    runs_change becomes none input end.new.input out c.end.new.out c.end.result
-    (ends_changed becomes None none input.remaining out.contents end.new.input end.new.out end.new.self.written.buffer c.end.new.out end.result c.end.result
+    let begun = changes_begun means c.args.self.now.lines input c.args.self.now.written out c.requires in
+    runs_change means input end.new.input out c.end.new.out c.end.result
+    (ends_changed means None input.remaining out.contents end.new.input end.new.out end.new.self.written.buffer c.end.new.out end.result c.end.result
     (end.ensures.changes None input.remaining out.contents [] [] begun) c.end.ensures.ends)
 
 pub returns-clause-of_lines : goal.returns-clause-of_lines

@@ -3,8 +3,7 @@ use Rattle.std.proofs.Common.{◌||◌, List, ℕ, Some, IfSome, ap, sym, subst,
 use Rattle.std.proofs.Math.Bool.{or-false}
 use Rattle.uca_lines.specs.Lines.{lines_of}
 use Rattle.uca_run_parts.specs.Runs.{is_input_read}
-use Rattle.uca_rekey.specs.HeadedRun.{HasHeaderCause}
-use Rattle.uca_rekey.specs.ChangeRun.{RunsChange}
+use Rattle.uca_rekey.specs.ChangeRun.{HasHeaderCause, RunsChange}
 use Rattle.uca_rekey.specs.inside.ChangeSoFar.{header_pair}
 use Rattle.uca_rekey.proofs.Changing.{ends_changed, header_read, runs_after_header, runs_without_header}
 use Rattle.uca_rekey.proofs.LinesRead.{nothing_read}
@@ -13,19 +12,18 @@ use Rattle.uca_rekey.proofs.change_run.ChangeRun.change_headed.Goals as goal
 pub returns-in-Ok-clause-changes : goal.returns-in-Ok-clause-changes
 returns-in-Ok-clause-changes g c =
     let self = c.args.self.now in
-    let becomes = g.C.ChangesKeys.becomes self.change in
-    let none = g.C.ChangesKeys.none in
+    let means = g.C.ChangesKeys.means self.change in
     let input = c.args.input.now in
     let out = c.args.out.now in
     let end = c.change_after-end in
     let old = c.as_bytes.result.now in
     let new = c.as_bytes-in-Ok.result.now in
-    let read = header_read becomes self.lines input self.written out c.requires old c.read_header.new.self c.read_header.new.source c.in-Ok.ensures.reads in
+    let read = header_read means self.lines input self.written out c.requires old c.read_header.new.self c.read_header.new.source c.in-Ok.ensures.reads in
     let rest = end.ensures.changes old input.remaining out.contents c.as_bytes-in-Ok.ensures.short read in
-    let writes = ends_changed becomes (Some (header_pair old new)) none input.remaining out.contents end.new.input end.new.out end.new.self.written.buffer c.end.new.out end.result c.end.result
+    let writes = ends_changed means (Some (header_pair old new)) input.remaining out.contents end.new.input end.new.out end.new.self.written.buffer c.end.new.out end.result c.end.result
     rest c.end.ensures.ends in
-    let runs = runs_after_header becomes none input end.new.input out c.end.new.out (header_pair old new) c.end.result writes in
-    subst₂ (λ (o n : List ℕ). RunsChange becomes (Some (header_pair o n)) none input end.new.input out c.end.new.out c.end.result) c.as_bytes.ensures.line
+    let runs = runs_after_header means input end.new.input out c.end.new.out (header_pair old new) c.end.result writes in
+    subst₂ (λ (o n : List ℕ). RunsChange means (Some (header_pair o n)) input end.new.input out c.end.new.out c.end.result) c.as_bytes.ensures.line
     c.as_bytes-in-Ok.ensures.line runs
 
 pub returns-in-Ok-clause-of_lines : goal.returns-in-Ok-clause-of_lines
@@ -46,6 +44,6 @@ returns-in-Err-clause-changes g c =
     let input = c.args.input.now in
     let start = input.remaining in
     let cause = c.in-Err.ensures.reads start (nothing_read start self.lines c.requires.pending c.requires.at_end) in
-    runs_without_header (g.C.ChangesKeys.becomes self.change) (header_pair c.args.headers.now.from c.args.headers.now.to) g.C.ChangesKeys.none c.in-Err.kind input c.read_header.new.source c.args.out.now
+    runs_without_header (g.C.ChangesKeys.means self.change) (header_pair c.args.headers.now.from c.args.headers.now.to) c.in-Err.kind input c.read_header.new.source c.args.out.now
     (subst (λ (header : List ℕ). IfSome start (λ bytes. HasHeaderCause header bytes c.read_header.new.source.remaining (lines_of bytes) c.in-Err.kind)) c.as_bytes.ensures.line
     cause)

@@ -8,8 +8,8 @@ abbrev pub invariant-loop-self : goal.invariant-loop-self
 invariant-loop-self g l = record {
   change : l.self.change ≡ l.fn.self.change;
   changed : (headers : Option Headers) (start begun : Option (List ℕ)) (before news : List (List ℕ)) →
-      HasChanged (g.C.ChangesKeys.becomes l.fn.self.change) headers start begun before news l.fn.self.lines l.fn.input l.fn.self.written l.fn.out →
-      (now : List (List ℕ)) × (after : List (List ℕ)) × HasChanged (g.C.ChangesKeys.becomes l.fn.self.change) headers start begun now after l.self.lines l.input l.self.written l.out;
+      HasChanged (g.C.ChangesKeys.means l.fn.self.change) headers start begun before news l.fn.self.lines l.fn.input l.fn.self.written l.fn.out →
+      (now : List (List ℕ)) × (after : List (List ℕ)) × HasChanged (g.C.ChangesKeys.means l.fn.self.change) headers start begun now after l.self.lines l.input l.self.written l.out;
   input_failed : l.input.failed ≡ l.fn.input.failed;
   out_failed : l.out.failed ≡ l.fn.out.failed;
 }

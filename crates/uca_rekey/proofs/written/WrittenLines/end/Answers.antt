@@ -5,7 +5,7 @@ use Rattle.uca_lines.specs.OutputBuffer.{BufferState}
 use Rattle.uca_run_parts.specs.Runs.{ended_by_output}
 use Rattle.uca_run_parts.specs.declared.faults.RunFault.TheVariants.{Write}
 use Rattle.uca_run_parts.proofs.Finishing.{rest_fails}
-use Rattle.uca_rekey.specs.inside.RekeySoFar.{EndsIf, WrittenState}
+use Rattle.uca_rekey.specs.inside.ChangeSoFar.{EndsIf, WrittenState}
 use Rattle.uca_rekey.proofs.Ending.{ends_failed, ends_short, ends_whole}
 use Rattle.uca_rekey.proofs.written.WrittenLines.end.Goals as goal
 

@@ -3,7 +3,7 @@ use Rattle.std.proofs.Common.{[], ◌∷◌, ap, refl, subst, arith, length-appe
 use Rattle.uca_lines.specs.Buffered.{HasWrittenThrough, count_of}
 use Rattle.uca_lines.specs.Lines.{ended}
 use Rattle.uca_lines.specs.OutputBuffer.{BufferState}
-use Rattle.uca_rekey.specs.inside.RekeySoFar.{WrittenState}
+use Rattle.uca_rekey.specs.inside.ChangeSoFar.{WrittenState}
 use Rattle.uca_rekey.proofs.written.WrittenLines.write.Goals as goal
 
 pub overflow_sub-self-inside : goal.overflow_sub-self-inside

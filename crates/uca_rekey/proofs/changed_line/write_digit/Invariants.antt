@@ -1,7 +1,7 @@
 -- Only spaces were passed.
 use Rattle.std.proofs.Common.{◌≡◌, ℕ, ◌-◌, ◌≤◌, List, ◌∷◌, length}
 use Rattle.uca_rekey.proofs.LineKeys.{written_from}
-use Rattle.uca_rekey.proofs.line.write_digit.Given as goal
+use Rattle.uca_rekey.proofs.changed_line.write_digit.Given as goal
 
 abbrev pub invariant-loop-at : goal.invariant-loop-at
 invariant-loop-at l = record {

@@ -1,7 +1,7 @@
 -- All digits were written.
 use Rattle.std.proofs.Common.{sym, ◌∙◌}
 use Rattle.uca_rekey.proofs.LineKeys.{all_written}
-use Rattle.uca_rekey.proofs.line.write_key.Goals as goal
+use Rattle.uca_rekey.proofs.changed_line.write_key.Goals as goal
 
 pub returns : goal.returns
 returns c =
