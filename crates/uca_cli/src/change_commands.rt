@@ -156,7 +156,11 @@ fn sums_of(given: Option<Fingerprints>) -> Option<([u8; 32], [u8; 32])>
     ensures { result ≡ option_map sums_of given }
 {
     match given {
-        Some(given) => Some((given.from, given.to)),
+        Some(given) => {
+            let from = given.from;
+            let to = given.to;
+            Some((from, to))
+        }
         None => None,
     }
 }

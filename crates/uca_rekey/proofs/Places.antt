@@ -8,7 +8,7 @@ use Rattle.std.proofs.lemmas.Bool.{eqb-true, lt-ltb}
 use borrow.Rule.Slice.PartMut.{put_mid, post_of}
 use Rattle.std.proofs.KnownBytes.{Keeps-trans}
 use Rattle.std.proofs.lemmas.List.{drop-drop, drop-take, drop_at, get_or-drop, take-take, take_all, take-append-le, length-drop, length-take-le}
-use Rattle.std.proofs.lemmas.Slice.{drop-put_mid, take-put_mid_below}
+use Rattle.std.proofs.lemmas.Slice.{take-put_mid_below}
 use Rattle.memchr.specs.Find.{IsFirstByte, is_byte}
 use Rattle.uca_weights.proofs.Lists.{split_at}
 use Rattle.uca_lines.specs.Lines.{is_lf, Lacks, ended}
@@ -32,11 +32,6 @@ rest_of_range xs start n end within =
     let parts : n + (end - (start + n)) ≡ end - start = omega arith in
     ap (take (end - (start + n))) (sym (drop-drop n start xs)) ∙ sym (drop-take n (end - (start + n)) (drop start xs)) ∙ ap (λ k. drop n (take k (drop start xs))) parts
 
--- what lies after a part stays where the part is written
-pub range_after : (a k : ℕ) (xs ys : List ℕ) (start end : ℕ) → a + k ≤ start → a ≤ length xs → length ys ≡ k
-    → slice_range (put_mid a k xs ys) start end ≡ slice_range xs start end
-range_after a k xs ys start end after within long = ap (take (end - start)) (drop-put_mid a k xs ys start after within long)
-
 -- what a part begins with that is written after some members
 pub range_filled : (xs ys : List ℕ) (e n : ℕ) → e ≤ length xs → n ≤ length ys
     → slice_range (put_mid e (length xs - e) xs ys) 0 (e + n) ≡ take e xs ++ take n ys
@@ -55,12 +50,6 @@ range_kept xs ys e within =
     let all = put_mid e (length xs - e) xs ys in
     let whole : e - 0 ≡ e = omega arith in
     ap (λ m. take m all) whole ∙ take-put_mid_below e (length xs - e) xs ys e (omega arith) within
-
--- a part that was written
-pub range_written : (a k : ℕ) (xs ys : List ℕ) → a ≤ length xs → length ys ≡ k → take k (drop a (put_mid a k xs ys)) ≡ ys
-range_written a k xs ys within long =
-    ap (take k) (drop_at (take a xs) (ys ++ post_of a k xs) a (length-take-le a xs within)) ∙ take-append-le k ys (post_of a k xs) (omega (arith, long))
-    ∙ take_all k ys (omega (arith, long))
 
 -- what a list begins with
 pub front_range : (xs : List ℕ) (e : ℕ) → slice_range xs 0 e ≡ take e xs

@@ -1,5 +1,5 @@
 -- The worked lines follow from the definitions.
-use Rattle.std.proofs.Common.{◌≡◌, ℕ, List, [], ◌∷◌, length, codes, refl, ap, arith}
+use Rattle.std.proofs.Common.{◌≡◌, [], ◌∷◌, length, codes, refl, ap, arith}
 use Rattle.uca_rekey.specs.WorkedLines.{WorkedLines}
 
 -- the header of compact keys is not that of keys

@@ -68,7 +68,9 @@ fn key_headers(settings: Settings, sums: Option<([u8; 32], [u8; 32])>) -> Option
     ensures { headers_of result ≡ option_map (key_headers settings) sums }
 {
     match sums {
-        Some((from, to)) => {
+        Some(sums) => {
+            let from = sums.0;
+            let to = sums.1;
             let old_header = KeyHeader::new(settings, &from);
             let new_header = KeyHeader::new(settings, &to);
             Some(HeaderLines {

@@ -56,8 +56,7 @@ impl<A: Allocator, C: ChangesKeys> ChangeRun<A, C> {
                 let old = self.lines.line();
                 match change_line(&mut self.change, old, &mut self.keys, &mut self.line) {
                     Ok(()) => {
-                        self.sizes
-                            .add(self.keys.key.len(), self.keys.changed.len());
+                        self.sizes.add(self.keys.key.len(), self.keys.changed.len());
                         Ok(true)
                     }
                     Err(kind) => Err(RunFault::StoredKey { line, kind }),

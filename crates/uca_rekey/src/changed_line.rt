@@ -72,7 +72,11 @@ fn put_line<A: Allocator>(
 }
 
 // Writes a line over the bytes that were there, and then the digits of a key in place of those of its own.
-fn put_spaced<A: Allocator>(made: &mut Vec<u8, A>, key: &[u8], line: &[u8]) -> Result<(), AllocError>
+fn put_spaced<A: Allocator>(
+    made: &mut Vec<u8, A>,
+    key: &[u8],
+    line: &[u8],
+) -> Result<(), AllocError>
     ensures { OnOk result (made.new.items ≡ with_key true line.now key.now) }
 {
     made.clear();

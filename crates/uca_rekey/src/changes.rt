@@ -1,6 +1,6 @@
 //! What the keys of lines are changed by: `ChangesKeys`, for maps, for compact keys and back.
 
-ghost use Rattle.std.specs.Prelude.{◌≡◌, IfOk, if◌then◌else◌, Option, Some, None};
+ghost use Rattle.std.specs.Prelude.{◌≡◌, IfOk, if◌then◌else◌, Some, None};
 ghost use Rattle.uca_tailorings.specs.Inputs.{maps_of};
 ghost use Rattle.uca_rekey.specs.ChangedLines.{KeyChange, compacts, expands, moves};
 ghost use Rattle.uca_rekey.specs.inside.ChangeSoFar.{IsOfKey};

@@ -16,7 +16,7 @@ returns-in-Ok g c =
     let settings = settings_of c.args.weighting c.args.depth in
     file_read book_file Book (λ (by : CompacterState). expands by.settings.depth by.settings.weighting by.book) (λ (b : BookContent). record { book = b; settings = settings })
     (λ (b : BookContent). option_map swapped (option_map (compact_headers settings b) c.args.keys)) c.args.book.now c.read_book_file.new.source c.args.input.now c.args.out.now
-    c.in-Ok.book c.new-change.result (headers_of c.swapped-headers.result) ends.new.input ends.new.out ends.result c.new-change.ensures (c.swapped-headers.ensures ∙ ap (option_map swapped) c.compact_headers.ensures)
+    c.in-Ok.book c.new-change.result (headers_of c.swapped-headers.result) ends.new.input ends.new.out ends.result (rw c.settings_of-settings.ensures at c.new-change.ensures) (c.swapped-headers.ensures ∙ ap (option_map swapped) (rw c.settings_of-settings.ensures at c.compact_headers.ensures))
     c.in-Ok.ensures.read c.in-Ok.ensures.failed ends.ensures.changes
     ends.ensures.nothing_written ends.ensures.no_file ends.ensures.input_failed ends.ensures.out_failed
 

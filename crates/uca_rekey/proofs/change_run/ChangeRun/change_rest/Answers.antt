@@ -3,6 +3,7 @@ use Rattle.std.specs.Prelude.{⊤}
 use Rattle.std.proofs.Common.{[], ◌∷◌, ◌++◌, ℕ, Bool, List, true, false, Ok, Err, refl, ap, arith, sym, subst, subst₂, ◌∙◌}
 use Rattle.std.proofs.Math.Bool.{or-false}
 use Rattle.std.proofs.lemmas.Result.{err_from_is_err_and}
+use Rattle.uca_run_parts.specs.declared.key_sizes.KeySizes.{KeySizes}
 use Rattle.uca_rekey.specs.inside.ChangeSoFar.{ChangesLine, HasChanged, WritesLine, WrittenState}
 use Rattle.uca_rekey.proofs.Changing.{all_changed, change_not_written, line_changed, none_changed}
 use Rattle.uca_rekey.proofs.Ending.{not_before}
@@ -78,7 +79,7 @@ returns-clause-changes g c = λ headers start begun before news h.
     let found = subst (λ x. ChangesLine (g.C.ChangesKeys.means x) headers start i.0 now.lines c.next.new.input now.line.items (Ok false)) same
     (next.changes headers start begun i.0 i.1 c.loop-self.out
     (subst (λ x. HasChanged (g.C.ChangesKeys.means x) headers start begun i.0 i.1 old.lines c.loop-self.input old.written c.loop-self.out) (sym same) i.2)) in
-    all_changed c.loop-self.self.sizes (g.C.ChangesKeys.means c.args.self.now.change) headers start begun i.0 i.1 old.lines c.loop-self.input old.written c.loop-self.out i.2 c.next.new.input now.written.buffer
+    all_changed (g.C.ChangesKeys.means c.args.self.now.change) headers start begun i.0 i.1 old.lines c.loop-self.input old.written c.loop-self.out i.2 now.sizes c.next.new.input now.written.buffer
     (ap (λ (w : WrittenState). w.buffer) next.written) found
 
 pub loop-self-init : goal.loop-self-init
