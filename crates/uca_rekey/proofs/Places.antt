@@ -7,7 +7,7 @@ use Rattle.std.specs.List.{before_first, position_or_len, slice_range}
 use Rattle.std.proofs.lemmas.Bool.{eqb-true, lt-ltb}
 use borrow.Rule.Slice.PartMut.{put_mid, post_of}
 use Rattle.std.proofs.KnownBytes.{Keeps-trans}
-use Rattle.std.proofs.lemmas.List.{drop-drop, drop-take, drop_at, get_or-drop, take-take, take_all, take-append-le, length-drop, length-take-le}
+use Rattle.std.proofs.lemmas.List.{drop-drop, drop-take, drop_at, get_or-drop, take-take, take-append-le, length-drop, length-take-le}
 use Rattle.std.proofs.lemmas.Slice.{take-put_mid_below}
 use Rattle.memchr.specs.Find.{IsFirstByte, is_byte}
 use Rattle.uca_weights.proofs.Lists.{split_at}
