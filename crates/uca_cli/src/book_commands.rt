@@ -12,6 +12,7 @@ use uca_book_runs::run_book;
 use uca_host::Opens;
 use uca_host::files::opening::{open_one, open_two};
 use uca_rekey::{run_compact, run_expand, run_headed_compact, run_headed_expand};
+use uca_run_parts::KeySizes;
 use uca_run_parts::faults::{Role, RunFault};
 use uca_weights::{Sink, Source, Weighting};
 use uca_words::{BookImageWords, BookWords};
@@ -22,6 +23,7 @@ pub(crate) fn compact<O: Opens, I: Read, W: Write>(
     words: &BookWords,
     input: &mut Source<I>,
     out: &mut Sink<W>,
+    sizes: &mut KeySizes,
 ) -> Result<u8, RunFault>
     ensures { DoesCompact (file_system O.calls O.File.remaining O.Made.contents)
         opener.old opener.new words.now (streams input.old out.old) (streams input.new out.new) result }

@@ -17,6 +17,10 @@ const TOO_LONG: &str =
 
 const LONG_RUN: &str = "look for damaged text there: at most 64 combining marks come in a row";
 
+/// What is said where compact keys are long.
+pub(crate) const BOOK_OF_OTHER_TABLES: &str =
+    "compact keys have more than half of the bytes of the keys: the book is one for other tables, and `uca-files --book TAG` makes one for its own";
+
 const OTHER_FILE: &str = "Is it another file?";
 
 const IS_BEGUN: &str =
