@@ -322,7 +322,7 @@ fn may_advise(asked: &Words) -> bool
     }
 }
 
-// The status that the command ends with after a run with these arguments. It says where a book does not fit, or reports an error and says what
+// The status that the command ends with after a run with these arguments. It says where compact keys are long, or reports an error and says what
 // to do.
 fn status_of<W: Write, E: Write>(
     alloc: Global,
@@ -365,7 +365,7 @@ fn status_after<W: Write, E: Write>(
 /// arguments, opens all files that they name, in the order of the arguments, and then runs over them. It reports an
 /// error, and says in a line after it what to do. If it rejects the arguments, it opens and reads nothing. It does the
 /// same if `tailor` or `changes` is to write the certificate over a file that it reads. No other command makes a file. Where compact keys
-/// are long, since their book is one for other tables, a line of help says so.
+/// are long, a line of help says so.
 pub fn run_command<'a, O: Opens, I: Read, W: Write, E: Write>(
     alloc: Global,
     opener: &mut O,

@@ -1,5 +1,5 @@
-//! `write_help`: the line that follows the line of an error, and says what to do. `write_book_help`: the line that says that a book does not
-//! fit.
+//! `write_help`: the line that follows the line of an error, and says what to do. `write_book_help`: the line that says that compact
+//! keys are long.
 //!
 //! What is proved is that nothing is written, or one line that begins with `help: `. What it says is tested only. `sentences`
 //! has what is said of each error, and `names` the name of the file that it is about.
@@ -11,7 +11,7 @@ mod names;
 mod sentences;
 
 use crate::help::names::name_of;
-use crate::help::sentences::{BOOK_OF_OTHER_TABLES, advice_on};
+use crate::help::sentences::{LONG_COMPACT_KEYS, advice_on};
 use crate::reports::show;
 use std::alloc::{AllocError, Global};
 use std::io::Write;
@@ -95,20 +95,15 @@ pub fn write_help<E: Write>(
     }
 }
 
-// Whether compact keys have more bytes than those that a book for their table would give.
-fn is_for_other_tables(sizes: &KeySizes) -> bool {
-    sizes.compact > sizes.whole / 2
-}
-
-/// Writes to `err` that a book is one for other tables, if compact keys by it have more than half of the bytes of their keys. It writes nothing
-/// if `err` has failed, or if an allocation fails.
+/// Writes to `err` that compact keys are long, if a book for their table and texts would make shorter ones. It writes nothing if `err` has
+/// failed, or if an allocation fails.
 pub fn write_book_help<E: Write>(alloc: Global, sizes: &KeySizes, err: &mut Sink<E>)
     ensures { Helps err.old err.new }
 {
-    if !is_for_other_tables(sizes) || err.failed() {
+    if !sizes.are_long() || err.failed() {
         return;
     }
-    if let Ok(Some(line)) = checked_line(alloc, BOOK_OF_OTHER_TABLES) {
+    if let Ok(Some(line)) = checked_line(alloc, LONG_COMPACT_KEYS) {
         show(line.as_str().as_bytes(), err);
     }
 }

@@ -108,7 +108,7 @@ pub(crate) fn compacting_by<A: Allocator + Copy>(
         Some(book) => Some(Compacting {
             compacter: KeyCompacter::new(alloc, book, settings),
             key: Vec::new(alloc),
-            sizes: KeySizes::new(),
+            sizes: KeySizes::of(settings),
         }),
         None => None,
     }

@@ -18,8 +18,8 @@ const TOO_LONG: &str =
 const LONG_RUN: &str = "look for damaged text there: at most 64 combining marks come in a row";
 
 /// What is said where compact keys are long.
-pub(crate) const BOOK_OF_OTHER_TABLES: &str =
-    "compact keys have more than half of the bytes of the keys: the book is one for other tables, and `uca-files --book TAG` makes one for its own";
+pub(crate) const LONG_COMPACT_KEYS: &str =
+    "the compact keys are long by this book: uca-files --book TAG makes one for the table of a language";
 
 const OTHER_FILE: &str = "Is it another file?";
 
