@@ -74,6 +74,25 @@ NEUTRAL = [
     ("--weighting non-ignorable", "7FFF 0000 0020 0000 0002", "7C0AFF02"),
 ]
 
+# What is said where compact keys are long.
+LONG = b"help: the compact keys are long by this book: uca-files --book TAG makes one for the table of a language\n"
+
+# Options, a key, its compact key by the book above, how many lines, and whether they are said to be long. They are so from 500 bytes of keys on, and if
+# they have more than 1.3 times the bytes of a third of the keys, or of a quarter under shifted.
+LENGTHS = [
+    # 31 keys of 16 bytes are 496 bytes, and 32 are 512. 7 bytes are more than 1.3 times 16 / 3, which is 6.93.
+    ("--weighting non-ignorable", "2345 2345 0000 0020 0020 0000 0002 0002", "0C03450C034502", 31, False),
+    ("--weighting non-ignorable", "2345 2345 0000 0020 0020 0000 0002 0002", "0C03450C034502", 32, True),
+    # 4 bytes are less than 1.3 times 10 / 3, which is 4.33, and 6 than 1.3 times 14 / 3, which is 6.07
+    ("--weighting non-ignorable", "2345 0000 0020 0000 0002", "0C034502", 100, False),
+    ("--weighting non-ignorable", "1C4A 2345 0000 0020 0020 0000 0002 0002", "09020C034502", 100, False),
+    # 7 bytes are less than 1.3 times 22 / 4, which is 7.15, and 10 are more than 1.3 times 30 / 4, which is 9.75
+    ("", "2345 2345 0000 0020 0020 0000 0002 0002 0000 FFFF FFFF", "0E03450E034503", 100, False),
+    ("", "2345 2345 2345 0000 0020 0020 0020 0000 0002 0002 0002 0000 FFFF FFFF FFFF", "0E03450E03450E034503", 100, True),
+    # nothing is said of an identical level
+    ("--identical --weighting non-ignorable", "2345 2345 0000 0020 0020 0000 0002 0002 0000 000078 000078", "0C03450C0345027878", 100, False),
+]
+
 
 class Keys(ProgramTest):
     def setUp(self):
@@ -213,8 +232,14 @@ class Keys(ProgramTest):
         lines, compact = b"1C60000000200000000200000209\n" * 1_000_001, b"0C02010100\n" * 1_000_001
         for command, given, wanted in ("compact", lines, compact), ("expand", compact, lines):
             ended = self.run_uca(command, "k", given=given)
-            self.assertEqual((ended.status, ended.err), (0, b""))
+            self.assertEqual((ended.status, ended.err), (0, LONG if command == "compact" else b""))
             self.assertTrue(ended.out == wanted)
+
+    def test_long_compact_keys(self):
+        for options, key, compact, count, is_long in LENGTHS:
+            said_of_it = LONG if is_long else b""
+            self.expect(["compact", *options.split(), "k"], f"{key}\n" * count, out=f"{compact}\n" * count, err=said_of_it)
+            self.expect(["expand", *options.split(), "k"], f"{compact}\n" * count, out=f"{key.replace(' ', '')}\n" * count)
 
     def test_a_long_line(self):
         """A key of 300,000 letters."""
@@ -256,6 +281,12 @@ class KeysCompact(ProgramTest):
         for options, line, compact in self.CASES:
             self.expect(f"keys --compact k {options} t d", line + "\n", out=compact + "\n")
             self.expect(f"keys --lines {options} --compact k t d", f"{line}\n" * 2, out=f"{compact}\t{line}\n" * 2)
+
+    def test_long_compact_keys(self):
+        self.write(x=TABLE + "0078 ; [.2345.0020.0002]\n")
+        for count, err in (31, b""), (32, LONG):
+            self.expect("keys --compact k --weighting non-ignorable x d", "xx\n" * count, out="0C03450C034502\n" * count, err=err)
+        self.expect("keys --compact k --identical --weighting non-ignorable x d", "xx\n" * 100, out="0C03450C0345027878\n" * 100)
 
     def test_as_two_commands(self):
         """The same as `keys --lines` and then `compact`."""

@@ -6,8 +6,8 @@ use std::alloc::{Allocator, Global};
 use std::test::Fail;
 use uca_certificates::Certificate;
 use uca_host::report;
-use uca_key_runs::{run_compare_in, run_keyed_lines_in, run_keys_in, run_sort_in};
-use uca_run_parts::{RunFault, run_affected_in, run_check};
+use uca_key_runs::{KeyOutput, run_compare_in, run_keys_as, run_sort_in};
+use uca_run_parts::{KeySizes, RunFault, run_affected_in, run_check};
 use uca_tailor_runs::{run_audit_in, run_tailor_in, write_tailored};
 use uca_values::Table;
 use uca_weights::Depth::{Identical, Weights};
@@ -23,8 +23,10 @@ fn asked_at(depth: Depth) -> Asked {
     }
 }
 
-fn keys(memory: Memory, streams: &mut Streams, depth: Depth) -> Result<(), RunFault> {
-    run_keys_in(
+// The run of keys, with or without the lines.
+fn keys(memory: Memory, streams: &mut Streams, depth: Depth, lines: bool) -> Result<(), RunFault> {
+    let header = false;
+    run_keys_as(
         memory.tried,
         memory.ample,
         &mut streams.table,
@@ -32,18 +34,8 @@ fn keys(memory: Memory, streams: &mut Streams, depth: Depth) -> Result<(), RunFa
         &mut streams.text,
         &mut streams.out,
         asked_at(depth),
-    )
-}
-
-fn keyed_lines(memory: Memory, streams: &mut Streams, depth: Depth) -> Result<(), RunFault> {
-    run_keyed_lines_in(
-        memory.tried,
-        memory.ample,
-        &mut streams.table,
-        &mut streams.properties,
-        &mut streams.text,
-        &mut streams.out,
-        asked_at(depth),
+        KeyOutput { lines, header },
+        &mut KeySizes::new(),
     )
 }
 
@@ -179,10 +171,10 @@ fn run_with_verdict(memory: Memory, streams: &mut Streams, name: &str) -> Result
 // A run without a verdict.
 fn run(memory: Memory, streams: &mut Streams, name: &str) -> Result<(), RunFault> {
     match name {
-        "keys" => keys(memory, streams, Weights),
-        "identical keys" => keys(memory, streams, Identical),
-        "keyed lines" => keyed_lines(memory, streams, Weights),
-        "identical keyed lines" => keyed_lines(memory, streams, Identical),
+        "keys" => keys(memory, streams, Weights, false),
+        "identical keys" => keys(memory, streams, Identical, false),
+        "keyed lines" => keys(memory, streams, Weights, true),
+        "identical keyed lines" => keys(memory, streams, Identical, true),
         "affected" => affected(memory, streams),
         "sort" => sort(memory, streams),
         "compare" => compare(memory, streams),

@@ -9,7 +9,7 @@ use uca_certificates::write_certificate;
 use uca_change_files::write_changes;
 use uca_change_runs::{run_affected_by_changes_in, run_audit_changes, run_changes};
 use uca_editions::FoundChanges;
-use uca_key_runs::{run_compact_lines, run_headed_compact_keys};
+use uca_key_runs::{KeyOutput, run_compact_keys};
 use uca_rekey::{run_compact, run_expand, run_rekey};
 use uca_run_parts::{KeySizes, RunFault};
 use uca_weights::Depth::Weights;
@@ -221,21 +221,24 @@ fn book(tried: &Refusing, out: &mut Sink<Vec<u8>>) -> End {
     run_book(tried, &mut file(5), &mut book, out)
 }
 
-fn compact_lines(ample: Global, tried: &Refusing, out: &mut Sink<Vec<u8>>) -> End {
-    run_compact_lines(
-        tried,
-        ample,
-        &mut file(0),
-        &mut file(1),
-        &mut Source::new(BOOK.as_bytes()),
-        &mut Source::new(WORDS.as_bytes()),
-        out,
-        ASKED,
-    )
-}
+const LINES_ALONE: KeyOutput = KeyOutput {
+    lines: true,
+    header: false,
+};
 
-fn headed_compact_keys(ample: Global, tried: &Refusing, out: &mut Sink<Vec<u8>>) -> End {
-    run_headed_compact_keys(
+const HEADER_ALONE: KeyOutput = KeyOutput {
+    lines: false,
+    header: true,
+};
+
+// The run of compact keys with this output.
+fn compact_keys(
+    ample: Global,
+    tried: &Refusing,
+    out: &mut Sink<Vec<u8>>,
+    output: KeyOutput,
+) -> End {
+    run_compact_keys(
         tried,
         ample,
         &mut file(0),
@@ -244,6 +247,8 @@ fn headed_compact_keys(ample: Global, tried: &Refusing, out: &mut Sink<Vec<u8>>)
         &mut Source::new(WORDS.as_bytes()),
         out,
         ASKED,
+        output,
+        &mut KeySizes::new(),
     )
 }
 
@@ -269,8 +274,8 @@ pub fn call(ample: Global, tried: &Refusing, run: Run, out: &mut Sink<Vec<u8>>) 
         Run::Expand => expand(tried, COMPACT, None, out),
         Run::HeadedCompact => compact(tried, HEADED, Some(OF_KEYS), out),
         Run::HeadedExpand => expand(tried, HEADED_COMPACT, Some(OF_KEYS), out),
-        Run::CompactLines => compact_lines(ample, tried, out),
-        Run::HeadedCompactKeys => headed_compact_keys(ample, tried, out),
+        Run::CompactLines => compact_keys(ample, tried, out, LINES_ALONE),
+        Run::HeadedCompactKeys => compact_keys(ample, tried, out, HEADER_ALONE),
         Run::Book => book(tried, out),
     }
 }

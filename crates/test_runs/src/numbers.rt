@@ -4,8 +4,7 @@ use std::alloc::{AllocError, Global};
 use std::test::Fail;
 use test_kit::{DATA, NUMBER_TABLE, bytes_of, holds, repeated, same, same_bytes, thirds};
 use uca_cli::{
-    RunFault, run_affected, run_compare_in, run_headed_keys, run_keyed_lines, run_keys_in,
-    run_sort_in,
+    KeyOutput, KeySizes, RunFault, run_affected, run_compare_in, run_keys_as, run_sort_in,
 };
 use uca_weights::Depth::{Identical, Weights};
 use uca_weights::{Asked, Depth, Numbers, Sink, Source, Weighting};
@@ -35,8 +34,20 @@ fn run_named(
     let mut rules = Source::new(RULES.as_bytes());
     let mut input = Source::new(lines);
     match name {
-        "keys" => run_keys_in(alloc, alloc, &mut table, &mut data, &mut input, out, asked),
-        "lines" => run_keyed_lines(alloc, &mut table, &mut data, &mut input, out, asked),
+        "keys" | "lines" => run_keys_as(
+            alloc,
+            alloc,
+            &mut table,
+            &mut data,
+            &mut input,
+            out,
+            asked,
+            KeyOutput {
+                lines: name == "lines",
+                header: false,
+            },
+            &mut KeySizes::new(),
+        ),
         "sort" => run_sort_in(alloc, alloc, &mut table, &mut data, &mut input, out, asked),
         "affected as text" => run_affected(
             alloc,
@@ -181,7 +192,21 @@ fn header_of(alloc: Global, numbers: Numbers) -> Result<Vec<u8>, Fail> {
         numbers,
         ..asked_at(Weights)
     };
-    let end = run_headed_keys(alloc, &mut table, &mut data, &mut input, &mut out, asked);
+    let output = KeyOutput {
+        lines: false,
+        header: true,
+    };
+    let end = run_keys_as(
+        alloc,
+        alloc,
+        &mut table,
+        &mut data,
+        &mut input,
+        &mut out,
+        asked,
+        output,
+        &mut KeySizes::new(),
+    );
     holds(end.is_ok(), "keys with a header")?;
     Ok(out.into_inner())
 }

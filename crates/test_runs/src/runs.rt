@@ -3,7 +3,9 @@
 use std::alloc::{AllocError, Global};
 use std::io::{Read, Write};
 use test_kit::Streams;
-use uca_cli::{RunFault, run_check, run_compare, run_keyed_lines, run_keys, run_sort};
+use uca_cli::{
+    KeyOutput, KeySizes, RunFault, run_check, run_compare, run_keys, run_keys_as, run_sort,
+};
 use uca_weights::{Asked, Depth, Numbers, Sink, Source, Weighting};
 
 /// A run, the weighting that it is asked for, if any, and its depth.
@@ -81,7 +83,14 @@ pub fn run_over<T: Read, D: Read, I: Read, W: Write>(
                 depth,
                 numbers: Numbers::AsText,
             };
-            done(run_keyed_lines(alloc, table, properties, input, out, asked))
+            let output = KeyOutput {
+                lines: true,
+                header: false,
+            };
+            let mut sizes = KeySizes::new();
+            done(run_keys_as(
+                alloc, alloc, table, properties, input, out, asked, output, &mut sizes,
+            ))
         }
         Run::Sort(asked, depth) => done(run_sort(
             alloc, table, properties, input, out, asked, depth,

@@ -1,6 +1,6 @@
 -- What the whole command does: it reads its arguments, opens the files that they name in their order, runs over them,
 -- and ends with a status.
-use Rattle.std.specs.Prelude.{◌≡◌, ◌≢◌, ◌⊎◌, ◌<◌, ℕ, List, [], ◌∷◌, ◌||◌, Bool, true, false, Option, Some, None, Result, Ok, Err, IfErr, is_err, length, option_map, unwrap_or}
+use Rattle.std.specs.Prelude.{◌≡◌, ◌≢◌, ◌⊎◌, ◌<◌, ℕ, List, [], ◌∷◌, ◌||◌, Bool, true, false, Option, Some, None, Result, Ok, Err, IfErr, is_err, is_some, length, option_map, unwrap_or}
 use Rattle.std.specs.Borrow.{Bor}
 use Rattle.std.specs.Global.{Global}
 use Rattle.uca_weights.specs.declared.Asked.{Asked}
@@ -40,11 +40,9 @@ use Rattle.uca_run_parts.specs.declared.faults.RunFault.{RunFault}
 use Rattle.uca_run_parts.specs.declared.key_sizes.KeySizes.{KeySizes}
 use Rattle.uca_run_parts.specs.declared.faults.RunFault.TheVariants.{CertificateWrite, Memory, Open, SameAs, Words, Write}
 use Rattle.uca_run_parts.specs.CheckRun.{Checks}
-use Rattle.uca_key_runs.specs.CompactRun.{PrintsCompactKeys, PrintsCompactLines}
 use Rattle.uca_key_runs.specs.CompareRun.{Compares, comparing}
-use Rattle.uca_key_runs.specs.HeadedCompactRun.{PrintsHeadedCompactKeys, PrintsHeadedCompactLines}
-use Rattle.uca_key_runs.specs.HeadedRun.{PrintsHeadedKeys, PrintsHeadedLines}
-use Rattle.uca_key_runs.specs.KeysRun.{PrintsKeys, PrintsKeyedLines}
+use Rattle.uca_key_runs.specs.KeysRun.{PrintsKeysAs}
+use Rattle.uca_key_runs.specs.declared.runs.KeyOutput.{KeyOutput}
 use Rattle.uca_run_parts.specs.AffectedRun.{PrintsAffected}
 use Rattle.uca_key_runs.specs.SortRun.{SortsLines}
 use Rattle.uca_change_runs.specs.ChangesRun.{FindsChanges}
@@ -117,47 +115,22 @@ DoesCheck files old new words out out_new result =
 abbrev pub asked_for : Option Weighting → Depth → Numbers → Asked
 asked_for weighting depth numbers = record { weighting = weighting; depth = depth; numbers = numbers }
 
--- what `keys` prints: with `--lines` the key of each line and the line, else the key alone; with `--header` a header first
-abbrev pub Prints : Bool → Bool → Asked → List SourceState → List SourceState → SourceState → SourceState
-    → SinkState → SinkState → Result (Unit {0}) RunFault → Type 0
-Prints true false asked olds news input input_new out out_new run =
-    PrintsKeyedLines asked olds news input input_new out out_new run
-Prints false false asked olds news input input_new out out_new run =
-    PrintsKeys asked olds news input input_new out out_new run
-Prints true true asked olds news input input_new out out_new run =
-    PrintsHeadedLines asked olds news input input_new out out_new run
-Prints false true asked olds news input input_new out out_new run =
-    PrintsHeadedKeys asked olds news input input_new out out_new run
+-- a table and a data file, and perhaps a book
+abbrev pub files_with_book : Option (Bor (List ℕ)) → List ℕ → List ℕ → List NamedFile
+files_with_book None table properties = table_and_data table properties
+files_with_book (Some book) table properties = file_for roles.Table table ∷ file_for roles.Data properties ∷ file_for roles.Book book.now ∷ []
 
--- and what it prints with `--compact`: compact keys
-abbrev pub PrintsCompact : Bool → Bool → Asked → List SourceState → List SourceState → SourceState → SourceState
-    → SinkState → SinkState → Result (Unit {0}) RunFault → Type 0
-PrintsCompact true false asked olds news input input_new out out_new run =
-    PrintsCompactLines asked olds news input input_new out out_new run
-PrintsCompact false false asked olds news input input_new out out_new run =
-    PrintsCompactKeys asked olds news input input_new out out_new run
-PrintsCompact true true asked olds news input input_new out out_new run =
-    PrintsHeadedCompactLines asked olds news input input_new out out_new run
-PrintsCompact false true asked olds news input input_new out out_new run =
-    PrintsHeadedCompactKeys asked olds news input input_new out out_new run
+-- what the output of `keys` has beside keys
+abbrev pub output_of : KeysWords → KeyOutput
+output_of words = record { lines = words.lines; header = words.header }
 
--- what `keys` does without `--compact`, and with this book
-abbrev pub DoesKeysBy : {O F M : Type 0} → FileSystem O F M → O → O → KeysWords → Option (Bor (List ℕ)) → Streams → Streams
-    → Result ℕ RunFault → Type 0
-DoesKeysBy files old new words None start end result =
-    OpensAndRuns files old new (table_and_data words.table.now words.properties.now) (end ≡ start)
-    (λ olds news. Ran (done_result {A = Unit {0}})
-    (Prints words.lines words.header (asked_for words.weighting words.depth words.numbers) olds news start.input end.input start.out end.out) result) result
-DoesKeysBy files old new words (Some book) start end result =
-    OpensAndRuns files old new
-    (file_for roles.Table words.table.now ∷ file_for roles.Data words.properties.now ∷ file_for roles.Book book.now ∷ []) (end ≡ start)
-    (λ olds news. Ran (done_result {A = Unit {0}})
-    (PrintsCompact words.lines words.header (asked_for words.weighting words.depth words.numbers) olds news start.input end.input start.out end.out) result) result
-
--- what `keys` does
+-- what `keys` does: with a book it makes compact keys
 abbrev pub DoesKeys : {O F M : Type 0} → FileSystem O F M → O → O → KeysWords → Streams → Streams
     → Result ℕ RunFault → Type 0
-DoesKeys files old new words start end result = DoesKeysBy files old new words words.compact start end result
+DoesKeys files old new words start end result =
+    OpensAndRuns files old new (files_with_book words.compact words.table.now words.properties.now) (end ≡ start)
+    (λ olds news. Ran (done_result {A = Unit {0}})
+    (PrintsKeysAs (output_of words) (is_some words.compact) (asked_for words.weighting words.depth words.numbers) olds news start.input end.input start.out end.out) result) result
 
 -- what `sort` does
 abbrev pub DoesSort : {O F M : Type 0} → FileSystem O F M → O → O → SortWords → Streams → Streams
@@ -175,15 +148,6 @@ DoesCompare files old new words out out_new result =
     (λ olds news. Ran (done_result {A = Unit {0}})
     (Compares (comparing (asked_for words.weighting words.depth words.numbers) words.left.now words.right.now) olds news out out_new) result) result
 
--- a table, a data file and a book
-abbrev pub booked_files : List ℕ → List ℕ → List ℕ → List NamedFile
-booked_files table properties book = file_for roles.Table table ∷ file_for roles.Data properties ∷ file_for roles.Book book ∷ []
-
--- the files that `fingerprint` reads: with `--compact` a book comes last
-abbrev pub fingerprint_files : Option (Bor (List ℕ)) → List ℕ → List ℕ → List NamedFile
-fingerprint_files None table properties = table_and_data table properties
-fingerprint_files (Some book) table properties = booked_files table properties book.now
-
 -- the run of `fingerprint`: with `--compact` it is that of compact keys
 abbrev pub Fingerprinted : Option (Bor (List ℕ)) → Asked → List SourceState → List SourceState
     → SinkState → SinkState → Result (Unit {0}) RunFault → Type 0
@@ -194,7 +158,7 @@ Fingerprinted (Some book) asked olds news out out_new run = PrintsCompactFingerp
 abbrev pub DoesFingerprint : {O F M : Type 0} → FileSystem O F M → O → O → FingerprintWords → SinkState → SinkState
     → Result ℕ RunFault → Type 0
 DoesFingerprint files old new words out out_new result =
-    OpensAndRuns files old new (fingerprint_files words.book words.table.now words.properties.now) (out_new ≡ out)
+    OpensAndRuns files old new (files_with_book words.book words.table.now words.properties.now) (out_new ≡ out)
     (λ olds news. Ran (done_result {A = Unit {0}})
     (Fingerprinted words.book (asked_for words.weighting words.depth words.numbers) olds news out out_new) result) result
 
@@ -397,10 +361,17 @@ DoesWords files old new (Book words) start end result =
 DoesWords files old new (Fingerprint words) start end result =
     (end.input ≡ start.input) × DoesFingerprint files old new words start.out end.out result
 
--- how the command ends after a run: with its status, or with what its error reports, and perhaps a line of help after it
-abbrev pub EndsWith : Result ℕ RunFault → ℕ → SinkState → SinkState → SinkState → SinkState → Type 0
-EndsWith (Ok done) status out out_new err err_new = (status ≡ done) × (out_new ≡ out) × (err_new ≡ err)
-EndsWith (Err fault) status out out_new err err_new = (told : SinkState)
+-- whether a line of help may follow a run that was done: compact keys may say that their book does not fit
+abbrev pub may_advise : WordsType → Bool
+may_advise (Keys words) = is_some words.compact
+may_advise (Compact words) = true
+may_advise _ = false
+
+-- how the command ends after a run: with its status, or with what its error reports; and perhaps a line of help after it
+abbrev pub EndsWith : Result ℕ RunFault → (advises : Bool) → ℕ → SinkState → SinkState → SinkState → SinkState → Type 0
+EndsWith (Ok done) false status out out_new err err_new = (status ≡ done) × (out_new ≡ out) × (err_new ≡ err)
+EndsWith (Ok done) true status out out_new err err_new = (status ≡ done) × (out_new ≡ out) × Helps err err_new
+EndsWith (Err fault) advises status out out_new err err_new = (told : SinkState)
     × IsStatus fault status × Reports fault status out out_new err told × Helps told err_new
 
 -- The arguments are rejected, and nothing is opened or read; or what they say is done. `err` is standard error.
@@ -408,7 +379,7 @@ abbrev pub DoesCommand : {O F M : Type 0} → FileSystem O F M → O → O → L
     → SinkState → SinkState → ℕ → Type 0
 DoesCommand files old new words start end err err_new status =
     ((fault : WordFault) × IsFaultOf words fault × (new ≡ old) × (end.input ≡ start.input)
-    × EndsWith (Err (Words fault)) status start.out end.out err err_new)
+    × EndsWith (Err (Words fault)) false status start.out end.out err err_new)
     ⊎ ((said : WordsType) × (run : Result ℕ RunFault) × (out_between : SinkState) × AreRead words said
     × DoesWords files old new said start (streams end.input out_between) run
-    × EndsWith run status out_between end.out err err_new)
+    × EndsWith run (may_advise said) status out_between end.out err err_new)

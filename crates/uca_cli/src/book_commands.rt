@@ -12,6 +12,7 @@ use uca_book_runs::run_book;
 use uca_host::Opens;
 use uca_host::files::opening::{open_one, open_two};
 use uca_rekey::{run_compact, run_expand};
+use uca_run_parts::KeySizes;
 use uca_run_parts::faults::{Role, RunFault};
 use uca_weights::{Sink, Source, Weighting};
 use uca_words::{BookImageWords, BookWords};
@@ -22,6 +23,7 @@ pub(crate) fn compact<O: Opens, I: Read, W: Write>(
     words: &BookWords,
     input: &mut Source<I>,
     out: &mut Sink<W>,
+    sizes: &mut KeySizes,
 ) -> Result<u8, RunFault>
     ensures { DoesCompact (file_system O.calls O.File.remaining O.Made.contents)
         opener.old opener.new words.now (streams input.old out.old) (streams input.new out.new) result }
@@ -29,7 +31,7 @@ pub(crate) fn compact<O: Opens, I: Read, W: Write>(
     match open_one(opener, Role::Book, words.book) {
         Ok(mut book) => {
             let weighting = words.weighting.unwrap_or(Weighting::Shifted);
-            done(run_compact(
+            let run = run_compact(
                 alloc,
                 &mut book,
                 input,
@@ -37,7 +39,11 @@ pub(crate) fn compact<O: Opens, I: Read, W: Write>(
                 weighting,
                 words.depth,
                 words.keys,
-            ))
+            );
+            if let Ok(made) = &run {
+                *sizes = made.at(weighting, words.depth);
+            }
+            done(run)
         }
         Err(role) => Err(RunFault::Open(role)),
     }

@@ -1,15 +1,15 @@
 //! The command: it reads its arguments, opens the files that they name, and calls the run.
 
-ghost use Rattle.std.specs.Prelude.{None, ◌∷◌, [], ⊤, ℕ, Bool, List, Result, ◌≡◌};
+ghost use Rattle.std.specs.Prelude.{false, ◌∷◌, [], ⊤, ℕ, Bool, List, Result, ◌≡◌};
 ghost use Rattle.clap.specs.Walk.{texts};
-ghost use Rattle.uca_cli.specs.Command.{DoesAffected, DoesAudit, DoesCheck, DoesCommand, DoesCompare, DoesKeys, DoesKeysBy, DoesSort, DoesTailor, DoesWords, EndsWith, KeepsAndPrints, KeepsMade, MakesOpened, Prints, PrintsLines, asked_for, files_of_tailor, made_table, streams};
+ghost use Rattle.uca_cli.specs.Command.{DoesAffected, DoesAudit, DoesCheck, DoesCommand, DoesCompare, DoesSort, DoesTailor, DoesWords, EndsWith, KeepsAndPrints, KeepsMade, MakesOpened, PrintsLines, asked_for, files_of_tailor, made_table, may_advise, streams};
 ghost use Rattle.uca_host.specs.NamedFiles.{affected_role, file_system};
 ghost use Rattle.uca_tailor_runs.specs.TailorRun.{TailorsFiles};
 
 use crate::book_commands::{compact, expand, print_book};
 use crate::change_commands::{audit_changes, changes, rekey};
-use crate::compact_keys::keys_by_book;
 use crate::fingerprint_commands::fingerprint;
+use crate::key_commands::keys;
 use crate::printing::print_table;
 use crate::statuses::{checked, done};
 use std::alloc::Global;
@@ -18,18 +18,15 @@ use uca_certificates::Certificate;
 use uca_change_runs::run_affected_by_changes;
 use uca_host::files::keeping::{find_certificate, keep_certificate};
 use uca_host::files::opening::{open_audit_files, open_files, open_three, open_two};
-use uca_host::{Opens, report, write_help};
-use uca_key_runs::{
-    run_compare_in, run_headed_keys, run_headed_lines, run_keyed_lines, run_keys_in, run_sort_in,
-};
+use uca_host::{Opens, report, write_book_help, write_help};
+use uca_key_runs::{run_compare_in, run_sort_in};
 use uca_run_parts::faults::{Role, RunFault};
-use uca_run_parts::{run_affected, run_check};
+use uca_run_parts::{KeySizes, run_affected, run_check};
 use uca_tailor_runs::{run_audit, run_tailor};
 use uca_values::Table;
 use uca_weights::{Asked, Depth, Numbers, Sink, Source, Weighting};
 use uca_words::{
-    AffectedWords, AuditWords, CheckWords, CompareWords, KeysWords, SortWords, TailorWords, Words,
-    read_words,
+    AffectedWords, AuditWords, CheckWords, CompareWords, SortWords, TailorWords, Words, read_words,
 };
 
 fn check<O: Opens, W: Write>(
@@ -46,67 +43,6 @@ fn check<O: Opens, W: Write>(
             checked(run_check(alloc, &mut table, &mut properties, out))
         }
         Err(role) => Err(RunFault::Open(role)),
-    }
-}
-
-fn keys<O: Opens, I: Read, W: Write>(
-    alloc: Global,
-    opener: &mut O,
-    words: &KeysWords,
-    input: &mut Source<I>,
-    out: &mut Sink<W>,
-) -> Result<u8, RunFault>
-    ensures { DoesKeys (file_system O.calls O.File.remaining O.Made.contents)
-        opener.old opener.new words.now (streams input.old out.old) (streams input.new out.new) result }
-{
-    match words.compact {
-        Some(book) => keys_by_book(alloc, opener, words, book, input, out),
-        None => whole_keys(alloc, opener, words, input, out),
-    }
-}
-
-// `keys` without a book.
-fn whole_keys<O: Opens, I: Read, W: Write>(
-    alloc: Global,
-    opener: &mut O,
-    words: &KeysWords,
-    input: &mut Source<I>,
-    out: &mut Sink<W>,
-) -> Result<u8, RunFault>
-    ensures { DoesKeysBy (file_system O.calls O.File.remaining O.Made.contents)
-        opener.old opener.new words.now None (streams input.old out.old) (streams input.new out.new) result }
-{
-    match open_files(opener, words.table, words.properties) {
-        Ok((mut table, mut properties)) => {
-            done(print(alloc, words, &mut table, &mut properties, input, out))
-        }
-        Err(role) => Err(RunFault::Open(role)),
-    }
-}
-
-// The run of `keys`: with or without the lines, and with or without a header.
-fn print<T: Read, D: Read, I: Read, W: Write>(
-    alloc: Global,
-    words: &KeysWords,
-    table: &mut Source<T>,
-    properties: &mut Source<D>,
-    input: &mut Source<I>,
-    out: &mut Sink<W>,
-) -> Result<(), RunFault>
-    ensures { Prints words.now.lines words.now.header (asked_for words.now.weighting words.now.depth words.now.numbers)
-        (table.old ∷ properties.old ∷ []) (table.new ∷ properties.new ∷ []) input.old input.new out.old out.new result }
-{
-    let asked = asked_for(words.weighting, words.depth, words.numbers);
-    if words.lines {
-        if words.header {
-            run_headed_lines(alloc, table, properties, input, out, asked)
-        } else {
-            run_keyed_lines(alloc, table, properties, input, out, asked)
-        }
-    } else if words.header {
-        run_headed_keys(alloc, table, properties, input, out, asked)
-    } else {
-        run_keys_in(alloc, alloc, table, properties, input, out, asked)
     }
 }
 
@@ -344,20 +280,22 @@ fn print_lines<D: Read, U: Read, I: Read, W: Write>(
     }
 }
 
-// Does what the arguments say, and returns the status of what was done.
+// Does what the arguments say, and returns the status of what was done. `sizes` gets the bytes of keys and of their compact keys, where
+// these are made.
 fn run_words<O: Opens, I: Read, W: Write>(
     alloc: Global,
     opener: &mut O,
     asked: &Words,
     input: &mut Source<I>,
     out: &mut Sink<W>,
+    sizes: &mut KeySizes,
 ) -> Result<u8, RunFault>
     ensures { DoesWords (file_system O.calls O.File.remaining O.Made.contents)
         opener.old opener.new asked.now (streams input.old out.old) (streams input.new out.new) result }
 {
     match asked {
         Words::Check(words) => check(alloc, opener, words, out),
-        Words::Keys(words) => keys(alloc, opener, words, input, out),
+        Words::Keys(words) => keys(alloc, opener, words, input, out, sizes),
         Words::Sort(words) => sort(alloc, opener, words, input, out),
         Words::Compare(words) => compare(alloc, opener, words, out),
         Words::Tailor(words) => tailor(alloc, opener, words, out),
@@ -366,39 +304,68 @@ fn run_words<O: Opens, I: Read, W: Write>(
         Words::Changes(words) => changes(alloc, opener, words, out),
         Words::AuditChanges(words) => audit_changes(alloc, opener, words, out),
         Words::Rekey(words) => rekey(alloc, opener, words, input, out),
-        Words::Compact(words) => compact(alloc, opener, words, input, out),
+        Words::Compact(words) => compact(alloc, opener, words, input, out, sizes),
         Words::Expand(words) => expand(alloc, opener, words, input, out),
         Words::Book(words) => print_book(alloc, opener, words, out),
         Words::Fingerprint(words) => fingerprint(alloc, opener, words, out),
     }
 }
 
-// The status that the command ends with after a run. It reports an error, and says what to do. The arguments, if they
-// are known, name the files.
+// Whether a line of help may follow a run that was done.
+fn may_advise(asked: &Words) -> bool
+    ensures { result ≡ may_advise asked.now }
+{
+    match asked {
+        Words::Keys(words) => words.compact.is_some(),
+        Words::Compact(_) => true,
+        _ => false,
+    }
+}
+
+// The status that the command ends with after a run with these arguments. It says where compact keys are long, or reports an error and says what
+// to do.
 fn status_of<W: Write, E: Write>(
     alloc: Global,
     run: Result<u8, RunFault>,
+    asked: &Words,
+    sizes: &KeySizes,
+    out: &mut Sink<W>,
+    err: &mut Sink<E>,
+) -> u8
+    ensures { EndsWith run (may_advise asked.now) result out.old out.new err.old err.new }
+{
+    match run {
+        Ok(status) => {
+            if may_advise(asked) {
+                write_book_help(alloc, sizes, err);
+            }
+            status
+        }
+        Err(fault) => status_after(alloc, fault, Some(asked), out, err),
+    }
+}
+
+// The status after an error, which is reported. The arguments, if they are known, name the files.
+fn status_after<W: Write, E: Write>(
+    alloc: Global,
+    fault: RunFault,
     asked: Option<&Words>,
     out: &mut Sink<W>,
     err: &mut Sink<E>,
 ) -> u8
-    ensures { EndsWith run result out.old out.new err.old err.new }
+    ensures { EndsWith (Err fault) false result out.old out.new err.old err.new }
 {
-    match run {
-        Ok(status) => status,
-        Err(fault) => {
-            let status = report(alloc, &fault, out, err);
-            write_help(alloc, &fault, asked, err);
-            drop(fault);
-            status
-        }
-    }
+    let status = report(alloc, &fault, out, err);
+    write_help(alloc, &fault, asked, err);
+    drop(fault);
+    status
 }
 
 /// Runs a command line, whose first argument is the program's name, and returns the exit status. It reads the
 /// arguments, opens all files that they name, in the order of the arguments, and then runs over them. It reports an
 /// error, and says in a line after it what to do. If it rejects the arguments, it opens and reads nothing. It does the
-/// same if `tailor` or `changes` is to write the certificate over a file that it reads. No other command makes a file.
+/// same if `tailor` or `changes` is to write the certificate over a file that it reads. No other command makes a file. Where compact keys
+/// are long, a line of help says so.
 pub fn run_command<'a, O: Opens, I: Read, W: Write, E: Write>(
     alloc: Global,
     opener: &mut O,
@@ -412,9 +379,10 @@ pub fn run_command<'a, O: Opens, I: Read, W: Write, E: Write>(
 {
     match read_words(alloc, words) {
         Ok(asked) => {
-            let run = run_words(alloc, opener, &asked, input, out);
-            status_of(alloc, run, Some(&asked), out, err)
+            let mut sizes = KeySizes::new();
+            let run = run_words(alloc, opener, &asked, input, out, &mut sizes);
+            status_of(alloc, run, &asked, &sizes, out, err)
         }
-        Err(fault) => status_of(alloc, Err(RunFault::Words(fault)), None, out, err),
+        Err(fault) => status_after(alloc, RunFault::Words(fault), None, out, err),
     }
 }

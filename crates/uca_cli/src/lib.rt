@@ -6,8 +6,8 @@
 mod book_commands;
 mod change_commands;
 pub mod command;
-mod compact_keys;
 mod fingerprint_commands;
+mod key_commands;
 mod printing;
 mod statuses;
 
@@ -20,17 +20,15 @@ pub use uca_change_runs::{
 pub use uca_fingerprint_runs::{run_compact_fingerprint, run_fingerprint};
 pub use uca_host::{MakeFault, OpenFault, Opens, STREAM_FAILED, report};
 pub use uca_key_runs::{
-    affected_texts_are_the_others, canonically_equivalent_lines_have_one_key_line, compare_words,
-    identical_line_keys_are_of_equivalent_lines, key_order_is_one, line_keys_compare_as_lines,
-    run_compact_keys, run_compact_lines, run_compare, run_compare_in, run_headed_compact_keys,
-    run_headed_compact_lines, run_headed_keys, run_headed_keys_in, run_headed_lines,
-    run_headed_lines_in, run_keyed_lines, run_keyed_lines_in, run_keys, run_keys_in, run_sort,
-    run_sort_in, sort_lines, untouched_lines_keep_their_order,
+    KeyOutput, affected_texts_are_the_others, canonically_equivalent_lines_have_one_key_line,
+    compare_words, identical_line_keys_are_of_equivalent_lines, key_order_is_one,
+    line_keys_compare_as_lines, run_compact_keys, run_compare, run_compare_in, run_keys,
+    run_keys_as, run_sort, run_sort_in, sort_lines, untouched_lines_keep_their_order,
 };
 pub use uca_rekey::{lines_move_with_keys, run_compact, run_expand, run_rekey};
 pub use uca_run_parts::{
-    Affects, FileFault, InputKind, Role, RunFault, StoredKeyKind, print_affected, run_affected,
-    run_affected_in, run_check,
+    Affects, FileFault, InputKind, KeySizes, Role, RunFault, StoredKeyKind, print_affected,
+    run_affected, run_affected_in, run_check,
 };
 pub use uca_tailor_runs::{run_audit, run_audit_in, run_tailor, run_tailor_in, write_tailored};
 pub use uca_words::{

@@ -1,4 +1,5 @@
-//! `write_help`: the line that follows the line of an error, and says what to do.
+//! `write_help`: the line that follows the line of an error, and says what to do. `write_book_help`: the line that says that compact
+//! keys are long.
 //!
 //! What is proved is that nothing is written, or one line that begins with `help: `. What it says is tested only. `sentences`
 //! has what is said of each error, and `names` the name of the file that it is about.
@@ -10,10 +11,11 @@ mod names;
 mod sentences;
 
 use crate::help::names::name_of;
-use crate::help::sentences::advice_on;
+use crate::help::sentences::{LONG_COMPACT_KEYS, advice_on};
 use crate::reports::show;
 use std::alloc::{AllocError, Global};
 use std::io::Write;
+use uca_run_parts::KeySizes;
 use uca_run_parts::faults::{Role, RunFault};
 use uca_weights::Sink;
 use uca_words::Words;
@@ -50,7 +52,17 @@ fn line_of(alloc: Global, text: &str) -> Result<String, AllocError>
     Ok(line)
 }
 
-// The line of help for an error, if there is a way out. There is none where the name of the file has an LF.
+// The line of help of this text, which is none if it has an LF, as the name of a file may have.
+fn checked_line(alloc: Global, text: &str) -> Result<Option<String>, AllocError>
+    ensures { IfOk result (λ found. IfSome found (λ line. IsHelp (string_bytes line))) }
+{
+    if text.as_bytes().contains(&b'\n') {
+        return Ok(None);
+    }
+    Ok(Some(line_of(alloc, text)?))
+}
+
+// The line of help for an error, if there is a way out.
 fn help_of(
     alloc: Global,
     fault: &RunFault,
@@ -62,10 +74,7 @@ fn help_of(
         return Ok(None);
     };
     let text = text_of(alloc, &advice, words)?;
-    if text.as_str().as_bytes().contains(&b'\n') {
-        return Ok(None);
-    }
-    Ok(Some(line_of(alloc, text.as_str())?))
+    checked_line(alloc, text.as_str())
 }
 
 /// Writes what to do about an error to `err`, after the line of the error, where there is a way out. The names of files are
@@ -82,6 +91,19 @@ pub fn write_help<E: Write>(
         return;
     }
     if let Ok(Some(line)) = help_of(alloc, fault, words) {
+        show(line.as_str().as_bytes(), err);
+    }
+}
+
+/// Writes to `err` that compact keys are long, if a book for their table and texts would make shorter ones. It writes nothing if `err` has
+/// failed, or if an allocation fails.
+pub fn write_book_help<E: Write>(alloc: Global, sizes: &KeySizes, err: &mut Sink<E>)
+    ensures { Helps err.old err.new }
+{
+    if !sizes.are_long() || err.failed() {
+        return;
+    }
+    if let Ok(Some(line)) = checked_line(alloc, LONG_COMPACT_KEYS) {
         show(line.as_str().as_bytes(), err);
     }
 }

@@ -11,5 +11,5 @@ pub mod reports;
 pub mod standard_streams;
 
 pub use files::opens::{MakeFault, OpenFault, Opens};
-pub use help::write_help;
+pub use help::{write_book_help, write_help};
 pub use reports::{DONE, NO_MEMORY, REFUSED, STREAM_FAILED, WRONG_WORDS, report};

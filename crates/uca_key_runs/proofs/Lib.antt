@@ -8,7 +8,9 @@ pub mod UntouchedLines
 pub mod OneOrder
 pub mod KeyRuns
 pub mod Comparing
-pub mod HeadedRuns
+pub mod ShortOutput
+pub mod SummedFiles
+pub mod KeyHeaders
 pub mod SortRuns
 pub mod KeptText
 pub mod KeyOrdering

@@ -1,12 +1,11 @@
 -- What is read of a line without an error is in Normalization Form D, within the limits, and of Unicode scalar values.
-use Rattle.std.proofs.Common.{◌≡◌, ℕ, ◌≤◌, Bool, true, false, List, [], ◌∷◌, length, chars, Option, Some, None, option_map, nat_lt, nat_le, refl}
-use Rattle.std.proofs.lemmas.Bool.{and_parts, ltb-false}
+use Rattle.std.proofs.Common.{◌≡◌, ℕ, ◌≤◌, Bool, true, false, List, length, chars, Option, Some, None, option_map, nat_lt, nat_le, refl}
+use Rattle.std.proofs.lemmas.Bool.{ltb-false}
 use Rattle.std.proofs.lemmas.List.{length-map}
 use Rattle.std.proofs.lemmas.Str.{IsUtf8-from_is_utf8, scalars-chars}
 use Rattle.std.specs.Char.{IsScalar}
-use Rattle.std.specs.List.{list_all, AllByRecursion}
+use Rattle.std.specs.List.{AllByRecursion}
 use Rattle.std.specs.Str.{IsUtf8, is_utf8}
-use lib.Utf8.{scalar}
 use Rattle.unicode_normalization.specs.Forms.{nfd}
 use Rattle.uca_scalars.proofs.NfdScalars.{each_nfd_scalar}
 use Rattle.uca_weights.specs.declared.Numbers.{Numbers}

@@ -1,8 +1,5 @@
 pub mod Keys
 pub mod KeysRun
-pub mod HeadedRun
-pub mod CompactRun
-pub mod HeadedCompactRun
 pub mod CompareRun
 pub mod SortRun
 pub mod Laws

@@ -1,6 +1,5 @@
 pub mod Collations
-pub mod CompactParts
-pub mod HeadedParts
+pub mod KeyParts
 pub mod KeptLines
 pub mod KeyForms
 pub mod SortSoFar

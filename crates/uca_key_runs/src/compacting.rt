@@ -16,6 +16,7 @@ use std::marker::Model;
 use uca_books::Book;
 use uca_compact::{KeyCompacter, LevelBytes};
 use uca_key_writer::KeyLevels;
+use uca_run_parts::KeySizes;
 use uca_weights::Settings;
 
 /// Makes compact keys of keys, in memory that is used again for each.
@@ -23,6 +24,7 @@ use uca_weights::Settings;
 pub(crate) struct Compacting<A: Allocator> {
     compacter: KeyCompacter<A>,
     key: Vec<u8, A>,
+    sizes: KeySizes,
 }
 
 impl<A: Allocator> Model for Compacting<A> {
@@ -43,7 +45,10 @@ impl<A: Allocator> Compacting<A> {
     {
         // The key is one of the settings, so it has a compact key.
         match self.compacter.write_compact(key, &mut self.key) {
-            Ok(_) => Ok(()),
+            Ok(_) => {
+                self.sizes.add(key.len(), self.key.len());
+                Ok(())
+            }
             Err(error) => Err(error),
         }
     }
@@ -66,7 +71,27 @@ impl<A: Allocator> Compacting<A> {
             cases: levels.tertiary,
             variables: levels.quaternary,
         };
-        self.compacter.write_levels(&levels, &mut self.key)
+        match self.compacter.write_levels(&levels, &mut self.key) {
+            Ok(()) => {
+                self.sizes.add(levels_len(&levels), self.key.len());
+                Ok(())
+            }
+            Err(error) => Err(error),
+        }
+    }
+}
+
+// The bytes of a key with these levels: two are between two levels.
+fn levels_len(levels: &LevelBytes<'_>) -> usize {
+    let first = levels.letters.len().saturating_add(levels.accents.len());
+    let later = levels.cases.len().saturating_add(levels.variables.len());
+    first.saturating_add(later).saturating_add(4)
+}
+
+/// Counts the bytes of the keys and of the compact keys that were made, if compact keys are shown.
+pub(crate) fn count_keys<A: Allocator>(sizes: &mut KeySizes, compacting: &Option<Compacting<A>>) {
+    if let Some(compacting) = compacting {
+        *sizes = compacting.sizes;
     }
 }
 
@@ -83,6 +108,7 @@ pub(crate) fn compacting_by<A: Allocator + Copy>(
         Some(book) => Some(Compacting {
             compacter: KeyCompacter::new(alloc, book, settings),
             key: Vec::new(alloc),
+            sizes: KeySizes::new().at(settings.weighting, settings.depth),
         }),
         None => None,
     }

@@ -1,8 +1,7 @@
-//! The run that prints the sort key of each line.
+//! What a run of keys writes: the line of output of each line of its input.
 
 ghost use Rattle.std.specs.Prelude.{◌≡◌, ◌∷◌, [], ℕ, ◌+◌, ◌-◌, ◌*◌, ◌^◌, ◌<◌, ◌≤◌, ◌||◌, true, false, List, Option, IfErr, IfOk, IfSome, OnOk, length, chars};
 ghost use Rattle.std.specs.Bool.{OnTrue};
-ghost use Rattle.uca_weights.specs.AskedSettings.{as_text};
 ghost use Rattle.uca_lines.specs.OutputBuffer.{IsBuffered};
 ghost use Rattle.uca_lines.specs.Buffered.{HasRoom, WritesThrough};
 ghost use Rattle.unicode_normalization.specs.Forms.{nfd};
@@ -16,14 +15,12 @@ ghost use Rattle.uca_key_runs.specs.Keys.{keying_at, keying_of_writer};
 ghost use Rattle.uca_run_parts.specs.Runs.{is_input_read, ended_by_output};
 ghost use Rattle.uca_run_parts.specs.EachLine.{WritesEach, ended_before_input};
 ghost use Rattle.uca_run_parts.specs.EachLineSoFar.{HasWritten, WritesText, WritesRest};
-ghost use Rattle.uca_key_runs.specs.KeysRun.{PrintsKeys};
 ghost use Rattle.uca_run_parts.specs.Input.{cause_of};
 ghost use Rattle.uca_run_parts.specs.Texts.{HasRead, HasTextCause, ReadsCleanLine, is_read};
 ghost use Rattle.uca_key_runs.specs.inside.KeyForms;
-ghost use Rattle.uca_key_runs.specs.inside.KeyForms.{IsFor, MakesKeys, PrintsAs, book_of, compacter_of, depth_as, line_as, printed_as, shown_at, shown_of};
+ghost use Rattle.uca_key_runs.specs.inside.KeyForms.{IsFor, MakesKeys, book_of, compacter_of, depth_as, line_as, printed_as, shown_at, shown_of};
 
-use crate::collations::read_collation;
-use crate::compacting::{Compacting, compact_shown, compacting_by, shown};
+use crate::compacting::{Compacting, compact_shown, compacting_by, count_keys, shown};
 use crate::line_keys::{write_line_key, write_line_levels};
 use std::alloc::{Allocator, Global};
 use std::io::{Read, Write};
@@ -31,12 +28,13 @@ use uca_books::Book;
 use uca_elements::{Collator, Lookup};
 use uca_key_writer::KeyWriter;
 use uca_lines::{LINE_LIMIT, OutputBuffer};
+use uca_run_parts::KeySizes;
 use uca_run_parts::faults::{InputKind, RunFault};
 use uca_run_parts::input::InputLines;
 use uca_run_parts::output::end_output;
 use uca_run_parts::print::{KeyDigits, print_digits, print_key, print_keyed_line};
 use uca_text::decompose;
-use uca_weights::{Asked, Depth, Settings, Sink, Source, Weighting, WriteFault};
+use uca_weights::{Depth, Settings, Sink, Source, WriteFault};
 
 /// What the output has of a line of the input.
 #[derive(Clone, Copy)]
@@ -357,7 +355,8 @@ impl<'a, L: Lookup, T: Allocator, A: Allocator> KeyRun<'a, L, T, A> {
     }
 }
 
-/// Writes what the output has of each line of the input, until its end or its first line with an error.
+/// Writes what the output has of each line of the input, until its end or its first line with an error. `sizes` gets the bytes of the keys
+/// and of the compact keys, where these are made.
 ///
 /// # Errors
 ///
@@ -372,6 +371,7 @@ pub(crate) fn print_lines<L: Lookup, T: Allocator, A: Allocator + Copy, I: Read,
     book: Option<Book<A>>,
     input: &mut Source<I>,
     out: &mut Sink<W>,
+    sizes: &mut KeySizes,
 ) -> Result<(), RunFault>
     requires { HasShortRows (collation_of L.content collator.now).rows }
     ensures writes { IfSome input.old.remaining (λ bytes.
@@ -398,102 +398,7 @@ pub(crate) fn print_lines<L: Lookup, T: Allocator, A: Allocator + Copy, I: Read,
     };
     let end = run.print_rest(form, depth, input, out);
     let end = end_output(&mut run.output, out, end);
+    count_keys(sizes, &run.compacting);
     drop(run);
     end
-}
-
-/// Prints the sort key of each line of `input`, under the table and the data file that are read first.
-/// The weighting is the one that is asked for, or else that of the table's `@variable`, or else shifted (UTS #10,
-/// section 4). At the depth `Identical` the code points of Normalization Form D follow as one more level, six digits
-/// each.
-///
-/// # Errors
-///
-/// - `File`: the table, or else the data file, is rejected. Nothing was written, and nothing of the input was read.
-/// - `Memory`: an allocation failed for looking up rows. Nothing was written, and nothing of the input was read.
-/// - `Input`: the first line with an error, if the keys of the lines before it were written.
-/// - `Write`: the writer failed, also if a later line has an error. The first `written` bytes of the whole output
-///   went out.
-pub fn run_keys<T: Read, D: Read, I: Read, W: Write>(
-    alloc: Global,
-    table: &mut Source<T>,
-    properties: &mut Source<D>,
-    input: &mut Source<I>,
-    out: &mut Sink<W>,
-    weighting: Option<Weighting>,
-    depth: Depth,
-) -> Result<(), RunFault>
-    ensures { PrintsKeys (as_text weighting depth) (table.old ∷ properties.old ∷ []) (table.new ∷ properties.new ∷ [])
-        input.old input.new out.old out.new result }
-{
-    run_keys_in(
-        alloc,
-        alloc,
-        table,
-        properties,
-        input,
-        out,
-        Asked::as_text(weighting, depth),
-    )
-}
-
-/// As [`run_keys`], with the two files, the trie, the lines and the keys in memory of any allocator, and with numbers by
-/// value where this is asked for. Texts in Normalization Form D are in `global`.
-///
-/// # Errors
-///
-/// Those of [`run_keys`]. `Digits` comes after those of the files, if numbers are to be ordered by value and the table does
-/// not order them. Then nothing was written, and nothing of the input was read.
-pub fn run_keys_in<A: Allocator + Copy, T: Read, D: Read, I: Read, W: Write>(
-    alloc: A,
-    global: Global,
-    table: &mut Source<T>,
-    properties: &mut Source<D>,
-    input: &mut Source<I>,
-    out: &mut Sink<W>,
-    asked: Asked,
-) -> Result<(), RunFault>
-    ensures { PrintsKeys asked (table.old ∷ properties.old ∷ []) (table.new ∷ properties.new ∷ [])
-        input.old input.new out.old out.new result }
-{
-    let form = KeyForm::Alone;
-    run_lines_in(alloc, global, form, table, properties, input, out, asked)
-}
-
-/// Writes what the output has of each line of `input`, under the table and the data file that are read first.
-///
-/// # Errors
-///
-/// Those of [`run_keys_in`].
-pub(crate) fn run_lines_in<A: Allocator + Copy, T: Read, D: Read, I: Read, W: Write>(
-    alloc: A,
-    global: Global,
-    form: KeyForm,
-    table: &mut Source<T>,
-    properties: &mut Source<D>,
-    input: &mut Source<I>,
-    out: &mut Sink<W>,
-    asked: Asked,
-) -> Result<(), RunFault>
-    ensures { PrintsAs form asked (table.old ∷ properties.old ∷ []) (table.new ∷ properties.new ∷ [])
-        input.old input.new out.old out.new result }
-{
-    match read_collation(alloc, table, properties, asked) {
-        Ok(read) => {
-            let collator = read.collation.collator();
-            let end = print_lines(
-                alloc,
-                global,
-                &collator,
-                read.settings,
-                form,
-                None,
-                input,
-                out,
-            );
-            drop(read);
-            end
-        }
-        Err(fault) => Err(fault),
-    }
 }

@@ -18,26 +18,20 @@
 #![tactic(auto)]
 
 mod collations;
-pub mod compact;
 mod compacting;
 pub mod compare;
-pub mod headed;
-pub mod headed_compact;
-pub mod keyed_lines;
-pub mod keys;
+mod key_files;
+mod keys;
 pub mod laws;
 mod line_keys;
+pub mod runs;
 pub mod sort;
 
-pub use compact::{run_compact_keys, run_compact_lines};
 pub use compare::{compare_words, run_compare, run_compare_in};
-pub use headed::{run_headed_keys, run_headed_keys_in, run_headed_lines, run_headed_lines_in};
-pub use headed_compact::{run_headed_compact_keys, run_headed_compact_lines};
-pub use keyed_lines::{run_keyed_lines, run_keyed_lines_in};
-pub use keys::{run_keys, run_keys_in};
 pub use laws::{
     affected_texts_are_the_others, canonically_equivalent_lines_have_one_key_line,
     identical_line_keys_are_of_equivalent_lines, key_order_is_one, line_keys_compare_as_lines,
     numbers_order_lines, untouched_lines_keep_their_order,
 };
+pub use runs::{KeyOutput, run_compact_keys, run_keys, run_keys_as};
 pub use sort::{run_sort, run_sort_in, sort_lines};

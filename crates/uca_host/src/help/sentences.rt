@@ -17,6 +17,10 @@ const TOO_LONG: &str =
 
 const LONG_RUN: &str = "look for damaged text there: at most 64 combining marks come in a row";
 
+/// What is said where compact keys are long.
+pub(crate) const LONG_COMPACT_KEYS: &str =
+    "the compact keys are long by this book: uca-files --book TAG makes one for the table of a language";
+
 const OTHER_FILE: &str = "Is it another file?";
 
 const IS_BEGUN: &str =

@@ -1,25 +1,18 @@
 -- The forms of a line of output that has a key.
-use Rattle.std.specs.Prelude.{◌≡◌, ℕ, List, Bool, true, false, Option, Some, None, option_map, Result, ⊤, chars}
-use Rattle.uca_weights.specs.declared.Asked.{Asked}
+use Rattle.std.specs.Prelude.{◌≡◌, ℕ, List, Bool, true, false, Option, Some, None, option_map, ⊤, chars}
 use Rattle.uca_weights.specs.declared.Settings.{Settings}
-use Rattle.uca_weights.specs.Streams.{SourceState, SinkState}
 use Rattle.uca_weights.specs.declared.Weighting.{Weighting}
 use Rattle.uca_weights.specs.declared.Depth.{Depth}
 use Rattle.uca_weights.specs.declared.Depth.TheVariants.{Weights, Identical}
 use Rattle.uca_books.specs.Books.{BookContent}
 use Rattle.uca_order.specs.Depths.{ReadText, read_points, key_at}
 use Rattle.uca_order.specs.Lengths.{HasShortRows}
-use Rattle.uca_run_parts.specs.declared.faults.RunFault.{RunFault}
 use Rattle.uca_key_runs.specs.declared.keys.KeyForm.{KeyForm}
 use Rattle.uca_key_runs.specs.declared.keys.KeyForm.TheVariants.{Alone, Digits, BeforeLine}
-use Rattle.uca_run_parts.specs.EachLine.{PrintsEach}
-use Rattle.uca_run_parts.specs.Files.{table_and_data, table_and_data_roles}
 use Rattle.uca_order.specs.Keyings.{Keying}
-use Rattle.uca_key_runs.specs.KeysRun.{RunsUnder}
 use Rattle.uca_run_parts.specs.Print.{print_line_at, digits_line_of, keyed_line_of}
 use Rattle.uca_compact.specs.CompactKeys.{compact_key, text_parts}
 use Rattle.uca_compact.specs.Programs.{CompacterState}
-use Rattle.uca_key_runs.specs.CompactRun.{RunsCompact, compact_files, compact_roles}
 
 -- the depth of the key that is made for a form: a key alone shows its identical level otherwise than the weights
 abbrev pub depth_as : KeyForm → Depth → Depth
@@ -53,19 +46,6 @@ text_as form book c text line =
 -- that of a line of the input, which is UTF-8
 abbrev pub line_as : KeyForm → Option BookContent → Keying → List ℕ → List ℕ
 line_as form book c line = text_as form book c (read_points c.collation c.settings.numbers (chars line)) line
-
--- a run that writes such a line for each line of its input
-abbrev pub PrintsAs : {A : Type 0} → KeyForm → Asked → List SourceState → List SourceState → SourceState → SourceState
-    → SinkState → SinkState → Result A RunFault → Type 0
-PrintsAs form asked olds news input input_new out out_new result =
-    PrintsEach table_and_data table_and_data_roles (RunsUnder (line_as form None) asked input input_new out out_new result) olds news input input_new out out_new result
-
--- a run that writes such a line with a compact key
-abbrev pub PrintsCompactAs : {A : Type 0} → KeyForm → Asked → List SourceState → List SourceState → SourceState → SourceState
-    → SinkState → SinkState → Result A RunFault → Type 0
-PrintsCompactAs form asked olds news input input_new out out_new result =
-    PrintsEach compact_files compact_roles (RunsCompact (λ book. line_as form (Some book)) asked input input_new out out_new result)
-    olds news input input_new out out_new result
 
 -- ---- What makes compact keys of keys
 

@@ -1,4 +1,5 @@
-use Rattle.std.proofs.Common.{ap}
+use Rattle.std.specs.Prelude.{⊤}
+use Rattle.std.proofs.Common.{Ok, ap}
 use Rattle.uca_key_runs.specs.inside.KeyForms.{CompactState}
 use Rattle.uca_key_runs.proofs.KeyLevels.{bytes_of_weights, made_of_levels}
 use Rattle.uca_key_runs.proofs.compacting.Compacting.write_levels.Goals as goal
@@ -8,8 +9,8 @@ write_levels-requires g c =
     let same = ap (λ (s : CompactState). s.by) c.self.view_is in
     record { levels = bytes_of_weights c.self.inside.compacter c.args.self.now.by c.requires.0 c.args.levels.now same c.requires.1 }
 
-pub returns-clause-key : goal.returns-clause-key
-returns-clause-key g c = λ t are.
+pub returns-in-Ok-clause-key : goal.returns-in-Ok-clause-key
+returns-in-Ok-clause-key g c = λ t are.
     let same = ap (λ (s : CompactState). s.by) c.self.view_is in
-    made_of_levels c.self.inside.compacter c.args.self.now.by t c.args.levels.now c.write_levels.new.compact.items c.write_levels.result same
-    c.write_levels.ensures.compact are
+    made_of_levels {E = ⊤} c.self.inside.compacter c.args.self.now.by t c.args.levels.now c.write_levels.new.compact.items (Ok c.in-Ok.field-0) same
+    c.in-Ok.ensures.compact are
