@@ -1,6 +1,6 @@
 //! Images of books under certificates.
 
-use crate::texts::starts_of;
+use crate::books::starts_of;
 use std::alloc::Global;
 use std::test::Fail;
 use test_kit::{bytes_of, is_remark, joined, same, thirds};

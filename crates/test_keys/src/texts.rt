@@ -3,13 +3,14 @@
 ghost use Rattle.uca_elements.specs.Collations.{collation_of};
 ghost use Rattle.uca_plain.specs.PointCache.{AreTrueEntries};
 
+use crate::tries::{Trial, over_table};
 use std::alloc::{AllocError, Global};
 use std::cmp::Ordering;
 use std::cmp::Ordering::{Equal, Greater, Less};
 use std::test::Fail;
-use test_kit::{DATA, NUMBER_TABLE, data_of, holds, repeated, same_bytes, table_of};
+use test_kit::{DATA, NUMBER_TABLE, data_of, holds, repeated, same_bytes};
 use uca_key_writer::KeyMemory;
-use uca_match::{Collator, Lookup, Trie};
+use uca_match::{Collator, Lookup};
 use uca_number_keys::{UnorderedDigits, check_numbers};
 use uca_table::read_packed_table;
 use uca_text::TextFault;
@@ -160,11 +161,6 @@ fn check_each_key<L: Lookup>(
     Ok(())
 }
 
-fn check_keys<L: Lookup>(alloc: Global, collator: &Collator<L>, depth: Depth) -> Result<(), Fail> {
-    let mut keys = KeyMemory::new(alloc, alloc, settings_at(depth));
-    check_each_key(alloc, &mut keys, collator, depth)
-}
-
 fn check_pair<L: Lookup>(
     comparison: &mut TextComparison,
     collator: &Collator<L>,
@@ -203,44 +199,110 @@ fn check_run<L: Lookup>(keys: &mut KeyMemory, collator: &Collator<L>, run: &str)
     holds(found == wanted, "a run of 65 accents, judged")
 }
 
-fn check_long_run<L: Lookup>(alloc: Global, collator: &Collator<L>) -> Result<(), Fail> {
+fn check_long_run<L: Lookup>(
+    alloc: Global,
+    keys: &mut KeyMemory,
+    collator: &Collator<L>,
+) -> Result<(), Fail>
+    requires { AreTrueEntries (collation_of L.content collator.now) keys.old.points.entries.items }
+{
     let marks = repeated(alloc, "\u{301}", 65)?;
     let run = format!(in alloc; "1{marks}")?;
-    let mut keys = KeyMemory::new(alloc, alloc, settings_at(Weights));
-    check_run(&mut keys, collator, &run)
+    check_run(keys, collator, &run)
 }
 
-fn check_right_text<L: Lookup>(alloc: Global, collator: &Collator<L>) -> Result<(), Fail> {
+/// More zeros than a text may have code points are one zero by value.
+fn check_zeros<L: Lookup>(
+    alloc: Global,
+    keys: &mut KeyMemory,
+    collator: &Collator<L>,
+) -> Result<(), Fail>
+    requires { AreTrueEntries (collation_of L.content collator.now) keys.old.points.entries.items }
+{
+    let zeros = repeated(alloc, "0", 1_048_577)?;
+    check_written(keys, collator, &zeros, ZERO)
+}
+
+/// What is written by a memory that was made for it.
+#[derive(Clone, Copy)]
+enum Part {
+    Keys,
+    LongRun,
+    Zeros,
+}
+
+fn check_part<L: Lookup>(
+    alloc: Global,
+    keys: &mut KeyMemory,
+    collator: &Collator<L>,
+    (depth, part): (Depth, Part),
+) -> Result<(), Fail>
+    requires { AreTrueEntries (collation_of L.content collator.now) keys.old.points.entries.items }
+{
+    match part {
+        Part::Keys => check_each_key(alloc, keys, collator, depth),
+        Part::LongRun => check_long_run(alloc, keys, collator),
+        Part::Zeros => check_zeros(alloc, keys, collator),
+    }
+}
+
+fn check_keys<L: Lookup>(
+    alloc: Global,
+    collator: &Collator<L>,
+    (depth, part): (Depth, Part),
+) -> Result<(), Fail> {
+    let mut keys = KeyMemory::new(alloc, alloc, settings_at(depth));
+    let found = check_part(alloc, &mut keys, collator, (depth, part));
+    drop(keys);
+    found
+}
+
+fn check_right_text<L: Lookup>(
+    alloc: Global,
+    comparison: &mut TextComparison,
+    collator: &Collator<L>,
+) -> Result<(), Fail>
+    requires { AreTrueEntries (collation_of L.content collator.now) comparison.old.plain.points.entries.items }
+{
     let marks = repeated(alloc, "\u{301}", 65)?;
-    let mut comparison = TextComparison::new(alloc, alloc);
     let found = comparison.compare(collator, settings_at(Weights), "1", &marks);
     let wanted = Err(PairFault::Right(TextFault::LongRun(0)));
     holds(found == wanted, "a run of 65 accents on the right")
 }
 
-/// More zeros than a text may have code points are one zero by value.
-fn check_zeros<L: Lookup>(alloc: Global, collator: &Collator<L>) -> Result<(), Fail> {
-    let zeros = repeated(alloc, "0", 1_048_577)?;
-    let mut keys = KeyMemory::new(alloc, alloc, settings_at(Weights));
-    check_written(&mut keys, collator, &zeros, ZERO)
+/// All pairs, or else a text that is too long, by a comparison that was made for it.
+fn check_comparison<L: Lookup>(
+    alloc: Global,
+    collator: &Collator<L>,
+    is_pairs: bool,
+) -> Result<(), Fail> {
+    let mut comparison = TextComparison::new(alloc, alloc);
+    let found = if is_pairs {
+        check_pairs(&mut comparison, collator)
+    } else {
+        check_right_text(alloc, &mut comparison, collator)
+    };
+    drop(comparison);
+    found
 }
 
-fn check_all<L: Lookup>(alloc: Global, collator: &Collator<L>) -> Result<(), Fail> {
-    check_keys(alloc, collator, Weights)?;
-    check_keys(alloc, collator, Identical)?;
-    check_pairs(&mut TextComparison::new(alloc, alloc), collator)?;
-    check_long_run(alloc, collator)?;
-    check_right_text(alloc, collator)?;
-    check_zeros(alloc, collator)
+/// All that is checked of numbers by value.
+pub fn check_all<L: Lookup>(alloc: Global, collator: &Collator<L>) -> Result<(), Fail> {
+    for keys in [
+        (Weights, Part::Keys),
+        (Identical, Part::Keys),
+        (Weights, Part::LongRun),
+        (Weights, Part::Zeros),
+    ] {
+        check_keys(alloc, collator, keys)?;
+    }
+    check_comparison(alloc, collator, true)?;
+    check_comparison(alloc, collator, false)
 }
 
 #[test]
 fn orders_numbers_by_value(rt: HostRuntime) -> Result<(), Fail> {
-    let alloc = rt.alloc();
-    let table = table_of(alloc, &mut Source::new(NUMBER_TABLE.as_bytes()))?;
-    let data = data_of(alloc, &mut Source::new(DATA.as_bytes()))?;
-    let trie = Trie::new(alloc, &table)?;
-    check_all(alloc, &Collator::new(&trie, &table.header, &data))
+    over_table(rt.alloc(), NUMBER_TABLE, Trial::Numbers)
 }
 
 /// A part of the table, what comes in place of it, and the row to blame, or `None` if numbers are in order.
