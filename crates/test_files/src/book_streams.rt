@@ -3,7 +3,7 @@
 use std::alloc::Global;
 use std::io::ErrorKind;
 use std::test::Fail;
-use test_kit::{Calls, Failure, FakeReader, FakeWriter, Pace, holds, same};
+use test_kit::{Calls, Failure, FakeReader, FakeWriter, Pace, holds};
 use uca_books::{Book, FaultKind, read_book, write_book};
 use uca_weights::{Sink, Source};
 
@@ -15,55 +15,73 @@ fn check_broken(alloc: Global, good: usize, wanted: &str) -> Result<(), Fail> {
     let calls = Calls::new();
     let pace = Pace::failing(3, good, Failure::Error(ErrorKind::Other));
     let mut source = Source::new(FakeReader::new(TEXT, pace, &calls));
-    match read_book(alloc, &mut source) {
-        Ok(_) => return Err(Fail::new(wanted)),
-        Err(fault) => same(fault.message().as_str(), wanted, wanted)?,
-    }
-    holds(source.failed() && calls.late.get() == 0, wanted)
+    let is_told = match read_book(alloc, &mut source) {
+        Ok(_) => false,
+        Err(fault) => fault.message().as_str() == wanted,
+    };
+    holds(is_told && source.failed() && calls.late.get() == 0, wanted)
 }
+
+/// After how many bytes the source fails, and the error.
+const BROKEN: &[(usize, &str)] = &[
+    (0, "line 1: Read"),
+    (7, "line 1: Read"),
+    (8, "line 2: Read"),
+    (28, "line 4: Read"),
+];
 
 #[test]
 fn sources_that_fail(rt: HostRuntime) -> Result<(), Fail> {
-    check_broken(rt.alloc(), 0, "line 1: Read")?;
-    check_broken(rt.alloc(), 7, "line 1: Read")?;
-    check_broken(rt.alloc(), 8, "line 2: Read")?;
-    check_broken(rt.alloc(), 28, "line 4: Read")
+    for (good, wanted) in BROKEN {
+        check_broken(rt.alloc(), *good, wanted)?;
+    }
+    Ok(())
 }
 
-/// A book of three starts. Nothing else is added.
+/// The level of a start, its weight, and the end of a call that adds it to those before.
+type Start = (u8, u16, Result<(), FaultKind>);
+
+/// Three starts are added, and nothing else.
+const STARTS: &[Start] = &[
+    (1, 1, Err(FaultKind::Weight)),
+    (1, 0x1C47, Ok(())),
+    (1, 0x1C47, Err(FaultKind::Order)),
+    (1, 0xFFFF, Ok(())),
+    (4, 1, Err(FaultKind::Weight)),
+    (4, 0xFFFF, Err(FaultKind::Weight)),
+    (4, 0xFFFE, Ok(())),
+    (4, 0xFFFE, Err(FaultKind::Order)),
+    (1, 0xFFFF, Err(FaultKind::Order)),
+];
+
+/// Whether each call ends so.
+fn are_pushed(book: &mut Book) -> bool {
+    let mut is_so = true;
+    for (level, weight, wanted) in STARTS {
+        let found = match level {
+            1 => book.push_letter(*weight),
+            _ => book.push_variable(*weight),
+        };
+        is_so = is_so && found == *wanted;
+    }
+    is_so
+}
+
+/// The book with these starts.
 fn made(alloc: Global) -> Result<Book, Fail> {
     let mut book = Book::new(alloc);
-    let found = [
-        book.push_letter(1),
-        book.push_letter(0x1C47),
-        book.push_letter(0x1C47),
-        book.push_letter(0xFFFF),
-        book.push_variable(1),
-        book.push_variable(0xFFFF),
-        book.push_variable(0xFFFE),
-        book.push_variable(0xFFFE),
-        book.push_letter(0xFFFF),
-    ];
-    let wanted = [
-        Err(FaultKind::Weight),
-        Ok(()),
-        Err(FaultKind::Order),
-        Ok(()),
-        Err(FaultKind::Weight),
-        Err(FaultKind::Weight),
-        Ok(()),
-        Err(FaultKind::Order),
-        Err(FaultKind::Order),
-    ];
-    holds(found == wanted, "what is added")?;
-    Ok(book)
+    if are_pushed(&mut book) {
+        Ok(book)
+    } else {
+        drop(book);
+        Err(Fail::new("what is added"))
+    }
 }
 
-#[test]
-fn books_that_are_made(rt: HostRuntime) -> Result<(), Fail> {
-    let book = made(rt.alloc())?;
-    let mut out = Sink::new(Vec::new(rt.alloc()));
-    let is_written = write_book(&book, &mut out).is_ok();
+/// The text of a book is written.
+fn check_written(alloc: Global, book: &Book) -> Result<(), Fail> {
+    let mut out = Sink::new(Vec::new(alloc));
+    let is_written = write_book(book, &mut out).is_ok();
     let text = out.into_inner();
     holds(is_written && text.as_slice() == TEXT, "the text of a book")
 }
@@ -82,11 +100,19 @@ fn check_cut(alloc: Global, book: &Book, good: usize) -> Result<(), Fail> {
     holds(is_told && is_front, "a writer that fails")
 }
 
-#[test]
-fn writers_that_fail(rt: HostRuntime) -> Result<(), Fail> {
-    let book = made(rt.alloc())?;
+/// All of a book is written, or what comes before the writer fails.
+fn check_made(alloc: Global, book: &Book) -> Result<(), Fail> {
+    check_written(alloc, book)?;
     for good in [0, 1, 8, 15, 28] {
-        check_cut(rt.alloc(), &book, good)?;
+        check_cut(alloc, book, good)?;
     }
     Ok(())
+}
+
+#[test]
+fn books_that_are_made(rt: HostRuntime) -> Result<(), Fail> {
+    let book = made(rt.alloc())?;
+    let found = check_made(rt.alloc(), &book);
+    drop(book);
+    found
 }

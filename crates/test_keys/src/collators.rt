@@ -21,7 +21,7 @@ const DATA: &str = "@data 1\n\
 const MOST_LETTERS: usize = 140_000;
 
 /// Powers of two and of ten, and round numbers.
-const AROUND: [usize; 24] = [
+const AROUND: &[usize] = &[
     1, 2, 4, 8, 10, 16, 32, 64, 100, 128, 256, 512, 1_000, 1_024, 2_048, 4_096, 8_192, 10_000,
     16_384, 32_768, 65_536, 70_000, 100_000, 131_072,
 ];
@@ -30,7 +30,7 @@ const AROUND: [usize; 24] = [
 const RANDOM_LENGTHS: usize = 300;
 
 /// How many pages of 256 code points a text has. A collator keeps something of each.
-const PAGES: [u32; 7] = [1, 2, 255, 256, 257, 400, 504];
+const PAGES: &[u32] = &[1, 2, 255, 256, 257, 400, 504];
 
 /// Each of so many parts of a text has some bytes of the key, and there are four bytes between the levels.
 fn check_length(
@@ -57,7 +57,7 @@ fn check_letters(collator: &mut OwnedCollator, letters: &str, count: usize) -> R
 fn check_around(collator: &mut OwnedCollator, letters: &str) -> Result<(), Fail> {
     for power in AROUND {
         check_letters(collator, letters, power.saturating_sub(1))?;
-        check_letters(collator, letters, power)?;
+        check_letters(collator, letters, *power)?;
         check_letters(collator, letters, power.saturating_add(1))?;
     }
     Ok(())
@@ -359,7 +359,7 @@ fn keys_levels_and_orders(rt: HostRuntime) -> Result<(), Fail> {
 #[test]
 fn texts_of_many_pages(rt: HostRuntime) -> Result<(), Fail> {
     for pages in PAGES {
-        check_over(rt.alloc(), TABLE, Numbers::AsText, Trial::Pages(pages))?;
+        check_over(rt.alloc(), TABLE, Numbers::AsText, Trial::Pages(*pages))?;
     }
     Ok(())
 }

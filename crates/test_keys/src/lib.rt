@@ -1,6 +1,6 @@
-//! Tests of keys and of comparisons beside `test_texts`: numbers by value, what two texts have in common at their
-//! beginning and their order by what comes after that, collators that own all that they need, ranges of keys, and compact
-//! keys of levels that were not joined.
+//! Tests of numbers by value, of owned collators, and of ranges of keys. What two texts have in common at their beginning
+//! is here too, and their order by what comes after that. So are compact keys of levels that were not joined. Keys and
+//! comparisons of all other texts are tested in `test_texts`.
 #![tactic(auto)]
 
 #[cfg(test)]
