@@ -67,11 +67,17 @@ fn check_point(alloc: Global, properties: &Data, case: &str) -> Result<(), Fail>
     same(&found, wanted, case)
 }
 
+fn check_points(alloc: Global, properties: &Data) -> Result<(), Fail> {
+    for case in POINTS.lines() {
+        check_point(alloc, properties, case)?;
+    }
+    Ok(())
+}
+
 #[test]
 fn properties_at_the_ends_of_ranges(rt: HostRuntime) -> Result<(), Fail> {
     let properties = data_of(rt.alloc(), &mut Source::new(ACCEPTED))?;
-    for case in POINTS.lines() {
-        check_point(rt.alloc(), &properties, case)?;
-    }
-    Ok(())
+    let found = check_points(rt.alloc(), &properties);
+    drop(properties);
+    found
 }

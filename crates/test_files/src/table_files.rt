@@ -16,7 +16,9 @@ const WRITTEN: &str = r"@version 1\n | @version 1\n
 /// The canonical text of the table of a file.
 fn rewritten(alloc: Global, file: &[u8]) -> Result<Vec<u8>, Fail> {
     let table = table_of(alloc, &mut Source::new(file))?;
-    Ok(table_text(alloc, &table)?)
+    let text = table_text(alloc, &table);
+    drop(table);
+    Ok(text?)
 }
 
 fn check_written(alloc: Global, case: &str) -> Result<(), Fail> {

@@ -67,13 +67,19 @@ fn check_added<A: Allocator>(
     same(&format!(in alloc; "{added:?}")?, wanted, case)
 }
 
+fn check_all_added(alloc: Global, properties: &mut Data) -> Result<(), Fail> {
+    for case in RANGES.lines() {
+        check_added(alloc, properties, case)?;
+    }
+    Ok(())
+}
+
 #[test]
 fn ranges_are_added(rt: HostRuntime) -> Result<(), Fail> {
     let mut properties = Data::new(rt.alloc());
-    for case in RANGES.lines() {
-        check_added(rt.alloc(), &mut properties, case)?;
-    }
-    Ok(())
+    let found = check_all_added(rt.alloc(), &mut properties);
+    drop(properties);
+    found
 }
 
 const WITHOUT_MEMORY: &str = "class | 61 7A | Err(Memory)
@@ -154,10 +160,18 @@ fn check_all_implicit(alloc: Global, table: &Table, properties: &Data) -> Result
     Ok(())
 }
 
+fn check_implicit_of(alloc: Global, table: &Table) -> Result<(), Fail> {
+    let properties = data_of(alloc, &mut Source::new(DATA.as_bytes()))?;
+    let found = check_all_implicit(alloc, table, &properties);
+    drop(properties);
+    found
+}
+
 #[test]
 fn implicit_weights(rt: HostRuntime) -> Result<(), Fail> {
     worked_implicit_weights();
     let table = table_of(rt.alloc(), &mut Source::new(HEADER.as_bytes()))?;
-    let properties = data_of(rt.alloc(), &mut Source::new(DATA.as_bytes()))?;
-    check_all_implicit(rt.alloc(), &table, &properties)
+    let found = check_implicit_of(rt.alloc(), &table);
+    drop(table);
+    found
 }

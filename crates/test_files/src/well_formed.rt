@@ -46,11 +46,19 @@ fn said(alloc: Global, table: &Table, properties: &Data) -> Result<String, Alloc
     }
 }
 
+fn verdict_on(alloc: Global, table: &Table) -> Result<String, Fail> {
+    let properties = data_of(alloc, &mut Source::new(DATA.as_bytes()))?;
+    let found = said(alloc, table, &properties);
+    drop(properties);
+    Ok(found?)
+}
+
 /// The verdict on a table file.
 fn verdict(alloc: Global, text: &str) -> Result<String, Fail> {
     let table = table_of(alloc, &mut Source::new(text.as_bytes()))?;
-    let properties = data_of(alloc, &mut Source::new(DATA.as_bytes()))?;
-    Ok(said(alloc, &table, &properties)?)
+    let found = verdict_on(alloc, &table);
+    drop(table);
+    found
 }
 
 /// A name, the changes of the small table, and the verdict.

@@ -81,33 +81,62 @@ fn push_relation(words: &mut String, relation: &Relation) -> Result<(), AllocErr
     Ok(())
 }
 
-/// The relations of rules.
+/// The relations of rules, with `; ` between them.
 fn relations(alloc: Global, rules: &Rules) -> Result<String, AllocError> {
     let mut words = String::new(alloc);
     for relation in rules.relations() {
         push_relation(&mut words, relation)?;
     }
-    if words.is_empty() {
-        words.push_str("nothing")?;
-    }
     Ok(words)
 }
 
+/// What is said of rules: that they are accepted, or at which byte they are rejected.
+#[derive(Drop)]
+pub struct Verdict {
+    /// The byte that is rejected. `None` if the rules are accepted.
+    pub place: Option<usize>,
+    /// Why they are rejected, or else their relations.
+    pub words: String,
+}
+
+impl Verdict {
+    /// Whether the other says the same.
+    pub fn is(&self, other: &Verdict) -> bool {
+        self.place == other.place && self.words.as_str() == other.words.as_str()
+    }
+}
+
 /// Why rules are rejected. If an allocation failed, that is the error, and its byte is one of the rules or their end.
-fn refusal(alloc: Global, rules: &[u8], fault: RuleFault) -> Result<String, Fail> {
+fn rejected(alloc: Global, rules: &[u8], fault: RuleFault) -> Result<Verdict, Fail> {
     let RuleFault { byte, kind } = fault;
     if kind == RuleFaultKind::Memory {
         holds(byte <= rules.len(), "Memory after the end")?;
         return Err(Fail::from(kind));
     }
-    Ok(format!(in alloc; "{kind} at {byte}")?)
+    Ok(Verdict {
+        place: Some(byte),
+        words: format!(in alloc; "{kind}")?,
+    })
+}
+
+/// What is said of rules.
+pub fn verdict_on(alloc: Global, data: &Data, rules: &[u8]) -> Result<Verdict, Fail> {
+    match read_rules(alloc, rules, data) {
+        Ok(read) => Ok(Verdict {
+            place: None,
+            words: relations(alloc, &read)?,
+        }),
+        Err(fault) => rejected(alloc, rules, fault),
+    }
 }
 
 /// The relations that rules mean, or why they are rejected.
 pub fn said(alloc: Global, data: &Data, rules: &[u8]) -> Result<String, Fail> {
-    match read_rules(alloc, rules, data) {
-        Ok(read) => Ok(relations(alloc, &read)?),
-        Err(fault) => refusal(alloc, rules, fault),
+    let Verdict { place, words } = verdict_on(alloc, data, rules)?;
+    match place {
+        Some(byte) => Ok(format!(in alloc; "{words} at {byte}")?),
+        None if words.is_empty() => Ok(String::from_str(alloc, "nothing")?),
+        None => Ok(words),
     }
 }
 

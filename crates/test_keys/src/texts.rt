@@ -3,17 +3,19 @@
 ghost use Rattle.uca_elements.specs.Collations.{collation_of};
 ghost use Rattle.uca_plain.specs.PointCache.{AreTrueEntries};
 
+use crate::tries::{Trial, over_table};
 use std::alloc::{AllocError, Global};
 use std::cmp::Ordering;
 use std::cmp::Ordering::{Equal, Greater, Less};
 use std::test::Fail;
-use test_kit::{DATA, NUMBER_TABLE, data_of, holds, repeated, same_bytes, table_of};
+use test_kit::{DATA, NUMBER_TABLE, data_of, holds, repeated, same_bytes};
 use uca_key_writer::KeyMemory;
-use uca_match::{Collator, Lookup, Trie};
+use uca_match::{Collator, Lookup};
 use uca_number_keys::{UnorderedDigits, check_numbers};
 use uca_table::read_packed_table;
 use uca_text::TextFault;
 use uca_text_comparer::{PairFault, TextComparison};
+use uca_values::{Data, PackedTable};
 use uca_weights::Depth::{Identical, Weights};
 use uca_weights::{Depth, Numbers, Settings, Source, Weighting};
 
@@ -22,7 +24,7 @@ type Case = (&'static str, &'static [u16], &'static str);
 
 /// `a7` is written `a17`, and so is `a007`; `a10` is written `a210`. An accent comes after the letter or the number
 /// that it follows.
-const KEYS: [Case; 7] = [
+const KEYS: &[Case] = &[
     ("ab", &[0x1C47, 0x1C60, 0, 0x20, 0x20, 0, 2, 2], "ab"),
     (
         "a7",
@@ -68,7 +70,7 @@ const ZERO: &[u8] = b"\x1C\x3E\x1C\x3D\0\0\0\x20\0\x20\0\0\0\x02\0\x02";
 /// Two texts, and how they compare: without an identical level, and with one.
 type Pair = (&'static str, &'static str, (Ordering, u8), (Ordering, u8));
 
-const PAIRS: [Pair; 8] = [
+const PAIRS: &[Pair] = &[
     ("a9", "a10", (Less, 1), (Less, 1)),
     ("a10", "a9", (Greater, 1), (Greater, 1)),
     ("b2", "a10", (Greater, 1), (Greater, 1)),
@@ -155,14 +157,9 @@ fn check_each_key<L: Lookup>(
     requires { AreTrueEntries (collation_of L.content collator.now) keys.old.points.entries.items }
 {
     for case in KEYS {
-        check_key(alloc, keys, collator, depth, case)?;
+        check_key(alloc, keys, collator, depth, *case)?;
     }
     Ok(())
-}
-
-fn check_keys<L: Lookup>(alloc: Global, collator: &Collator<L>, depth: Depth) -> Result<(), Fail> {
-    let mut keys = KeyMemory::new(alloc, alloc, settings_at(depth));
-    check_each_key(alloc, &mut keys, collator, depth)
 }
 
 fn check_pair<L: Lookup>(
@@ -187,7 +184,7 @@ fn check_pairs<L: Lookup>(
     requires { AreTrueEntries (collation_of L.content collator.now) comparison.old.plain.points.entries.items }
 {
     for pair in PAIRS {
-        check_pair(comparison, collator, pair)?;
+        check_pair(comparison, collator, *pair)?;
     }
     Ok(())
 }
@@ -203,48 +200,112 @@ fn check_run<L: Lookup>(keys: &mut KeyMemory, collator: &Collator<L>, run: &str)
     holds(found == wanted, "a run of 65 accents, judged")
 }
 
-fn check_long_run<L: Lookup>(alloc: Global, collator: &Collator<L>) -> Result<(), Fail> {
+fn check_long_run<L: Lookup>(
+    alloc: Global,
+    keys: &mut KeyMemory,
+    collator: &Collator<L>,
+) -> Result<(), Fail>
+    requires { AreTrueEntries (collation_of L.content collator.now) keys.old.points.entries.items }
+{
     let marks = repeated(alloc, "\u{301}", 65)?;
     let run = format!(in alloc; "1{marks}")?;
-    let mut keys = KeyMemory::new(alloc, alloc, settings_at(Weights));
-    check_run(&mut keys, collator, &run)
+    check_run(keys, collator, &run)
 }
 
-fn check_right_text<L: Lookup>(alloc: Global, collator: &Collator<L>) -> Result<(), Fail> {
+/// More zeros than a text may have code points are one zero by value.
+fn check_zeros<L: Lookup>(
+    alloc: Global,
+    keys: &mut KeyMemory,
+    collator: &Collator<L>,
+) -> Result<(), Fail>
+    requires { AreTrueEntries (collation_of L.content collator.now) keys.old.points.entries.items }
+{
+    let zeros = repeated(alloc, "0", 1_048_577)?;
+    check_written(keys, collator, &zeros, ZERO)
+}
+
+/// What is written by a memory that was made for it.
+#[derive(Clone, Copy)]
+enum Part {
+    Keys,
+    LongRun,
+    Zeros,
+}
+
+fn check_part<L: Lookup>(
+    alloc: Global,
+    keys: &mut KeyMemory,
+    collator: &Collator<L>,
+    depth: Depth,
+    part: Part,
+) -> Result<(), Fail>
+    requires { AreTrueEntries (collation_of L.content collator.now) keys.old.points.entries.items }
+{
+    match part {
+        Part::Keys => check_each_key(alloc, keys, collator, depth),
+        Part::LongRun => check_long_run(alloc, keys, collator),
+        Part::Zeros => check_zeros(alloc, keys, collator),
+    }
+}
+
+fn check_keys<L: Lookup>(
+    alloc: Global,
+    collator: &Collator<L>,
+    depth: Depth,
+    part: Part,
+) -> Result<(), Fail> {
+    let mut keys = KeyMemory::new(alloc, alloc, settings_at(depth));
+    let found = check_part(alloc, &mut keys, collator, depth, part);
+    drop(keys);
+    found
+}
+
+fn check_right_text<L: Lookup>(
+    alloc: Global,
+    comparison: &mut TextComparison,
+    collator: &Collator<L>,
+) -> Result<(), Fail>
+    requires { AreTrueEntries (collation_of L.content collator.now) comparison.old.plain.points.entries.items }
+{
     let marks = repeated(alloc, "\u{301}", 65)?;
-    let mut comparison = TextComparison::new(alloc, alloc);
     let found = comparison.compare(collator, settings_at(Weights), "1", &marks);
     let wanted = Err(PairFault::Right(TextFault::LongRun(0)));
     holds(found == wanted, "a run of 65 accents on the right")
 }
 
-/// More zeros than a text may have code points are one zero by value.
-fn check_zeros<L: Lookup>(alloc: Global, collator: &Collator<L>) -> Result<(), Fail> {
-    let zeros = repeated(alloc, "0", 1_048_577)?;
-    let mut keys = KeyMemory::new(alloc, alloc, settings_at(Weights));
-    check_written(&mut keys, collator, &zeros, ZERO)
+/// All pairs, or else a text that is too long, by a comparison that was made for it.
+fn check_comparison<L: Lookup>(
+    alloc: Global,
+    collator: &Collator<L>,
+    is_pairs: bool,
+) -> Result<(), Fail> {
+    let mut comparison = TextComparison::new(alloc, alloc);
+    let found = if is_pairs {
+        check_pairs(&mut comparison, collator)
+    } else {
+        check_right_text(alloc, &mut comparison, collator)
+    };
+    drop(comparison);
+    found
 }
 
-fn check_all<L: Lookup>(alloc: Global, collator: &Collator<L>) -> Result<(), Fail> {
-    check_keys(alloc, collator, Weights)?;
-    check_keys(alloc, collator, Identical)?;
-    check_pairs(&mut TextComparison::new(alloc, alloc), collator)?;
-    check_long_run(alloc, collator)?;
-    check_right_text(alloc, collator)?;
-    check_zeros(alloc, collator)
+/// All that is checked of numbers by value.
+pub fn check_all<L: Lookup>(alloc: Global, collator: &Collator<L>) -> Result<(), Fail> {
+    check_keys(alloc, collator, Weights, Part::Keys)?;
+    check_keys(alloc, collator, Identical, Part::Keys)?;
+    check_keys(alloc, collator, Weights, Part::LongRun)?;
+    check_keys(alloc, collator, Weights, Part::Zeros)?;
+    check_comparison(alloc, collator, true)?;
+    check_comparison(alloc, collator, false)
 }
 
 #[test]
 fn orders_numbers_by_value(rt: HostRuntime) -> Result<(), Fail> {
-    let alloc = rt.alloc();
-    let table = table_of(alloc, &mut Source::new(NUMBER_TABLE.as_bytes()))?;
-    let data = data_of(alloc, &mut Source::new(DATA.as_bytes()))?;
-    let trie = Trie::new(alloc, &table)?;
-    check_all(alloc, &Collator::new(&trie, &table.header, &data))
+    over_table(rt.alloc(), NUMBER_TABLE, Trial::Numbers)
 }
 
 /// A part of the table, what comes in place of it, and the row to blame, or `None` if numbers are in order.
-const TABLES: [(&str, &str, Option<u32>); 9] = [
+const TABLES: &[(&str, &str, Option<u32>)] = &[
     ("0035 ; ", "0035 ; ", None),
     (
         "0061 ; ",
@@ -268,22 +329,51 @@ const TABLES: [(&str, &str, Option<u32>); 9] = [
     ("0035 ; [.1C42.0020.0002]\n", "", Some(0)),
 ];
 
+fn check_values(
+    table: &PackedTable,
+    data: &Data,
+    file: &str,
+    wanted: Option<u32>,
+) -> Result<(), Fail> {
+    let found = match check_numbers(Numbers::ByValue, table, data) {
+        Ok(()) => None,
+        Err(UnorderedDigits { row }) => Some(row),
+    };
+    let is_text = check_numbers(Numbers::AsText, table, data).is_ok();
+    holds(found == wanted && is_text, file)
+}
+
+fn check_data(
+    alloc: Global,
+    table: &PackedTable,
+    data: &str,
+    (file, wanted): (&str, Option<u32>),
+) -> Result<(), Fail> {
+    let data = data_of(alloc, &mut Source::new(data.as_bytes()))?;
+    let found = check_values(table, &data, file, wanted);
+    drop(data);
+    found
+}
+
 /// By which row numbers are not ordered under a table file and a data file. As text each table is taken.
 fn check_table(alloc: Global, file: &str, data: &str, wanted: Option<u32>) -> Result<(), Fail> {
     let table = read_packed_table(alloc, &mut Source::new(file.as_bytes()))?;
-    let data = data_of(alloc, &mut Source::new(data.as_bytes()))?;
-    let found = check_numbers(Numbers::ByValue, &table, &data).err();
-    holds(found == wanted.map(|row| UnorderedDigits { row }), file)?;
-    holds(check_numbers(Numbers::AsText, &table, &data).is_ok(), file)
+    let found = check_data(alloc, &table, data, (file, wanted));
+    drop(table);
+    found
+}
+
+/// The table with another part in place of one.
+fn changed(alloc: Global, old: &str, new: &str) -> Result<String, Fail> {
+    let (front, back) = NUMBER_TABLE.split_once(old).ok_or("no such part")?;
+    Ok(format!(in alloc; "{front}{new}{back}")?)
 }
 
 #[test]
 fn finds_tables_that_order_numbers(rt: HostRuntime) -> Result<(), Fail> {
     let alloc = rt.alloc();
     for (old, new, wanted) in TABLES {
-        let (front, back) = NUMBER_TABLE.split_once(old).ok_or("no such part")?;
-        let file = format!(in alloc; "{front}{new}{back}")?;
-        check_table(alloc, &file, DATA, wanted)?;
+        check_table(alloc, &changed(alloc, old, new)?, DATA, *wanted)?;
     }
     check_table(alloc, NUMBER_TABLE, "@data 1\nccc 0037..0037 9\n", Some(8))
 }

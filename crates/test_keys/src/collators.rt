@@ -21,7 +21,7 @@ const DATA: &str = "@data 1\n\
 const MOST_LETTERS: usize = 140_000;
 
 /// Powers of two and of ten, and round numbers.
-const AROUND: [usize; 24] = [
+const AROUND: &[usize] = &[
     1, 2, 4, 8, 10, 16, 32, 64, 100, 128, 256, 512, 1_000, 1_024, 2_048, 4_096, 8_192, 10_000,
     16_384, 32_768, 65_536, 70_000, 100_000, 131_072,
 ];
@@ -30,12 +30,7 @@ const AROUND: [usize; 24] = [
 const RANDOM_LENGTHS: usize = 300;
 
 /// How many pages of 256 code points a text has. A collator keeps something of each.
-const PAGES: [u32; 7] = [1, 2, 255, 256, 257, 400, 504];
-
-fn opened(alloc: Global) -> Result<OwnedCollator, Fail> {
-    let asked = Asked::as_text(Some(Weighting::NonIgnorable), Depth::Weights);
-    Ok(OwnedCollator::open(alloc, TABLE.as_bytes(), DATA.as_bytes(), asked)?)
-}
+const PAGES: &[u32] = &[1, 2, 255, 256, 257, 400, 504];
 
 /// Each of so many parts of a text has some bytes of the key, and there are four bytes between the levels.
 fn check_length(
@@ -62,7 +57,7 @@ fn check_letters(collator: &mut OwnedCollator, letters: &str, count: usize) -> R
 fn check_around(collator: &mut OwnedCollator, letters: &str) -> Result<(), Fail> {
     for power in AROUND {
         check_letters(collator, letters, power.saturating_sub(1))?;
-        check_letters(collator, letters, power)?;
+        check_letters(collator, letters, *power)?;
         check_letters(collator, letters, power.saturating_add(1))?;
     }
     Ok(())
@@ -98,17 +93,9 @@ fn text_of_pages(alloc: Global, pages: u32) -> Result<String, Fail> {
 }
 
 /// Two elements of a code point without a row have four bytes at level 1, and two each at levels 2 and 3.
-fn check_pages(alloc: Global, pages: u32) -> Result<(), Fail> {
+fn check_pages(alloc: Global, collator: &mut OwnedCollator, pages: u32) -> Result<(), Fail> {
     let text = text_of_pages(alloc, pages)?;
-    check_length(&mut opened(alloc)?, text.as_bytes(), pages as usize, 8)
-}
-
-#[test]
-fn texts_of_many_pages(rt: HostRuntime) -> Result<(), Fail> {
-    for pages in PAGES {
-        check_pages(rt.alloc(), pages)?;
-    }
-    Ok(())
+    check_length(collator, text.as_bytes(), pages as usize, 8)
 }
 
 /// Each of two collators keeps the key that it made last.
@@ -126,7 +113,9 @@ fn check_both(first: &mut OwnedCollator, other: &mut OwnedCollator) -> Result<()
 
 fn check_other(first: &mut OwnedCollator, alloc: Global) -> Result<(), Fail> {
     let mut other = first.share(alloc)?;
-    check_both(first, &mut other)
+    let found = check_both(first, &mut other);
+    drop(other);
+    found
 }
 
 /// Two texts, and the order that the first bytes that differ tell. They tell nothing (`-`) where a text is not UTF-8,
@@ -318,8 +307,7 @@ fn check_bounds(collator: &OwnedCollator) -> Result<(), Fail> {
     holds(collator.key_bound(most + 1) == usize::MAX, "one byte more")
 }
 
-/// Each collator is opened by one function, and lent to all checks: to drop it is long to prove.
-fn check_all(alloc: Global, collator: &mut OwnedCollator, letters: &str) -> Result<(), Fail> {
+fn check_by_text(alloc: Global, collator: &mut OwnedCollator, letters: &str) -> Result<(), Fail> {
     check_bounds(collator)?;
     check_before_and_after(alloc, collator)?;
     check_levels_again(collator)?;
@@ -330,24 +318,53 @@ fn check_all(alloc: Global, collator: &mut OwnedCollator, letters: &str) -> Resu
     check_lengths(collator, letters)
 }
 
-#[test]
-fn keys_levels_and_orders(rt: HostRuntime) -> Result<(), Fail> {
-    let letters = repeated(rt.alloc(), "a", MOST_LETTERS)?;
-    check_all(rt.alloc(), &mut opened(rt.alloc())?, &letters)
+/// What a collator is opened for.
+#[derive(Clone, Copy)]
+enum Trial<'a> {
+    /// All checks by text, with so many letters `a`.
+    Text(&'a str),
+    /// A text of so many pages.
+    Pages(u32),
+    /// Orders by value.
+    Value,
 }
 
-fn opened_by_value(alloc: Global) -> Result<OwnedCollator, Fail> {
+fn check(alloc: Global, collator: &mut OwnedCollator, trial: Trial) -> Result<(), Fail> {
+    match trial {
+        Trial::Text(letters) => check_by_text(alloc, collator, letters),
+        Trial::Pages(pages) => check_pages(alloc, collator, pages),
+        Trial::Value => check_pairs(alloc, collator, NUMBER_PAIRS),
+    }
+}
+
+/// Opens a collator and lends it to all checks. One function drops all of them: each more would be long to prove.
+fn check_over(alloc: Global, table: &str, numbers: Numbers, trial: Trial) -> Result<(), Fail> {
     let asked = Asked {
         weighting: Some(Weighting::NonIgnorable),
         depth: Depth::Weights,
-        numbers: Numbers::ByValue,
+        numbers,
     };
-    let table = NUMBER_TABLE.as_bytes();
-    Ok(OwnedCollator::open(alloc, table, DATA.as_bytes(), asked)?)
+    let mut collator = OwnedCollator::open(alloc, table.as_bytes(), DATA.as_bytes(), asked)?;
+    let found = check(alloc, &mut collator, trial);
+    drop(collator);
+    found
+}
+
+#[test]
+fn keys_levels_and_orders(rt: HostRuntime) -> Result<(), Fail> {
+    let letters = repeated(rt.alloc(), "a", MOST_LETTERS)?;
+    check_over(rt.alloc(), TABLE, Numbers::AsText, Trial::Text(&letters))
+}
+
+#[test]
+fn texts_of_many_pages(rt: HostRuntime) -> Result<(), Fail> {
+    for pages in PAGES {
+        check_over(rt.alloc(), TABLE, Numbers::AsText, Trial::Pages(*pages))?;
+    }
+    Ok(())
 }
 
 #[test]
 fn orders_by_value(rt: HostRuntime) -> Result<(), Fail> {
-    let alloc = rt.alloc();
-    check_pairs(alloc, &mut opened_by_value(alloc)?, NUMBER_PAIRS)
+    check_over(rt.alloc(), NUMBER_TABLE, Numbers::ByValue, Trial::Value)
 }

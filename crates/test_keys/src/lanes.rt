@@ -79,11 +79,11 @@ const MALFORMED: &str = r"\x80
 \xF4\x8F\xBF";
 
 /// How many ASCII bytes come before those of the two lists above.
-const BEFORE: [usize; 16] = [0, 1, 2, 3, 4, 5, 7, 8, 12, 13, 15, 16, 17, 29, 31, 32];
+const BEFORE: &[usize] = &[0, 1, 2, 3, 4, 5, 7, 8, 12, 13, 15, 16, 17, 29, 31, 32];
 
 /// How many pairs of bytes there are, and which of them spells another number, if there are so many. Then the first
 /// pair of a run, how many pairs it may have, and how many it has.
-const RUNS: [(usize, usize, usize, usize, usize); 16] = [
+const RUNS: &[(usize, usize, usize, usize, usize)] = &[
     (0, 0, 0, 0, 0),
     (1, 1, 0, 1, 1),
     (1, 0, 0, 1, 0),
@@ -103,7 +103,7 @@ const RUNS: [(usize, usize, usize, usize, usize); 16] = [
 ];
 
 /// A number that two bytes spell, and another one: the same bytes turned, one byte of two, or both.
-const NUMBERS: [(u16, u16); 5] = [
+const NUMBERS: &[(u16, u16)] = &[
     (0x0020, 0x2000),
     (0x0020, 0x0120),
     (0x0020, 0x0021),
@@ -250,13 +250,24 @@ fn finds_what_two_texts_share(rt: HostRuntime) -> Result<(), Fail> {
 fn check_utf8_of(alloc: Global, part: &[u8], wanted: bool) -> Result<(), Fail> {
     for count in BEFORE {
         let mut bytes = Vec::new(alloc);
-        bytes.resize(count, b'a')?;
+        bytes.resize(*count, b'a')?;
         bytes.extend_from_slice(part)?;
         holds(is_utf8(bytes.as_slice()) == wanted, "at the end")?;
         bytes.push(b'a')?;
         holds(is_utf8(bytes.as_slice()) == wanted, "before ASCII")?;
     }
     Ok(())
+}
+
+/// A text that begins and ends with a code point of two bytes is none without its first byte, or its last one.
+fn check_ends(text: &str) -> Result<(), Fail> {
+    let bytes = text.as_bytes();
+    let first = bytes.get(1..).ok_or("no first byte")?;
+    let last = bytes
+        .get(..bytes.len().saturating_sub(1))
+        .ok_or("no last byte")?;
+    let is_so = is_utf8(bytes) && !is_utf8(first) && !is_utf8(last);
+    holds(is_so, "code points of two bytes")
 }
 
 /// Each length from 0 to 36 is reached: some are judged in ways of their own.
@@ -269,15 +280,7 @@ fn check_utf8(alloc: Global) -> Result<(), Fail> {
         check_utf8_of(alloc, &bytes_of(alloc, part)?, false)?;
     }
     for count in 1..20usize {
-        let text = repeated(alloc, "\u{e1}", count)?;
-        let bytes = text.as_bytes();
-        holds(is_utf8(bytes), "code points of two bytes")?;
-        if let Some((_, rest)) = bytes.split_first() {
-            holds(!is_utf8(rest), "without the first byte")?;
-        }
-        if let Some((_, rest)) = bytes.split_last() {
-            holds(!is_utf8(rest), "without the last byte")?;
-        }
+        check_ends(&repeated(alloc, "\u{e1}", count)?)?;
     }
     Ok(())
 }
@@ -309,8 +312,8 @@ fn run_of_pairs(
 fn check_runs(alloc: Global) -> Result<(), Fail> {
     for (all, apart, from, count, wanted) in RUNS {
         for numbers in NUMBERS {
-            let found = run_of_pairs(alloc, (all, apart), numbers, from, count)?;
-            holds(found == Some(wanted), "a run of pairs")?;
+            let found = run_of_pairs(alloc, (*all, *apart), *numbers, *from, *count)?;
+            holds(found == Some(*wanted), "a run of pairs")?;
         }
     }
     Ok(())

@@ -1,6 +1,6 @@
 //! Images of books under certificates.
 
-use crate::texts::starts_of;
+use crate::books::starts_of;
 use std::alloc::Global;
 use std::test::Fail;
 use test_kit::{bytes_of, is_remark, joined, same, thirds};
@@ -41,10 +41,28 @@ fn book(alloc: Global, starts: &str) -> Result<Book, Fail> {
     }
 }
 
+/// The starts of the image of a book.
+fn image_starts(alloc: Global, certificate: &Certificate, book: &Book) -> Result<String, Fail> {
+    let image = image_of(alloc, certificate, book)?;
+    let starts = starts_of(alloc, &image);
+    drop(image);
+    starts
+}
+
+/// The starts of the image of the book with these starts.
+fn image_under(alloc: Global, certificate: &Certificate, starts: &str) -> Result<String, Fail> {
+    let book = book(alloc, starts)?;
+    let image = image_starts(alloc, certificate, &book);
+    drop(book);
+    image
+}
+
 fn check_case(alloc: Global, case: &str) -> Result<(), Fail> {
     let (runs, starts, wanted) = thirds(case)?;
-    let image = image_of(alloc, &certificate(alloc, runs)?, &book(alloc, starts)?)?;
-    same(&starts_of(alloc, &image)?, wanted, case)
+    let certificate = certificate(alloc, runs)?;
+    let found = image_under(alloc, &certificate, starts);
+    drop(certificate);
+    same(&found?, wanted, case)
 }
 
 #[test]

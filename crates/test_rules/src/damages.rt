@@ -1,7 +1,7 @@
 //! Rules with one byte less, one doubled or one changed at each position, and rules that are random after some beginning.
 
-use crate::answers::judge;
 use crate::counts::Counts;
+use crate::damaged_rules::judge;
 use crate::numbers::Numbers;
 use std::alloc::{AllocError, Global};
 use std::test::Fail;

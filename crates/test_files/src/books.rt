@@ -1,9 +1,9 @@
 //! Books that are read, and the same books written.
 
-use std::alloc::Global;
+use std::alloc::{AllocError, Global};
 use std::fmt::Write;
 use std::test::Fail;
-use test_kit::{bytes_of, halves, holds, is_remark, joined, same, same_bytes};
+use test_kit::{bytes_of, halves, holds, is_remark, joined, same};
 use uca_books::{Book, read_book, write_book};
 use uca_weights::{Sink, Source};
 
@@ -75,23 +75,31 @@ pub fn starts_of(alloc: Global, book: &Book) -> Result<String, Fail> {
     Ok(String::from_str(alloc, text.as_str().trim())?)
 }
 
-/// A book is written as it was read.
-fn check_text(alloc: Global, book: &Book, text: &[u8], case: &str) -> Result<(), Fail> {
+/// The starts of a book, which is written as it was read.
+fn read_again(alloc: Global, book: &Book, text: &[u8]) -> Result<String, Fail> {
     let mut out = Sink::new(Vec::new(alloc));
-    holds(write_book(book, &mut out).is_ok(), case)?;
-    same_bytes(&out.into_inner(), text, case)
+    let is_written = write_book(book, &mut out).is_ok();
+    let written = out.into_inner();
+    holds(is_written && written.as_slice() == text, "another text")?;
+    starts_of(alloc, book)
+}
+
+/// The starts of the book that a text is, or the message of its error.
+fn said(alloc: Global, text: &[u8]) -> Result<String, Fail> {
+    match read_book(alloc, &mut Source::new(text)) {
+        Ok(book) => {
+            let starts = read_again(alloc, &book, text);
+            drop(book);
+            starts
+        }
+        Err(fault) => Ok(String::from_str(alloc, fault.message().as_str())?),
+    }
 }
 
 fn check_case(alloc: Global, case: &str) -> Result<(), Fail> {
     let (field, wanted) = halves(case)?;
     let text = bytes_of(alloc, field)?;
-    match read_book(alloc, &mut Source::new(text.as_slice())) {
-        Ok(book) => {
-            same(&starts_of(alloc, &book)?, wanted, case)?;
-            check_text(alloc, &book, &text, case)
-        }
-        Err(fault) => same(fault.message().as_str(), wanted, case),
-    }
+    same(&said(alloc, &text)?, wanted, case)
 }
 
 #[test]
@@ -104,47 +112,56 @@ fn texts(rt: HostRuntime) -> Result<(), Fail> {
     Ok(())
 }
 
-/// The text of a book with this many starts of each level, from 0002 on, and more lines.
-fn long_text(alloc: Global, letters: u16, variables: u16, more: &str) -> Result<String, Fail> {
-    let mut text = String::from_str(alloc, "@book 1\n")?;
-    for at in 0..letters {
-        writeln!(text, "1 {:04X}", at.saturating_add(2))?;
+/// Adds this many starts of a level, from 0002 on.
+fn push_starts(text: &mut String, level: u8, count: u16) -> Result<(), AllocError> {
+    for at in 0..count {
+        writeln!(text, "{level} {:04X}", at.saturating_add(2))?;
     }
-    for at in 0..variables {
-        writeln!(text, "4 {:04X}", at.saturating_add(2))?;
-    }
-    text.push_str(more)?;
-    Ok(text)
+    Ok(())
 }
 
-/// The message of a long text; nothing where it is a book.
-fn check_long(
+/// The text of a book with this many starts of each level, and another line.
+fn long_text(
     alloc: Global,
     letters: u16,
     variables: u16,
     more: &str,
-    wanted: &str,
-) -> Result<(), Fail> {
+) -> Result<String, AllocError> {
+    let mut text = String::from_str(alloc, "@book 1\n")?;
+    push_starts(&mut text, 1, letters)?;
+    push_starts(&mut text, 4, variables)?;
+    text.push_str(more)?;
+    Ok(text)
+}
+
+/// How many starts a text has of levels 1 and 4, another line, and the message of the error. There is none where it is a book.
+type Long = (u16, u16, &'static str, &'static str);
+
+/// A start too many may come with an earlier cause: the last starts of a level are 00F6 and 0100.
+const LONG: &[Long] = &[
+    (245, 255, "", ""),
+    (246, 0, "", "line 247: Limit"),
+    (0, 256, "", "line 257: Limit"),
+    (245, 256, "", "line 502: Limit"),
+    (245, 0, "1 00F6\n", "line 247: Order"),
+    (245, 0, "1 0001\n", "line 247: Weight"),
+    (245, 1, "1 FFFF\n", "line 248: Order"),
+    (0, 255, "4 0100\n", "line 257: Order"),
+    (0, 255, "4 FFFF\n", "line 257: Weight"),
+];
+
+fn check_long(alloc: Global, (letters, variables, more, wanted): Long) -> Result<(), Fail> {
     let text = long_text(alloc, letters, variables, more)?;
-    match read_book(alloc, &mut Source::new(text.as_bytes())) {
-        Ok(book) => {
-            same("", wanted, wanted)?;
-            check_text(alloc, &book, text.as_bytes(), wanted)
-        }
-        Err(fault) => same(fault.message().as_str(), wanted, wanted),
-    }
+    let found = said(alloc, text.as_bytes())?;
+    let is_book = !found.starts_with("line");
+    holds(is_book == wanted.is_empty(), wanted)?;
+    holds(is_book || found.as_str() == wanted, wanted)
 }
 
 #[test]
 fn most_starts(rt: HostRuntime) -> Result<(), Fail> {
-    check_long(rt.alloc(), 245, 255, "", "")?;
-    check_long(rt.alloc(), 246, 0, "", "line 247: Limit")?;
-    check_long(rt.alloc(), 0, 256, "", "line 257: Limit")?;
-    check_long(rt.alloc(), 245, 256, "", "line 502: Limit")?;
-    // one start too many, with an earlier cause: the last ones are 00F6 and 0100
-    check_long(rt.alloc(), 245, 0, "1 00F6\n", "line 247: Order")?;
-    check_long(rt.alloc(), 245, 0, "1 0001\n", "line 247: Weight")?;
-    check_long(rt.alloc(), 245, 1, "1 FFFF\n", "line 248: Order")?;
-    check_long(rt.alloc(), 0, 255, "4 0100\n", "line 257: Order")?;
-    check_long(rt.alloc(), 0, 255, "4 FFFF\n", "line 257: Weight")
+    for case in LONG {
+        check_long(rt.alloc(), *case)?;
+    }
+    Ok(())
 }

@@ -3,15 +3,16 @@
 ghost use Rattle.uca_elements.specs.Collations.{collation_of};
 ghost use Rattle.uca_text_comparer.specs.Heads.{Knows};
 
+use crate::tries::{Trial, over_table};
 use std::alloc::Global;
 use std::cmp::Ordering;
 use std::cmp::Ordering::{Greater, Less};
 use std::test::Fail;
-use test_kit::{DATA, NUMBER_TABLE, data_of, halves, holds, repeated, table_of, thirds};
+use test_kit::{NUMBER_TABLE, halves, holds, repeated, thirds};
 use uca_lanes::shared_len;
-use uca_match::{Collator, Lookup, Trie};
+use uca_match::{Collator, Lookup};
 use uca_text_comparer::TextComparison;
-use uca_weights::{Depth, Numbers, Settings, Source, Weighting};
+use uca_weights::{Depth, Numbers, Settings, Weighting};
 
 /// All code points of the texts below, but `c`, the accent and the letters with one.
 const KNOWN: &str = "ab019\u{4e01}\u{4e02}";
@@ -309,17 +310,30 @@ fn check_learning<L: Lookup>(
     check_by_value(comparison)
 }
 
-fn check_all<L: Lookup>(alloc: Global, collator: &Collator<L>) -> Result<(), Fail> {
-    check_learning(alloc, &mut TextComparison::new(alloc, alloc), collator)?;
-    check_weightings(&mut TextComparison::new(alloc, alloc), collator)
+/// What is told as a comparison learns code points, or else under both weightings, by a comparison that was made for it.
+fn check_new<L: Lookup>(
+    alloc: Global,
+    collator: &Collator<L>,
+    is_learning: bool,
+) -> Result<(), Fail> {
+    let mut comparison = TextComparison::new(alloc, alloc);
+    let found = if is_learning {
+        check_learning(alloc, &mut comparison, collator)
+    } else {
+        check_weightings(&mut comparison, collator)
+    };
+    drop(comparison);
+    found
+}
+
+/// All that is checked of beginnings.
+pub fn check_all<L: Lookup>(alloc: Global, collator: &Collator<L>) -> Result<(), Fail> {
+    check_new(alloc, collator, true)?;
+    check_new(alloc, collator, false)
 }
 
 #[test]
 fn orders_texts_by_what_comes_after_their_beginning(rt: HostRuntime) -> Result<(), Fail> {
-    let alloc = rt.alloc();
-    let file = format!(in alloc; "{NUMBER_TABLE}{MORE_ROWS}")?;
-    let table = table_of(alloc, &mut Source::new(file.as_bytes()))?;
-    let data = data_of(alloc, &mut Source::new(DATA.as_bytes()))?;
-    let trie = Trie::new(alloc, &table)?;
-    check_all(alloc, &Collator::new(&trie, &table.header, &data))
+    let file = format!(in rt.alloc(); "{NUMBER_TABLE}{MORE_ROWS}")?;
+    over_table(rt.alloc(), &file, Trial::Beginnings)
 }

@@ -1,89 +1,25 @@
-//! Rules: an error is at a byte that may have it, with anything before the rules.
+//! Damaged rules: an error is at a byte that may have it, with anything before the rules.
 
-use crate::answers::Answer;
+use crate::answers::{Verdict, classes, verdict_on};
 use crate::counts::Counts;
 use crate::damages::{Trial, judge_all};
-use std::alloc::{AllocError, Global};
+use std::alloc::Global;
 use std::test::Fail;
-use test_kit::{DATA, data_of, holds, same};
-use uca_rules::{Relation, RuleFaultKind, Rules, read_rules};
-use uca_text::Normal;
+use test_kit::{holds, joined, same};
 use uca_values::Data;
-use uca_weights::{Source, Strength};
-
-/// Adds a text: ASCII letters and digits unchanged, and other code points by their numbers.
-fn push_text(words: &mut String, text: &Normal) -> Result<(), AllocError> {
-    let alloc = *words.allocator();
-    for point in text.chars() {
-        if point.is_ascii_alphanumeric() {
-            words.push(*point)?;
-        } else {
-            let number = u32::from(*point);
-            words.push_str(&format!(in alloc; "({number:X})")?)?;
-        }
-    }
-    Ok(())
-}
-
-/// The sign of a relation, which is turned round if the target comes before the anchor.
-fn sign(relation: &Relation) -> &'static str {
-    match (relation.strength, relation.before) {
-        (Strength::Primary, false) => " < ",
-        (Strength::Secondary, false) => " << ",
-        (Strength::Tertiary, false) => " <<< ",
-        (Strength::Primary, true) => " > ",
-        (Strength::Secondary, true) => " >> ",
-        (Strength::Tertiary, true) => " >>> ",
-        (Strength::Identical, _) => " = ",
-    }
-}
-
-/// Adds a relation as a line.
-fn push_relation(words: &mut String, relation: &Relation) -> Result<(), AllocError> {
-    push_text(words, &relation.anchor)?;
-    words.push_str(sign(relation))?;
-    push_text(words, &relation.target)?;
-    if let Some(expansion) = &relation.expansion {
-        words.push_str(" / ")?;
-        push_text(words, expansion)?;
-    }
-    words.push('\n')
-}
-
-/// The relations of rules, a line each.
-fn meaning(alloc: Global, rules: &Rules) -> Result<Answer, AllocError> {
-    let mut words = String::new(alloc);
-    for relation in rules.relations() {
-        push_relation(&mut words, relation)?;
-    }
-    Ok(Answer { place: None, words })
-}
-
-/// What is said of rules.
-pub fn rules_answer(alloc: Global, data: &Data, file: &[u8]) -> Result<Answer, Fail> {
-    let fault = match read_rules(alloc, file, data) {
-        Ok(rules) => return Ok(meaning(alloc, &rules)?),
-        Err(fault) => fault,
-    };
-    holds(fault.kind != RuleFaultKind::Memory, "no memory")?;
-    Ok(Answer {
-        place: Some(fault.byte),
-        words: format!(in alloc; "{}", fault.kind)?,
-    })
-}
 
 /// A chain of one relation, of characters that the rules do not have.
 const CHAIN: &str = "&\u{4E01} < \u{4E02} # \u{E9}\n";
 
 /// What it means.
-const CHAIN_MEANS: &str = "(4E01) < (4E02)\n";
+const CHAIN_MEANS: &str = "(4E01) < (4E02)";
 
 /// A comment.
 const COMMENT: &str = "# \u{E9}\n";
 
 /// What may come before rules, so that what is said of them stays. Rules that begin with a sign or an expansion
 /// would go on with a chain, so a comment comes first if such an error is named.
-fn front(file: &[u8], found: &Answer) -> &'static str {
+fn front(file: &[u8], found: &Verdict) -> &'static str {
     let byte = file.get(found.place.unwrap_or(0)).copied();
     if found.words.as_str() == "Syntax" && matches!(byte, Some(b'<' | b'=' | b'/')) {
         COMMENT
@@ -93,25 +29,23 @@ fn front(file: &[u8], found: &Answer) -> &'static str {
 }
 
 /// What is said of rules after such a front, if this is said of the rules alone.
-fn moved(alloc: Global, front: &str, found: &Answer) -> Result<Answer, Fail> {
-    match found.place {
-        Some(byte) => Ok(Answer {
-            place: Some(byte.saturating_add(front.len())),
-            words: format!(in alloc; "{}", found.words)?,
-        }),
-        None => Ok(Answer {
-            place: None,
-            words: format!(in alloc; "{CHAIN_MEANS}{}", found.words)?,
-        }),
-    }
+fn moved(alloc: Global, front: &str, found: &Verdict) -> Result<Verdict, Fail> {
+    let words = found.words.as_str();
+    let (place, parts) = match found.place {
+        Some(byte) => (Some(byte.saturating_add(front.len())), ["", "", words]),
+        None if words.is_empty() => (None, [CHAIN_MEANS, "", ""]),
+        None => (None, [CHAIN_MEANS, "; ", words]),
+    };
+    let words = joined(alloc, &parts)?;
+    Ok(Verdict { place, words })
 }
 
 /// Whether the same is said of rules after such a front.
-fn is_moved(alloc: Global, data: &Data, file: &[u8], found: &Answer) -> Result<bool, Fail> {
+fn is_moved(alloc: Global, data: &Data, file: &[u8], found: &Verdict) -> Result<bool, Fail> {
     let front = front(file, found);
     let mut longer = Vec::from_slice(alloc, front.as_bytes())?;
     longer.extend_from_slice(file)?;
-    let later = rules_answer(alloc, data, &longer)?;
+    let later = verdict_on(alloc, data, &longer)?;
     Ok(later.is(&moved(alloc, front, found)?))
 }
 
@@ -133,7 +67,7 @@ fn may_stand(words: &str, byte: Option<u8>) -> bool {
 }
 
 /// Whether what is said of rules is true of them.
-pub fn judge_rules(alloc: Global, data: &Data, file: &[u8], found: &Answer) -> Result<bool, Fail> {
+fn is_true(alloc: Global, data: &Data, file: &[u8], found: &Verdict) -> Result<bool, Fail> {
     let is_text = str::from_utf8(file).is_ok();
     let is_utf8_fault = found.words.as_str() == "Utf8";
     let Some(place) = found.place else {
@@ -147,6 +81,16 @@ pub fn judge_rules(alloc: Global, data: &Data, file: &[u8], found: &Answer) -> R
     Ok(is_place && may && is_moved(alloc, data, file, found)?)
 }
 
+/// Fails unless what is said of rules is true of them. Returns whether they are accepted.
+pub fn judge(alloc: Global, data: &Data, file: &[u8]) -> Result<bool, Fail> {
+    let found = verdict_on(alloc, data, file)?;
+    if is_true(alloc, data, file, &found)? {
+        return Ok(found.place.is_none());
+    }
+    let Verdict { place, words } = found;
+    Err(Fail::new(format_args!("{place:?} {words}\nat {file:?}")))
+}
+
 /// Each kind of a reset, a relation, a text and a comment.
 const RULES: &str = "# a tailoring\n\
     &[before 1]B < X <<< Y\n\
@@ -156,27 +100,13 @@ const RULES: &str = "# a tailoring\n\
     &R = \u{E9} <<< S''T\n";
 
 /// The relations that they mean.
-const MEANS: &str = "B > X
-X <<< Y
-C < DH / K
-DH <<< L(20)M
-N >> (111)
-(111) = (180)
-E < F
-F < G
-G < H
-H < I
-I < J
-J < P
-P <<< Q
-Q <<< (27)
-R = e(301)
-e(301) <<< S(27)T
-";
+const MEANS: &str =
+    "before B < X; X <<< Y; C < DH / K; DH <<< L(20)M; before N << (111); (111) = (180); E < F; F < G; \
+    G < H; H < I; I < J; J < P; P <<< Q; Q <<< (27); R = e(301.230); e(301.230) <<< S(27)T";
 
 #[test]
 fn damaged_rules(rt: HostRuntime) -> Result<(), Fail> {
-    let data = data_of(rt.alloc(), &mut Source::new(DATA.as_bytes()))?;
+    let data = classes(rt.alloc())?;
     let trial = Trial {
         file: RULES.as_bytes(),
         random: 568,
@@ -200,14 +130,14 @@ const OTHERS: &str = "A z W 0";
 fn check_letter(alloc: Global, data: &Data, own: &str, other: &str) -> Result<(), Fail> {
     let rules = RULES.replace(alloc, own, other)?;
     let wanted = MEANS.replace(alloc, own, other)?;
-    let found = rules_answer(alloc, data, rules.as_bytes())?;
+    let found = verdict_on(alloc, data, rules.as_bytes())?;
     holds(found.place.is_none(), &rules)?;
     same(&found.words, &wanted, &rules)
 }
 
 #[test]
 fn other_letters(rt: HostRuntime) -> Result<(), Fail> {
-    let data = data_of(rt.alloc(), &mut Source::new(DATA.as_bytes()))?;
+    let data = classes(rt.alloc())?;
     check_letter(rt.alloc(), &data, "B", "B")?;
     for own in LETTERS.split(' ') {
         for other in OTHERS.split(' ') {
