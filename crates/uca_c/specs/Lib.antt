@@ -4,6 +4,7 @@ pub mod OpenCollators
 pub mod Opened
 pub mod RangeCalls
 pub mod Results
+pub mod Slots
 pub mod Statuses
 pub mod TextCalls
 pub mod UpgradeCalls

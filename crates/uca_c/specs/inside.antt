@@ -1,5 +1,8 @@
 pub mod Crossing
+pub mod HandleLending
 pub mod Handles
+pub mod Holding
 pub mod Joining
+pub mod Lending
+pub mod SlotLending
 pub mod TextKeys
-pub mod UpgradeHandles

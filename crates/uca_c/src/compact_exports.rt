@@ -12,8 +12,9 @@ ghost use Rattle.uca_c.specs.OpenCollators.{keying_at};
 ghost use Rattle.uca_c.specs.RangeCalls.{AsksNoEnd, IsEndOf};
 ghost use Rattle.uca_c.specs.Statuses.{IsKeyStatus};
 ghost use Rattle.uca_c.specs.Opened.{Asks, OpensBy, HasBook, IsNoFileError, IsCompactOpenStatus, IsCompactStopStatus};
+ghost use Rattle.uca_c.specs.Slots.{collator_in};
 
-use crate::slot::{Slot, put, take};
+use crate::slot::Slot;
 use crate::statuses::{ALREADY_OPEN, ARGUMENT, CLOSED, MEMORY, NO_BOOK, NO_KEY, OK, SMALL};
 use crate::structs::FileError;
 use crate::{compact_work, opening, range_work};
@@ -33,13 +34,13 @@ pub extern "C" fn uca_open_compact(
     error: &mut FileError,
 ) -> u32
     ensures already { (result ≡ ALREADY_OPEN) ↔ (collator.old.full ≡ true) }
-    ensures ok { result ≡ OK → OpensBy weighting depth table.now data_file.now (keying_at collator.new.handle.kept) }
-    ensures book { result ≡ OK → HasBook book.now collator.new.handle.kept.book }
+    ensures ok { result ≡ OK → OpensBy weighting depth table.now data_file.now (keying_at (collator_in collator.new)) }
+    ensures book { result ≡ OK → HasBook book.now (collator_in collator.new).book }
     ensures open { result ≡ OK → collator.new.full ≡ true }
     ensures same { result ≢ OK → collator.new ≡ collator.old }
     ensures only { (asked : Asked) (meant : TableContent) (properties : Properties) (content : BookContent) →
         collator.old.full ≡ false → Asks weighting depth table.now data_file.now asked meant properties → books.Means book.now content →
-        ((result ≡ OK) × (keying_at collator.new.handle.kept ≡ keying asked meant properties) × (collator.new.handle.kept.book ≡ Some content))
+        ((result ≡ OK) × (keying_at (collator_in collator.new) ≡ keying asked meant properties) × ((collator_in collator.new).book ≡ Some content))
         ⊎ IsCompactStopStatus asked meant properties error.new.line error.new.kind result }
     ensures no_error { (result ≡ OK) ⊎ (result ≡ ALREADY_OPEN) → IsNoFileError error.new.line error.new.kind }
     ensures rejected { result ≢ OK → result ≢ ALREADY_OPEN →
@@ -50,10 +51,7 @@ pub extern "C" fn uca_open_compact(
         return ALREADY_OPEN;
     }
     match opening::open_compact(alloc, table, data_file, book, weighting, depth, error) {
-        Ok(opened) => {
-            put(collator, opened);
-            OK
-        }
+        Ok(opened) => collator.keep(alloc, opened),
         Err(status) => status,
     }
 }
@@ -61,63 +59,55 @@ pub extern "C" fn uca_open_compact(
 /// Writes the compact key of a whole key at `out`.
 #[unsafe(no_mangle)]
 pub extern "C" fn uca_compact(
-    alloc: Global,
     collator: &mut Slot,
     key: &[u8],
     out: &mut [u8],
     needed: &mut usize,
 ) -> u32
     ensures closed { (result ≡ CLOSED) ↔ (collator.old.full ≡ false) }
-    ensures no_book { collator.old.full ≡ true → (result ≡ NO_BOOK) ↔ (collator.old.handle.kept.book ≡ None) }
-    ensures ok { result ≡ OK → WritesOne (HasCompactKey (keying_at collator.old.handle.kept) collator.old.handle.kept.book key.now) out.old out.new needed.new }
-    ensures small { result ≡ SMALL → IsOneTooSmall (HasCompactKey (keying_at collator.old.handle.kept) collator.old.handle.kept.book key.now) out.old needed.new }
-    ensures no_key { (compact : List ℕ) → result ≡ NO_KEY → ¬ (HasCompactKey (keying_at collator.old.handle.kept) collator.old.handle.kept.book key.now compact) }
+    ensures no_book { collator.old.full ≡ true → (result ≡ NO_BOOK) ↔ ((collator_in collator.old).book ≡ None) }
+    ensures ok { result ≡ OK → WritesOne (HasCompactKey (keying_at (collator_in collator.old)) (collator_in collator.old).book key.now) out.old out.new needed.new }
+    ensures small { result ≡ SMALL → IsOneTooSmall (HasCompactKey (keying_at (collator_in collator.old)) (collator_in collator.old).book key.now) out.old needed.new }
+    ensures no_key { (compact : List ℕ) → result ≡ NO_KEY → ¬ (HasCompactKey (keying_at (collator_in collator.old)) (collator_in collator.old).book key.now compact) }
     ensures statuses { (result ≡ OK) ⊎ (result ≡ SMALL) ⊎ (result ≡ CLOSED) ⊎ (result ≡ NO_BOOK) ⊎ (result ≡ NO_KEY) ⊎ (result ≡ MEMORY) }
     ensures unwritten { result ≢ OK → out.new ≡ out.old }
     ensures none { result ≢ OK → result ≢ SMALL → needed.new ≡ 0 }
     ensures full { collator.new.full ≡ collator.old.full }
-    ensures keying { collator.old.full ≡ true → keying_at collator.new.handle.kept ≡ keying_at collator.old.handle.kept }
-    ensures book { collator.old.full ≡ true → collator.new.handle.kept.book ≡ collator.old.handle.kept.book }
+    ensures keying { collator.old.full ≡ true → keying_at (collator_in collator.new) ≡ keying_at (collator_in collator.old) }
+    ensures book { collator.old.full ≡ true → (collator_in collator.new).book ≡ (collator_in collator.old).book }
 {
     if !collator.full {
         *needed = 0;
         return CLOSED;
     }
-    let mut opened = take(alloc, collator);
-    let status = compact_work::write_compact(&mut opened, key, out, needed);
-    put(collator, opened);
-    status
+    compact_work::write_compact(collator.opened(), key, out, needed)
 }
 
 /// Writes the whole key of a compact key at `out`.
 #[unsafe(no_mangle)]
 pub extern "C" fn uca_expand(
-    alloc: Global,
     collator: &mut Slot,
     compact: &[u8],
     out: &mut [u8],
     needed: &mut usize,
 ) -> u32
     ensures closed { (result ≡ CLOSED) ↔ (collator.old.full ≡ false) }
-    ensures no_book { collator.old.full ≡ true → (result ≡ NO_BOOK) ↔ (collator.old.handle.kept.book ≡ None) }
-    ensures ok { let kept = collator.old.handle.kept in result ≡ OK → WritesOne (λ key. HasCompactKey (keying_at kept) kept.book key compact.now) out.old out.new needed.new }
-    ensures small { let kept = collator.old.handle.kept in result ≡ SMALL → IsOneTooSmall (λ key. HasCompactKey (keying_at kept) kept.book key compact.now) out.old needed.new }
-    ensures no_key { result ≡ NO_KEY → IsNoCompactKey (keying_at collator.old.handle.kept) collator.old.handle.kept.book compact.now }
+    ensures no_book { collator.old.full ≡ true → (result ≡ NO_BOOK) ↔ ((collator_in collator.old).book ≡ None) }
+    ensures ok { let kept = collator_in collator.old in result ≡ OK → WritesOne (λ key. HasCompactKey (keying_at kept) kept.book key compact.now) out.old out.new needed.new }
+    ensures small { let kept = collator_in collator.old in result ≡ SMALL → IsOneTooSmall (λ key. HasCompactKey (keying_at kept) kept.book key compact.now) out.old needed.new }
+    ensures no_key { result ≡ NO_KEY → IsNoCompactKey (keying_at (collator_in collator.old)) (collator_in collator.old).book compact.now }
     ensures statuses { (result ≡ OK) ⊎ (result ≡ SMALL) ⊎ (result ≡ CLOSED) ⊎ (result ≡ NO_BOOK) ⊎ (result ≡ NO_KEY) ⊎ (result ≡ MEMORY) }
     ensures unwritten { result ≢ OK → out.new ≡ out.old }
     ensures none { result ≢ OK → result ≢ SMALL → needed.new ≡ 0 }
     ensures full { collator.new.full ≡ collator.old.full }
-    ensures keying { collator.old.full ≡ true → keying_at collator.new.handle.kept ≡ keying_at collator.old.handle.kept }
-    ensures book { collator.old.full ≡ true → collator.new.handle.kept.book ≡ collator.old.handle.kept.book }
+    ensures keying { collator.old.full ≡ true → keying_at (collator_in collator.new) ≡ keying_at (collator_in collator.old) }
+    ensures book { collator.old.full ≡ true → (collator_in collator.new).book ≡ (collator_in collator.old).book }
 {
     if !collator.full {
         *needed = 0;
         return CLOSED;
     }
-    let mut opened = take(alloc, collator);
-    let status = compact_work::write_whole(&mut opened, compact, out, needed);
-    put(collator, opened);
-    status
+    compact_work::write_whole(collator.opened(), compact, out, needed)
 }
 
 /// Writes an end of the range of keys that a lookup by a text scans at `out`.
@@ -133,23 +123,20 @@ pub extern "C" fn uca_range(
 ) -> u32
     ensures closed { (result ≡ CLOSED) ↔ (collator.old.full ≡ false) }
     ensures argument { collator.old.full ≡ true → (result ≡ ARGUMENT) ↔ AsksNoEnd range end }
-    ensures ok { result ≡ OK → WritesOne (IsEndOf (keying_at collator.old.handle.kept) collator.old.handle.kept.book range end text.now) out.old out.new needed.new }
-    ensures small { result ≡ SMALL → IsOneTooSmall (IsEndOf (keying_at collator.old.handle.kept) collator.old.handle.kept.book range end text.now) out.old needed.new }
-    ensures rejected { collator.old.full ≡ true → result ≢ ARGUMENT → IsKeyStatus (keying_at collator.old.handle.kept) text.now result }
+    ensures ok { result ≡ OK → WritesOne (IsEndOf (keying_at (collator_in collator.old)) (collator_in collator.old).book range end text.now) out.old out.new needed.new }
+    ensures small { result ≡ SMALL → IsOneTooSmall (IsEndOf (keying_at (collator_in collator.old)) (collator_in collator.old).book range end text.now) out.old needed.new }
+    ensures rejected { collator.old.full ≡ true → result ≢ ARGUMENT → IsKeyStatus (keying_at (collator_in collator.old)) text.now result }
     ensures unwritten { result ≢ OK → out.new ≡ out.old }
     ensures none { result ≢ OK → result ≢ SMALL → needed.new ≡ 0 }
     ensures full { collator.new.full ≡ collator.old.full }
-    ensures keying { collator.old.full ≡ true → keying_at collator.new.handle.kept ≡ keying_at collator.old.handle.kept }
-    ensures book { collator.old.full ≡ true → collator.new.handle.kept.book ≡ collator.old.handle.kept.book }
+    ensures keying { collator.old.full ≡ true → keying_at (collator_in collator.new) ≡ keying_at (collator_in collator.old) }
+    ensures book { collator.old.full ≡ true → (collator_in collator.new).book ≡ (collator_in collator.old).book }
 {
     if !collator.full {
         *needed = 0;
         return CLOSED;
     }
-    let mut opened = take(alloc, collator);
-    let status = range_work::write_end(alloc, &mut opened, text, range, end, out, needed);
-    put(collator, opened);
-    status
+    range_work::write_end(alloc, collator.opened(), text, range, end, out, needed)
 }
 
 /// Writes the fingerprint of what compact keys are made by at `out`: by the fingerprint of the whole keys, and the bytes of a book.

@@ -12,10 +12,12 @@ ghost use Rattle.uca_c.specs.OpenCollators.{keying_at, key_by};
 ghost use Rattle.uca_c.specs.Opened.{Asks, FingerprintsBy, OpensBy, IsNoFileError, IsReadStatus, IsOpenStatus, IsStopStatus, IsOpenStopStatus};
 ghost use Rattle.uca_c.specs.Results.{WritesKey, IsTooSmall, IsComparison, IsOrderNumber};
 ghost use Rattle.uca_c.specs.Statuses.{IsKeyStatus, IsCompareStatus};
+ghost use Rattle.uca_c.specs.Slots.{collator_in};
 
 use crate::at_once::order_at_once;
 use crate::numbers::number_of_order;
-use crate::slot::{Slot, put, take};
+use crate::open_collator::OpenCollator;
+use crate::slot::Slot;
 use crate::statuses::{ALREADY_OPEN, CLOSED, MEMORY, OK, SMALL};
 use crate::structs::{Comparison, FileError};
 use crate::{opening, work};
@@ -61,13 +63,13 @@ pub extern "C" fn uca_open(
     error: &mut FileError,
 ) -> u32
     ensures already { (result ≡ ALREADY_OPEN) ↔ (collator.old.full ≡ true) }
-    ensures ok { result ≡ OK → OpensBy weighting depth table.now data_file.now (keying_at collator.new.handle.kept) }
-    ensures book { result ≡ OK → collator.new.handle.kept.book ≡ None }
+    ensures ok { result ≡ OK → OpensBy weighting depth table.now data_file.now (keying_at (collator_in collator.new)) }
+    ensures book { result ≡ OK → (collator_in collator.new).book ≡ None }
     ensures open { result ≡ OK → collator.new.full ≡ true }
     ensures same { result ≢ OK → collator.new ≡ collator.old }
     ensures only { (asked : Asked) (meant : TableContent) (properties : Properties) → collator.old.full ≡ false →
         Asks weighting depth table.now data_file.now asked meant properties →
-        ((result ≡ OK) × (keying_at collator.new.handle.kept ≡ keying asked meant properties))
+        ((result ≡ OK) × (keying_at (collator_in collator.new) ≡ keying asked meant properties))
         ⊎ IsOpenStopStatus asked meant properties error.new.line error.new.kind result }
     ensures no_error { (result ≡ OK) ⊎ (result ≡ ALREADY_OPEN) → IsNoFileError error.new.line error.new.kind }
     ensures rejected { result ≢ OK → result ≢ ALREADY_OPEN →
@@ -78,10 +80,7 @@ pub extern "C" fn uca_open(
         return ALREADY_OPEN;
     }
     match opening::open(alloc, table, data_file, weighting, depth, error) {
-        Ok(opened) => {
-            put(collator, opened);
-            OK
-        }
+        Ok(opened) => collator.keep(alloc, OpenCollator::new(alloc, opened)),
         Err(status) => status,
     }
 }
@@ -93,13 +92,13 @@ pub extern "C" fn uca_share(alloc: Global, collator: &mut Slot, other: &mut Slot
     ensures closed { (result ≡ CLOSED) ↔ (collator.old.full ≡ false) }
     ensures already { (result ≡ ALREADY_OPEN) ↔ ((collator.old.full ≡ true) × (other.old.full ≡ true)) }
     ensures statuses { (result ≡ OK) ⊎ (result ≡ CLOSED) ⊎ (result ≡ ALREADY_OPEN) ⊎ (result ≡ MEMORY) }
-    ensures ok { result ≡ OK → keying_at other.new.handle.kept ≡ keying_at collator.old.handle.kept }
-    ensures same_book { result ≡ OK → other.new.handle.kept.book ≡ collator.old.handle.kept.book }
+    ensures ok { result ≡ OK → keying_at (collator_in other.new) ≡ keying_at (collator_in collator.old) }
+    ensures same_book { result ≡ OK → (collator_in other.new).book ≡ (collator_in collator.old).book }
     ensures open { result ≡ OK → other.new.full ≡ true }
     ensures same { result ≢ OK → other.new ≡ other.old }
     ensures full { collator.new.full ≡ collator.old.full }
-    ensures keying { collator.old.full ≡ true → keying_at collator.new.handle.kept ≡ keying_at collator.old.handle.kept }
-    ensures book { collator.old.full ≡ true → collator.new.handle.kept.book ≡ collator.old.handle.kept.book }
+    ensures keying { collator.old.full ≡ true → keying_at (collator_in collator.new) ≡ keying_at (collator_in collator.old) }
+    ensures book { collator.old.full ≡ true → (collator_in collator.new).book ≡ (collator_in collator.old).book }
 {
     if !collator.full {
         return CLOSED;
@@ -107,104 +106,89 @@ pub extern "C" fn uca_share(alloc: Global, collator: &mut Slot, other: &mut Slot
     if other.full {
         return ALREADY_OPEN;
     }
-    let opened = take(alloc, collator);
-    let shared = opening::share(alloc, &opened);
-    put(collator, opened);
-    match shared {
-        Ok(shared) => {
-            put(other, shared);
-            OK
-        }
-        Err(status) => status,
+    match collator.opened().share(alloc) {
+        Ok(shared) => other.keep(alloc, shared),
+        Err(_) => MEMORY,
     }
 }
 
 /// Writes the key of a text at `out`.
 #[unsafe(no_mangle)]
 pub extern "C" fn uca_key(
-    alloc: Global,
     collator: &mut Slot,
     text: &[u8],
     out: &mut [u8],
     needed: &mut usize,
 ) -> u32
     ensures closed { (result ≡ CLOSED) ↔ (collator.old.full ≡ false) }
-    ensures ok { result ≡ OK → WritesKey (key_by (keying_at collator.old.handle.kept) collator.old.handle.kept.book text.now) out.old out.new needed.new }
-    ensures small { result ≡ SMALL → IsTooSmall (key_by (keying_at collator.old.handle.kept) collator.old.handle.kept.book text.now) out.old needed.new }
-    ensures rejected { collator.old.full ≡ true → IsKeyStatus (keying_at collator.old.handle.kept) text.now result }
+    ensures ok { result ≡ OK → WritesKey (key_by (keying_at (collator_in collator.old)) (collator_in collator.old).book text.now) out.old out.new needed.new }
+    ensures small { result ≡ SMALL → IsTooSmall (key_by (keying_at (collator_in collator.old)) (collator_in collator.old).book text.now) out.old needed.new }
+    ensures rejected { collator.old.full ≡ true → IsKeyStatus (keying_at (collator_in collator.old)) text.now result }
     ensures unwritten { result ≢ OK → out.new ≡ out.old }
     ensures none { result ≢ OK → result ≢ SMALL → needed.new ≡ 0 }
     ensures full { collator.new.full ≡ collator.old.full }
-    ensures keying { collator.old.full ≡ true → keying_at collator.new.handle.kept ≡ keying_at collator.old.handle.kept }
-    ensures book { collator.old.full ≡ true → collator.new.handle.kept.book ≡ collator.old.handle.kept.book }
+    ensures keying { collator.old.full ≡ true → keying_at (collator_in collator.new) ≡ keying_at (collator_in collator.old) }
+    ensures book { collator.old.full ≡ true → (collator_in collator.new).book ≡ (collator_in collator.old).book }
 {
     if !collator.full {
         *needed = 0;
         return CLOSED;
     }
-    let mut opened = take(alloc, collator);
-    let status = work::write_key(&mut opened, text, out, needed);
-    put(collator, opened);
-    status
+    work::write_key(collator.opened(), text, out, needed)
 }
 
 // Compares any two texts by an open collator, without keys. A short text is equal to itself by any collator.
 #[inline(never)]
 fn compare_any(
-    alloc: Global,
     collator: &mut Slot,
     left: &[u8],
     right: &[u8],
     comparison: &mut Comparison,
 ) -> u32
     requires { collator.old.full ≡ true }
-    ensures ok { result ≡ OK → IsComparison (bytes_compared (keying_at collator.old.handle.kept) left.now right.now)
+    ensures ok { result ≡ OK → IsComparison (bytes_compared (keying_at (collator_in collator.old)) left.now right.now)
         comparison.new.order comparison.new.level }
-    ensures rejected { IsCompareStatus (keying_at collator.old.handle.kept) left.now right.now result }
+    ensures rejected { IsCompareStatus (keying_at (collator_in collator.old)) left.now right.now result }
     ensures none { result ≢ OK → (comparison.new.order ≡ pos 0) × (comparison.new.level ≡ 0) }
     ensures open { collator.new.full ≡ true }
-    ensures keying { keying_at collator.new.handle.kept ≡ keying_at collator.old.handle.kept }
-    ensures book { collator.new.handle.kept.book ≡ collator.old.handle.kept.book }
+    ensures keying { keying_at (collator_in collator.new) ≡ keying_at (collator_in collator.old) }
+    ensures book { (collator_in collator.new).book ≡ (collator_in collator.old).book }
 {
     if are_same_short(left, right) {
         *comparison = Comparison { order: 0, level: 0 };
         return OK;
     }
-    let mut opened = take(alloc, collator);
-    let status = work::compare(&mut opened, left, right, comparison);
-    put(collator, opened);
-    status
+    work::compare(collator.opened(), left, right, comparison)
 }
 
 // What `compare_any` does. It asks first whether both are the same text, and then for the order by the first bytes that
 // differ, of two texts of at most 32 bytes.
 #[inline(never)]
 fn compare_longer(
-    alloc: Global,
     collator: &mut Slot,
     left: &[u8],
     right: &[u8],
     comparison: &mut Comparison,
 ) -> u32
     requires { collator.old.full ≡ true }
-    ensures ok { result ≡ OK → IsComparison (bytes_compared (keying_at collator.old.handle.kept) left.now right.now)
+    ensures ok { result ≡ OK → IsComparison (bytes_compared (keying_at (collator_in collator.old)) left.now right.now)
         comparison.new.order comparison.new.level }
-    ensures rejected { IsCompareStatus (keying_at collator.old.handle.kept) left.now right.now result }
+    ensures rejected { IsCompareStatus (keying_at (collator_in collator.old)) left.now right.now result }
     ensures none { result ≢ OK → (comparison.new.order ≡ pos 0) × (comparison.new.level ≡ 0) }
     ensures open { collator.new.full ≡ true }
-    ensures keying { keying_at collator.new.handle.kept ≡ keying_at collator.old.handle.kept }
-    ensures book { collator.new.handle.kept.book ≡ collator.old.handle.kept.book }
+    ensures keying { keying_at (collator_in collator.new) ≡ keying_at (collator_in collator.old) }
+    ensures book { (collator_in collator.new).book ≡ (collator_in collator.old).book }
 {
     if are_same_short(left, right) {
         *comparison = Comparison { order: 0, level: 0 };
         return OK;
     }
-    match order_at_once(alloc, collator, left, right) {
+    match order_at_once(collator, left, right) {
         Some(order) => {
             *comparison = Comparison::of_letters(order);
             OK
         }
-        None => compare_any(alloc, collator, left, right, comparison),
+        None => compare_any(collator, left, right, comparison),
     }
 }
 
@@ -212,51 +196,49 @@ fn compare_longer(
 // bytes. All else is in a function that it calls last, so no value is kept across a call.
 #[inline(never)]
 fn compare_open(
-    alloc: Global,
     collator: &mut Slot,
     left: &[u8],
     right: &[u8],
     comparison: &mut Comparison,
 ) -> u32
     requires { collator.old.full ≡ true }
-    ensures ok { result ≡ OK → IsComparison (bytes_compared (keying_at collator.old.handle.kept) left.now right.now)
+    ensures ok { result ≡ OK → IsComparison (bytes_compared (keying_at (collator_in collator.old)) left.now right.now)
         comparison.new.order comparison.new.level }
-    ensures rejected { IsCompareStatus (keying_at collator.old.handle.kept) left.now right.now result }
+    ensures rejected { IsCompareStatus (keying_at (collator_in collator.old)) left.now right.now result }
     ensures none { result ≢ OK → (comparison.new.order ≡ pos 0) × (comparison.new.level ≡ 0) }
     ensures open { collator.new.full ≡ true }
-    ensures keying { keying_at collator.new.handle.kept ≡ keying_at collator.old.handle.kept }
-    ensures book { collator.new.handle.kept.book ≡ collator.old.handle.kept.book }
+    ensures keying { keying_at (collator_in collator.new) ≡ keying_at (collator_in collator.old) }
+    ensures book { (collator_in collator.new).book ≡ (collator_in collator.old).book }
 {
     if left.len() > SHORT || right.len() > SHORT {
-        return compare_longer(alloc, collator, left, right, comparison);
+        return compare_longer(collator, left, right, comparison);
     }
-    match order_at_once(alloc, collator, left, right) {
+    match order_at_once(collator, left, right) {
         Some(order) => {
             *comparison = Comparison::of_letters(order);
             OK
         }
-        None => compare_any(alloc, collator, left, right, comparison),
+        None => compare_any(collator, left, right, comparison),
     }
 }
 
 /// Compares two texts, without keys.
 #[unsafe(no_mangle)]
 pub extern "C" fn uca_compare(
-    alloc: Global,
     collator: &mut Slot,
     left: &[u8],
     right: &[u8],
     comparison: &mut Comparison,
 ) -> u32
     ensures closed { (result ≡ CLOSED) ↔ (collator.old.full ≡ false) }
-    ensures ok { result ≡ OK → IsComparison (bytes_compared (keying_at collator.old.handle.kept) left.now right.now)
+    ensures ok { result ≡ OK → IsComparison (bytes_compared (keying_at (collator_in collator.old)) left.now right.now)
         comparison.new.order comparison.new.level }
     ensures rejected { collator.old.full ≡ true →
-        IsCompareStatus (keying_at collator.old.handle.kept) left.now right.now result }
+        IsCompareStatus (keying_at (collator_in collator.old)) left.now right.now result }
     ensures none { result ≢ OK → (comparison.new.order ≡ pos 0) × (comparison.new.level ≡ 0) }
     ensures full { collator.new.full ≡ collator.old.full }
-    ensures keying { collator.old.full ≡ true → keying_at collator.new.handle.kept ≡ keying_at collator.old.handle.kept }
-    ensures book { collator.old.full ≡ true → collator.new.handle.kept.book ≡ collator.old.handle.kept.book }
+    ensures keying { collator.old.full ≡ true → keying_at (collator_in collator.new) ≡ keying_at (collator_in collator.old) }
+    ensures book { collator.old.full ≡ true → (collator_in collator.new).book ≡ (collator_in collator.old).book }
 {
     if !collator.full {
         *comparison = Comparison { order: 0, level: 0 };
@@ -266,99 +248,94 @@ pub extern "C" fn uca_compare(
         *comparison = Comparison { order: 0, level: 0 };
         return OK;
     }
-    compare_open(alloc, collator, left, right, comparison)
+    compare_open(collator, left, right, comparison)
 }
 
 // Orders any two byte strings by an open collator. A short text is equal to itself by any collator.
 #[inline(never)]
-fn order_any(alloc: Global, collator: &mut Slot, left: &[u8], right: &[u8], order: &mut i32) -> u32
+fn order_any(collator: &mut Slot, left: &[u8], right: &[u8], order: &mut i32) -> u32
     requires { collator.old.full ≡ true }
-    ensures ok { result ≡ OK → IsOrderNumber (keying_at collator.old.handle.kept) left.now right.now order.new }
+    ensures ok { result ≡ OK → IsOrderNumber (keying_at (collator_in collator.old)) left.now right.now order.new }
     ensures statuses { (result ≡ OK) ⊎ (result ≡ MEMORY) }
     ensures none { result ≢ OK → order.new ≡ pos 0 }
     ensures open { collator.new.full ≡ true }
-    ensures keying { keying_at collator.new.handle.kept ≡ keying_at collator.old.handle.kept }
-    ensures book { collator.new.handle.kept.book ≡ collator.old.handle.kept.book }
+    ensures keying { keying_at (collator_in collator.new) ≡ keying_at (collator_in collator.old) }
+    ensures book { (collator_in collator.new).book ≡ (collator_in collator.old).book }
 {
     if are_same_short(left, right) {
         *order = 0;
         return OK;
     }
-    let mut opened = take(alloc, collator);
-    let status = work::order(&mut opened, left, right, order);
-    put(collator, opened);
-    status
+    work::order(collator.opened(), left, right, order)
 }
 
 // What `order_any` does, as `compare_longer` does what `compare_any` does.
 #[inline(never)]
 fn order_longer(
-    alloc: Global,
     collator: &mut Slot,
     left: &[u8],
     right: &[u8],
     order: &mut i32,
 ) -> u32
     requires { collator.old.full ≡ true }
-    ensures ok { result ≡ OK → IsOrderNumber (keying_at collator.old.handle.kept) left.now right.now order.new }
+    ensures ok { result ≡ OK → IsOrderNumber (keying_at (collator_in collator.old)) left.now right.now order.new }
     ensures statuses { (result ≡ OK) ⊎ (result ≡ MEMORY) }
     ensures none { result ≢ OK → order.new ≡ pos 0 }
     ensures open { collator.new.full ≡ true }
-    ensures keying { keying_at collator.new.handle.kept ≡ keying_at collator.old.handle.kept }
-    ensures book { collator.new.handle.kept.book ≡ collator.old.handle.kept.book }
+    ensures keying { keying_at (collator_in collator.new) ≡ keying_at (collator_in collator.old) }
+    ensures book { (collator_in collator.new).book ≡ (collator_in collator.old).book }
 {
     if are_same_short(left, right) {
         *order = 0;
         return OK;
     }
-    match order_at_once(alloc, collator, left, right) {
+    match order_at_once(collator, left, right) {
         Some(found) => {
             *order = number_of_order(found);
             OK
         }
-        None => order_any(alloc, collator, left, right, order),
+        None => order_any(collator, left, right, order),
     }
 }
 
 // What `order_any` does, as `compare_open` does what `compare_any` does.
 #[inline(never)]
-fn order_open(alloc: Global, collator: &mut Slot, left: &[u8], right: &[u8], order: &mut i32) -> u32
+fn order_open(collator: &mut Slot, left: &[u8], right: &[u8], order: &mut i32) -> u32
     requires { collator.old.full ≡ true }
-    ensures ok { result ≡ OK → IsOrderNumber (keying_at collator.old.handle.kept) left.now right.now order.new }
+    ensures ok { result ≡ OK → IsOrderNumber (keying_at (collator_in collator.old)) left.now right.now order.new }
     ensures statuses { (result ≡ OK) ⊎ (result ≡ MEMORY) }
     ensures none { result ≢ OK → order.new ≡ pos 0 }
     ensures open { collator.new.full ≡ true }
-    ensures keying { keying_at collator.new.handle.kept ≡ keying_at collator.old.handle.kept }
-    ensures book { collator.new.handle.kept.book ≡ collator.old.handle.kept.book }
+    ensures keying { keying_at (collator_in collator.new) ≡ keying_at (collator_in collator.old) }
+    ensures book { (collator_in collator.new).book ≡ (collator_in collator.old).book }
 {
     if left.len() > SHORT || right.len() > SHORT {
-        return order_longer(alloc, collator, left, right, order);
+        return order_longer(collator, left, right, order);
     }
-    match order_at_once(alloc, collator, left, right) {
+    match order_at_once(collator, left, right) {
         Some(found) => {
             *order = number_of_order(found);
             OK
         }
-        None => order_any(alloc, collator, left, right, order),
+        None => order_any(collator, left, right, order),
     }
 }
 
 /// Orders two byte strings: accepted texts in their order, and all other bytes after them, in the order of bytes.
 #[unsafe(no_mangle)]
 pub extern "C" fn uca_order(
-    alloc: Global,
     collator: &mut Slot,
     left: &[u8],
     right: &[u8],
     order: &mut i32,
 ) -> u32
     ensures closed { (result ≡ CLOSED) ↔ (collator.old.full ≡ false) }
-    ensures ok { result ≡ OK → IsOrderNumber (keying_at collator.old.handle.kept) left.now right.now order.new }
+    ensures ok { result ≡ OK → IsOrderNumber (keying_at (collator_in collator.old)) left.now right.now order.new }
     ensures statuses { collator.old.full ≡ true → (result ≡ OK) ⊎ (result ≡ MEMORY) }
     ensures none { result ≢ OK → order.new ≡ pos 0 }
     ensures full { collator.new.full ≡ collator.old.full }
-    ensures keying { collator.old.full ≡ true → keying_at collator.new.handle.kept ≡ keying_at collator.old.handle.kept }
-    ensures book { collator.old.full ≡ true → collator.new.handle.kept.book ≡ collator.old.handle.kept.book }
+    ensures keying { collator.old.full ≡ true → keying_at (collator_in collator.new) ≡ keying_at (collator_in collator.old) }
+    ensures book { collator.old.full ≡ true → (collator_in collator.new).book ≡ (collator_in collator.old).book }
 {
     if !collator.full {
         *order = 0;
@@ -368,7 +345,7 @@ pub extern "C" fn uca_order(
         *order = 0;
         return OK;
     }
-    order_open(alloc, collator, left, right, order)
+    order_open(collator, left, right, order)
 }
 
 /// Compares two stored keys, which have so many levels.
@@ -422,7 +399,5 @@ pub extern "C" fn uca_fingerprint(
 pub extern "C" fn uca_close(alloc: Global, collator: &mut Slot)
     ensures { collator.new.full ≡ false }
 {
-    if collator.full {
-        drop(take(alloc, collator));
-    }
+    collator.close(alloc);
 }

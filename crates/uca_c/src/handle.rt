@@ -1,12 +1,12 @@
-//! What C has: a collator in memory of its own, or nothing.
+//! What C has: a collator or an upgrade in memory of its own, or nothing.
 
-ghost use Rattle.std.specs.Prelude.{◌≡◌, true, false};
-ghost use Rattle.uca_c.specs.OpenCollators.{OpenState};
-ghost use Rattle.uca_c.specs.inside.Handles.{handle_owns, collator_coded};
+ghost use Rattle.std.specs.Prelude.{◌≡◌, true, false, IfOk};
+ghost use Rattle.uca_c.specs.declared.held.Held.{Held};
+ghost use Rattle.uca_c.specs.inside.Handles.{handle_owns, held_coded};
 
-use crate::open_collator::OpenCollator;
+use crate::held::Held;
 use crate::parts::Parts;
-use std::alloc::Global;
+use std::alloc::{AllocError, Global};
 use std::marker::Model;
 use std::ptr;
 
@@ -20,7 +20,7 @@ pub struct Handle {
     ptr: *mut u8,
     alloc: Global,
     pub(crate) full: bool,
-    pub ghost kept: { OpenState } by { collator_coded },
+    pub ghost kept: { Held } by { held_coded },
 }
 
 impl Model for Handle {
@@ -28,9 +28,13 @@ impl Model for Handle {
 }
 
 impl Handle {
+    ghost use Rattle.std.specs.Borrow.{sem};
+    ghost use Rattle.uca_c.specs.inside.HandleLending.{LendsHeld};
+
     /// A handle with nothing inside.
     pub(crate) fn closed(alloc: Global) -> Handle
-        ensures { result.full ≡ false }
+        ghost kept: { Held }
+        ensures { (result.full ≡ false) × (result.kept ≡ kept) }
     {
         Handle {
             ptr: ptr::null_mut(),
@@ -39,7 +43,14 @@ impl Handle {
         }
     }
 
-    pub(crate) fn of_parts(parts: Parts<OpenCollator, Global>) -> Handle
+    /// A handle that holds this, in memory of its own.
+    pub(crate) fn of(alloc: Global, held: Held) -> Result<Handle, AllocError>
+        ensures { IfOk result (λ handle. (handle.full ≡ true) × (handle.kept ≡ held)) }
+    {
+        Ok(Handle::of_parts(Parts::of(Box::new(alloc, held)?)))
+    }
+
+    fn of_parts(parts: Parts<Held, Global>) -> Handle
         ensures { (result.full ≡ true) × (result.kept ≡ parts.value) }
     {
         let Parts { ptr, alloc } = parts;
@@ -48,6 +59,16 @@ impl Handle {
             alloc,
             full: true,
         }
+    }
+
+    /// What an open handle holds.
+    #[inline(always)]
+    pub(crate) fn held(&mut self) -> &mut Held
+        requires { self.old.full ≡ true }
+        ensures* lends { sem 𝓛 (LendsHeld self.entry result) }
+        ensures value { result.now ≡ self.old.kept }
+    {
+        unsafe { &mut *(self.ptr as *mut Held) }
     }
 
     /// Lets a handle go that owns nothing.
@@ -61,7 +82,14 @@ impl Handle {
         } = self;
     }
 
-    pub(crate) fn into_parts(self) -> Parts<OpenCollator, Global>
+    /// Gives back all memory of what an open handle holds.
+    pub(crate) fn give_back(self)
+        requires { self.full ≡ true }
+    {
+        drop(self.into_parts().into_box());
+    }
+
+    fn into_parts(self) -> Parts<Held, Global>
         requires { self.full ≡ true }
         ensures { result.value ≡ self.kept }
     {
@@ -71,7 +99,7 @@ impl Handle {
             full: _,
         } = self;
         Parts {
-            ptr: ptr as *mut OpenCollator,
+            ptr: ptr as *mut Held,
             alloc,
         }
     }

@@ -14,7 +14,6 @@ ghost use Rattle.uca_c.specs.OpenCollators.{keying_at};
 ghost use Rattle.uca_c.specs.Opened.{Asks, FingerprintsBy, OpensBy, IsNoFileError, IsReadStatus, IsOpenStatus, IsStopStatus, IsOpenStopStatus, TellsFault};
 ghost use Rattle.uca_c.specs.Opened.{HasBook, RejectsBook, IsCompactOpenStatus, IsCompactStopStatus};
 
-use crate::kept::keep;
 use crate::numbers::{asked_settings, number_of_kind};
 use crate::open_collator::OpenCollator;
 use crate::statuses::{ARGUMENT, BOOK, DATA, DIGITS, MEMORY, TABLE};
@@ -60,7 +59,7 @@ fn tell(fault: OpenFault, error: &mut FileError) -> u32
 }
 
 // A collator of these bytes, or the status of the call.
-fn open_texts(
+pub fn open(
     alloc: Global,
     table: &[u8],
     data_file: &[u8],
@@ -97,29 +96,6 @@ fn book_of(alloc: Global, book: &[u8]) -> Result<Book, TableFault>
     }
 }
 
-// A collator of these bytes, whose keys are whole, or the status of the call.
-pub fn open(
-    alloc: Global,
-    table: &[u8],
-    data_file: &[u8],
-    weighting: u32,
-    depth: u32,
-    error: &mut FileError,
-) -> Result<Box<OpenCollator>, u32>
-    ensures found { IfOk result (λ kept. OpensBy weighting depth table.now data_file.now (keying_at kept.value)) }
-    ensures book { IfOk result (λ kept. kept.value.book ≡ None) }
-    ensures only { (asked : Asked) (meant : TableContent) (properties : Properties) →
-        Asks weighting depth table.now data_file.now asked meant properties →
-        MatchResult result (λ kept. keying_at kept.value ≡ keying asked meant properties) (IsOpenStopStatus asked meant properties error.new.line error.new.kind) }
-    ensures no_error { OnOk result (IsNoFileError error.new.line error.new.kind) }
-    ensures rejected { IfErr result (IsOpenStatus weighting depth table.now data_file.now error.new.line error.new.kind) }
-{
-    match open_texts(alloc, table, data_file, weighting, depth, error) {
-        Ok(opened) => keep(alloc, OpenCollator::new(alloc, opened)),
-        Err(status) => Err(status),
-    }
-}
-
 // A collator of these bytes, whose keys are compact, or the status of the call.
 pub fn open_compact(
     alloc: Global,
@@ -129,38 +105,26 @@ pub fn open_compact(
     weighting: u32,
     depth: u32,
     error: &mut FileError,
-) -> Result<Box<OpenCollator>, u32>
-    ensures found { IfOk result (λ kept. OpensBy weighting depth table.now data_file.now (keying_at kept.value)) }
-    ensures book { IfOk result (λ kept. HasBook book.now kept.value.book) }
+) -> Result<OpenCollator, u32>
+    ensures found { IfOk result (λ opened. OpensBy weighting depth table.now data_file.now (keying_at opened)) }
+    ensures book { IfOk result (λ opened. HasBook book.now opened.book) }
     ensures only { (asked : Asked) (meant : TableContent) (properties : Properties) (content : BookContent) →
         Asks weighting depth table.now data_file.now asked meant properties → books.Means book.now content →
-        MatchResult result (λ kept. (keying_at kept.value ≡ keying asked meant properties) × (kept.value.book ≡ Some content))
+        MatchResult result (λ opened. (keying_at opened ≡ keying asked meant properties) × (opened.book ≡ Some content))
         (IsCompactStopStatus asked meant properties error.new.line error.new.kind) }
     ensures no_error { OnOk result (IsNoFileError error.new.line error.new.kind) }
     ensures rejected { IfErr result (IsCompactOpenStatus weighting depth table.now data_file.now book.now error.new.line error.new.kind) }
 {
-    let opened = match open_texts(alloc, table, data_file, weighting, depth, error) {
+    let opened = match open(alloc, table, data_file, weighting, depth, error) {
         Ok(opened) => opened,
         Err(status) => return Err(status),
     };
     match book_of(alloc, book) {
-        Ok(book) => keep(alloc, OpenCollator::with_book(alloc, opened, book)),
+        Ok(book) => Ok(OpenCollator::with_book(alloc, opened, book)),
         Err(fault) => {
             *error = file_error(fault);
             Err(BOOK)
         }
-    }
-}
-
-// One more collator with all that an open one keys texts by, or the status of the call.
-pub fn share(alloc: Global, collator: &OpenCollator) -> Result<Box<OpenCollator>, u32>
-    ensures keying { IfOk result (λ kept. keying_at kept.value ≡ keying_at collator.now) }
-    ensures book { IfOk result (λ kept. kept.value.book ≡ collator.now.book) }
-    ensures rejected { IfErr result (λ status. status ≡ MEMORY) }
-{
-    match collator.share(alloc) {
-        Ok(shared) => keep(alloc, shared),
-        Err(_) => Err(MEMORY),
     }
 }
 

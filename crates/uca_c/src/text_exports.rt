@@ -5,16 +5,15 @@ ghost use Rattle.std.specs.Prelude.{◌≡◌, ◌≢◌, ◌↔◌, ◌⊎◌, 
 ghost use Rattle.uca_owned.specs.Bounds.{BoundsKeys};
 ghost use Rattle.uca_c.specs.OpenCollators.{keying_at, key_by};
 ghost use Rattle.uca_c.specs.TextCalls.{IsBeginningStatus, IsJudged, WritesBeginning, bound_by};
+ghost use Rattle.uca_c.specs.Slots.{collator_in};
 
-use crate::slot::{Slot, put, take};
+use crate::slot::Slot;
 use crate::statuses::{CLOSED, OK};
 use crate::text_work;
-use std::alloc::Global;
 
 /// Writes the first bytes of the key of a text at `out`: as many as there is room for.
 #[unsafe(no_mangle)]
 pub extern "C" fn uca_key_beginning(
-    alloc: Global,
     collator: &mut Slot,
     text: &[u8],
     out: &mut [u8],
@@ -22,28 +21,24 @@ pub extern "C" fn uca_key_beginning(
 ) -> u32
     ensures closed { (result ≡ CLOSED) ↔ (collator.old.full ≡ false) }
     ensures ok { result ≡ OK →
-        WritesBeginning (key_by (keying_at collator.old.handle.kept) collator.old.handle.kept.book text.now) out.old out.new needed.new }
-    ensures rejected { collator.old.full ≡ true → IsBeginningStatus (keying_at collator.old.handle.kept) text.now result }
+        WritesBeginning (key_by (keying_at (collator_in collator.old)) (collator_in collator.old).book text.now) out.old out.new needed.new }
+    ensures rejected { collator.old.full ≡ true → IsBeginningStatus (keying_at (collator_in collator.old)) text.now result }
     ensures unwritten { result ≢ OK → out.new ≡ out.old }
     ensures none { result ≢ OK → needed.new ≡ 0 }
     ensures full { collator.new.full ≡ collator.old.full }
-    ensures keying { collator.old.full ≡ true → keying_at collator.new.handle.kept ≡ keying_at collator.old.handle.kept }
-    ensures book { collator.old.full ≡ true → collator.new.handle.kept.book ≡ collator.old.handle.kept.book }
+    ensures keying { collator.old.full ≡ true → keying_at (collator_in collator.new) ≡ keying_at (collator_in collator.old) }
+    ensures book { collator.old.full ≡ true → (collator_in collator.new).book ≡ (collator_in collator.old).book }
 {
     if !collator.full {
         *needed = 0;
         return CLOSED;
     }
-    let mut opened = take(alloc, collator);
-    let status = text_work::write_beginning(&mut opened, text, out, needed);
-    put(collator, opened);
-    status
+    text_work::write_beginning(collator.opened(), text, out, needed)
 }
 
 /// Tells how many bytes the key of a text of at most `length` bytes has at most.
 #[unsafe(no_mangle)]
 pub extern "C" fn uca_key_bound(
-    alloc: Global,
     collator: &mut Slot,
     length: usize,
     bound: &mut usize,
@@ -51,20 +46,18 @@ pub extern "C" fn uca_key_bound(
     ensures closed { (result ≡ CLOSED) ↔ (collator.old.full ≡ false) }
     ensures statuses { (result ≡ OK) ⊎ (result ≡ CLOSED) }
     ensures ok { result ≡ OK →
-        BoundsKeys (key_by (keying_at collator.old.handle.kept) collator.old.handle.kept.book) length bound.new }
-    ensures value { result ≡ OK → bound.new ≡ bound_by collator.old.handle.kept.book length }
+        BoundsKeys (key_by (keying_at (collator_in collator.old)) (collator_in collator.old).book) length bound.new }
+    ensures value { result ≡ OK → bound.new ≡ bound_by (collator_in collator.old).book length }
     ensures none { result ≢ OK → bound.new ≡ 0 }
     ensures full { collator.new.full ≡ collator.old.full }
-    ensures keying { collator.old.full ≡ true → keying_at collator.new.handle.kept ≡ keying_at collator.old.handle.kept }
-    ensures book { collator.old.full ≡ true → collator.new.handle.kept.book ≡ collator.old.handle.kept.book }
+    ensures keying { collator.old.full ≡ true → keying_at (collator_in collator.new) ≡ keying_at (collator_in collator.old) }
+    ensures book { collator.old.full ≡ true → (collator_in collator.new).book ≡ (collator_in collator.old).book }
 {
     if !collator.full {
         *bound = 0;
         return CLOSED;
     }
-    let opened = take(alloc, collator);
-    *bound = text_work::key_bound(&opened, length);
-    put(collator, opened);
+    *bound = text_work::key_bound(collator.opened(), length);
     OK
 }
 
@@ -72,24 +65,20 @@ pub extern "C" fn uca_key_bound(
 /// a long run of non-starters begins.
 #[unsafe(no_mangle)]
 pub extern "C" fn uca_check_text(
-    alloc: Global,
     collator: &mut Slot,
     text: &[u8],
     position: &mut usize,
 ) -> u32
     ensures closed { (result ≡ CLOSED) ↔ (collator.old.full ≡ false) }
-    ensures judged { collator.old.full ≡ true → IsJudged (keying_at collator.old.handle.kept) text.now result position.new }
+    ensures judged { collator.old.full ≡ true → IsJudged (keying_at (collator_in collator.old)) text.now result position.new }
     ensures none { collator.old.full ≡ false → position.new ≡ 0 }
     ensures full { collator.new.full ≡ collator.old.full }
-    ensures keying { collator.old.full ≡ true → keying_at collator.new.handle.kept ≡ keying_at collator.old.handle.kept }
-    ensures book { collator.old.full ≡ true → collator.new.handle.kept.book ≡ collator.old.handle.kept.book }
+    ensures keying { collator.old.full ≡ true → keying_at (collator_in collator.new) ≡ keying_at (collator_in collator.old) }
+    ensures book { collator.old.full ≡ true → (collator_in collator.new).book ≡ (collator_in collator.old).book }
 {
     if !collator.full {
         *position = 0;
         return CLOSED;
     }
-    let mut opened = take(alloc, collator);
-    let status = text_work::judge(&mut opened, text, position);
-    put(collator, opened);
-    status
+    text_work::judge(collator.opened(), text, position)
 }

@@ -8,9 +8,7 @@ ghost use Rattle.uca_upgrade.specs.Opening.{IsUpgradeOf};
 ghost use Rattle.uca_c.specs.UpgradeCalls.{AsksUpgrade, OpensUpgradeBy, IsUpgradeOpenStatus};
 ghost use Rattle.uca_c.specs.UpgradeErrors.{TellsUpgrade, no_error};
 
-use crate::kept::keep;
 use crate::numbers::asked_settings;
-use crate::open_upgrade::OpenUpgrade;
 use crate::statuses::ARGUMENT;
 use crate::structs::UpgradeError;
 use crate::upgrade_errors::{nothing, tell};
@@ -18,7 +16,7 @@ use std::alloc::Global;
 use uca_upgrade::{OwnedUpgrade, UpgradeFiles};
 
 // An upgrade by these files, or the status of the call.
-fn open_files(
+pub fn open(
     alloc: Global,
     files: &UpgradeFiles,
     weighting: u32,
@@ -38,25 +36,5 @@ fn open_files(
     match OwnedUpgrade::open(alloc, files, asked) {
         Ok(upgrade) => Ok(upgrade),
         Err(fault) => Err(tell(fault, error)),
-    }
-}
-
-// An upgrade by these files in memory of its own, or the status of the call.
-pub fn open(
-    alloc: Global,
-    files: &UpgradeFiles,
-    weighting: u32,
-    depth: u32,
-    error: &mut UpgradeError,
-) -> Result<Box<OpenUpgrade>, u32>
-    ensures found { IfOk result (λ kept. OpensUpgradeBy weighting depth files.now kept.value) }
-    ensures only { (asked : Asked) (change : Change) → AsksUpgrade weighting depth files.now asked change →
-        MatchResult result (λ kept. IsUpgradeOf files.now change asked kept.value) (TellsUpgrade (IsUpgradeStop asked.numbers change) error.new) }
-    ensures no_error { OnOk result (error.new ≡ no_error) }
-    ensures rejected { IfErr result (IsUpgradeOpenStatus weighting depth files.now error.new) }
-{
-    match open_files(alloc, files, weighting, depth, error) {
-        Ok(upgrade) => keep(alloc, OpenUpgrade::new(alloc, upgrade)),
-        Err(status) => Err(status),
     }
 }

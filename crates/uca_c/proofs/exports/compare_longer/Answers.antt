@@ -1,7 +1,8 @@
--- A short text is equal to itself by any collator. The collator is the same as before it was taken out.
+-- A short text is equal to itself by any collator. The collator is the same as before.
 use Rattle.std.proofs.Common.{subst}
 use Rattle.uca_order.specs.Keyings.{bytes_compared}
 use Rattle.uca_c.specs.OpenCollators.{keying_at}
+use Rattle.uca_c.specs.Slots.{collator_in}
 use Rattle.uca_c.specs.Results.{IsComparison}
 use Rattle.uca_c.proofs.SameTexts.{same_accepted, same_compared}
 use Rattle.uca_c.proofs.exports.compare_longer.Goals as goal
@@ -13,9 +14,9 @@ returns-in-None-clause-ok c is_ok =
 
 pub returns-then-are_same_short-clause-ok : goal.returns-then-are_same_short-clause-ok
 returns-then-are_same_short-clause-ok c is_ok =
-    same_compared (keying_at c.args.collator.now.handle.kept) c.args.left.now c.args.right.now c.if-are_same_short.ensures.1
+    same_compared (keying_at (collator_in c.args.collator.now)) c.args.left.now c.args.right.now c.if-are_same_short.ensures.1
 
 pub returns-then-are_same_short-clause-rejected : goal.returns-then-are_same_short-clause-rejected
 returns-then-are_same_short-clause-rejected c =
     let same = c.if-are_same_short.ensures in
-    same_accepted (keying_at c.args.collator.now.handle.kept) c.args.left.now c.args.right.now same.1 same.0 same.2
+    same_accepted (keying_at (collator_in c.args.collator.now)) c.args.left.now c.args.right.now same.1 same.0 same.2

@@ -1,4 +1,4 @@
--- The collator is the same as before it was taken out.
+-- The collator is the same as before.
 use Rattle.std.proofs.Common.{subst}
 use Rattle.uca_order.specs.Keyings.{bytes_compared}
 use Rattle.uca_c.specs.OpenCollators.{keying_at}

@@ -1,7 +1,8 @@
--- Texts that are compared are accepted. The collator is the same as before it was taken out.
+-- Texts that are compared are accepted. The collator is the same as before.
 use Rattle.std.proofs.Common.{rules, subst}
 use Rattle.uca_owned.proofs.OrderLemmas.{accepted_order}
 use Rattle.uca_c.specs.OpenCollators.{keying_at}
+use Rattle.uca_c.specs.Slots.{collator_in}
 use Rattle.uca_c.specs.Results.{IsOrderNumber}
 use Rattle.uca_c.proofs.SameTexts.{same_ordered}
 use Rattle.uca_c.proofs.exports.order_longer.Goals as goal
@@ -11,7 +12,7 @@ returns-in-Some-clause-ok c is_ok =
     let found = c.in-Some.ensures in
     record {
       found = c.in-Some.found;
-      order = accepted_order (keying_at c.args.collator.now.handle.kept) c.args.left.now c.args.right.now c.in-Some.found found.accepted.0 found.accepted.1 found.compared.0;
+      order = accepted_order (keying_at (collator_in c.args.collator.now)) c.args.left.now c.args.right.now c.in-Some.found found.accepted.0 found.accepted.1 found.compared.0;
       same = search rules;
     }
 
@@ -22,4 +23,4 @@ returns-in-None-clause-ok c is_ok =
 
 pub returns-then-are_same_short-clause-ok : goal.returns-then-are_same_short-clause-ok
 returns-then-are_same_short-clause-ok c is_ok =
-    same_ordered (keying_at c.args.collator.now.handle.kept) c.args.left.now c.args.right.now c.if-are_same_short.ensures.1
+    same_ordered (keying_at (collator_in c.args.collator.now)) c.args.left.now c.args.right.now c.if-are_same_short.ensures.1

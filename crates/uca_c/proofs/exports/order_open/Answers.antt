@@ -1,7 +1,8 @@
--- Texts that are compared are accepted. The collator is the same as before it was taken out.
+-- Texts that are compared are accepted. The collator is the same as before.
 use Rattle.std.proofs.Common.{rules, subst}
 use Rattle.uca_owned.proofs.OrderLemmas.{accepted_order}
 use Rattle.uca_c.specs.OpenCollators.{keying_at}
+use Rattle.uca_c.specs.Slots.{collator_in}
 use Rattle.uca_c.specs.Results.{IsOrderNumber}
 use Rattle.uca_c.proofs.exports.order_open.Goals as goal
 
@@ -10,7 +11,7 @@ returns-in-Some-clause-ok c is_ok =
     let found = c.in-Some.ensures in
     record {
       found = c.in-Some.found;
-      order = accepted_order (keying_at c.args.collator.now.handle.kept) c.args.left.now c.args.right.now c.in-Some.found found.accepted.0 found.accepted.1 found.compared.0;
+      order = accepted_order (keying_at (collator_in c.args.collator.now)) c.args.left.now c.args.right.now c.in-Some.found found.accepted.0 found.accepted.1 found.compared.0;
       same = search rules;
     }
 

@@ -1,25 +1,24 @@
--- What is kept is what was opened.
-use Rattle.std.proofs.Common.{◌≡◌, ◌∙◌, ap, inl, inr}
+-- Files that mean something are rejected by no cause of their own, and the numbers are those that were asked for.
+use Rattle.std.proofs.Common.{◌≡◌, ◌∙◌, ap, subst, sym}
+use Rattle.std.specs.Prelude.{Option, unwrap_or}
+use Rattle.uca_weights.specs.declared.Asked.{Asked}
 use Rattle.uca_order.specs.Keyings.{keying}
-use Rattle.uca_c.specs.OpenCollators.{keying_at}
-use Rattle.uca_owned.specs.Owned.{keying_in}
-use Rattle.uca_c.specs.Opened.{IsOpenStatus, IsOpenStopStatus}
-use Rattle.uca_c.proofs.Keeping.{kept_by, or_memory}
-use Rattle.uca_c.proofs.Telling.{read_of}
+use Rattle.uca_c.specs.Opened.{IsOpenStopStatus}
+use Rattle.uca_c.proofs.Telling.{told_cause, told_stop}
 use Rattle.uca_c.proofs.opening.open.Goals as goal
+
+pub returns-in-Err-clause-only : goal.returns-in-Err-clause-only
+returns-in-Err-clause-only c asked meant properties asks =
+    let same : c.in-Some.asked ≡ asked = ap (λ (it : Option Asked). unwrap_or it asked) (c.in-Some.ensures ∙ asks.is_asked) in
+    subst (λ (it : Asked). IsOpenStopStatus it meant properties c.tell.new.error.line c.tell.new.error.kind c.tell.result) same
+    (told_stop c.in-Some.asked meant properties c.in-Err.fault _ _ _ (c.in-Err.ensures.only meant properties asks.mean) c.tell.ensures)
 
 pub returns-in-Ok-clause-only : goal.returns-in-Ok-clause-only
 returns-in-Ok-clause-only c asked meant properties asks =
-    kept_by c.keep.result (λ kept. kept.value ≡ c.new.result) (λ kept. keying_at kept.value ≡ keying asked meant properties)
-    (IsOpenStopStatus asked meant properties c.open_texts.new.error.line c.open_texts.new.error.kind) c.keep.ensures
-    (λ kept same. ap keying_at (same ∙ c.new.ensures) ∙ c.in-Ok.ensures.only asked meant properties asks) (λ status is. inl (inl is))
+    c.in-Ok.ensures.only meant properties asks.mean
+    ∙ ap (λ (it : Option Asked). keying (unwrap_or it asked) meant properties) (c.in-Some.ensures ∙ asks.is_asked)
 
-pub returns-in-Ok-clause-rejected : goal.returns-in-Ok-clause-rejected
-returns-in-Ok-clause-rejected c =
-    or_memory c.keep.result (λ kept. kept.value ≡ c.new.result)
-    (IsOpenStatus c.args.weighting c.args.depth c.args.table.now c.args.data_file.now c.open_texts.new.error.line c.open_texts.new.error.kind) c.keep.ensures
-    (λ status is. inl (inr (inr (inr (
-      is,
-      read_of c.args.weighting c.args.depth c.args.table.now c.args.data_file.now (keying_in c.in-Ok.opened) c.in-Ok.ensures.found,
-      c.in-Ok.ensures.no_error,
-    )))))
+pub returns-in-Err-clause-rejected : goal.returns-in-Err-clause-rejected
+returns-in-Err-clause-rejected c =
+    told_cause c.args.weighting c.args.depth c.in-Some.asked c.args.table.now c.args.data_file.now (sym c.in-Some.ensures) c.in-Err.fault _ _ _
+    c.in-Err.ensures.fault c.tell.ensures

@@ -1,24 +1,33 @@
--- What is kept is what was opened, or memory ran out once all files were read.
-use Rattle.std.proofs.Common.{◌≡◌, ◌∙◌, inr, subst, sym}
+-- Files that mean a change are rejected by no cause of their own, and the numbers are those that were asked for.
+use Rattle.std.proofs.Common.{◌≡◌, ◌∙◌, ap, inr, subst, sym}
+use Rattle.std.specs.Prelude.{Option, unwrap_or}
+use Rattle.uca_weights.specs.declared.Asked.{Asked}
 use Rattle.uca_upgrade.specs.Causes.{IsUpgradeStop}
 use Rattle.uca_upgrade.specs.Opening.{IsUpgradeOf}
-use Rattle.uca_upgrade.specs.declared.faults.UpgradeFault.TheVariants.{Memory}
-use Rattle.uca_c.specs.UpgradeCalls.{IsUpgradeOpenStatus}
-use Rattle.uca_c.specs.UpgradeErrors.{TellsUpgrade}
-use Rattle.uca_c.proofs.Keeping.{kept_by, or_memory}
 use Rattle.uca_c.proofs.upgrade_opening.open.Goals as goal
 
 pub returns-in-Ok-clause-only : goal.returns-in-Ok-clause-only
 returns-in-Ok-clause-only c asked change asks =
-    kept_by c.keep.result (λ kept. kept.value ≡ c.new.result) (λ kept. IsUpgradeOf c.args.files.now change asked kept.value)
-    (TellsUpgrade (IsUpgradeStop asked.numbers change) c.open_files.new.error) c.keep.ensures
-    (λ kept same. subst (IsUpgradeOf c.args.files.now change asked) (sym (same ∙ c.new.ensures)) (c.in-Ok.ensures.only asked change asks))
-    (λ status is. record { fault = Memory; cause = (tt, c.in-Ok.ensures.no_error); same = is })
+    let files = c.args.files.now in
+    subst (λ (it : Option Asked). IsUpgradeOf files change (unwrap_or it asked) c.in-Ok.upgrade) (c.in-Some.ensures ∙ asks.is_asked)
+    (c.in-Ok.ensures.only change asks.mean)
 
-pub returns-in-Ok-clause-rejected : goal.returns-in-Ok-clause-rejected
-returns-in-Ok-clause-rejected c =
-    let found = c.in-Ok.ensures.found in
-    let opens = found.opens in
-    or_memory c.keep.result (λ kept. kept.value ≡ c.new.result)
-    (IsUpgradeOpenStatus c.args.weighting c.args.depth c.args.files.now c.open_files.new.error) c.keep.ensures
-    (λ status is. inr (found.asked, found.is_asked, record { fault = Memory; cause = ((opens.0, opens.1), c.in-Ok.ensures.no_error); same = is }))
+pub returns-in-Err-clause-only : goal.returns-in-Err-clause-only
+returns-in-Err-clause-only c asked change asks =
+    let same : c.in-Some.asked ≡ asked = ap (λ (it : Option Asked). unwrap_or it asked) (c.in-Some.ensures ∙ asks.is_asked) in
+    record {
+      fault = c.in-Err.fault;
+      cause = (subst (λ (it : Asked). IsUpgradeStop it.numbers change c.in-Err.fault) same (c.in-Err.ensures.only change asks.mean), c.tell.ensures.error);
+      same = c.tell.ensures.status;
+    }
+
+pub returns-in-Err-clause-rejected : goal.returns-in-Err-clause-rejected
+returns-in-Err-clause-rejected c = inr (
+  c.in-Some.asked,
+  sym c.in-Some.ensures,
+  record {
+    fault = c.in-Err.fault;
+    cause = (c.in-Err.ensures.fault, c.tell.ensures.error);
+    same = c.tell.ensures.status;
+  },
+)

@@ -11,8 +11,8 @@ use Rattle.std.specs.Global.{Global}
 use Rattle.std.proofs.Crossing as heap
 use Rattle.std_alloc.proofs.SendSync.{quiet, lies}
 use Rattle.std_heap.proofs.Global.TheSendSync as allocator
-use Rattle.uca_c.specs.contracts.open_collator.OpenCollator as Home
-use Rattle.uca_c.proofs.open_collator.OpenCollator.TheSendSync.{the_send as home}
+use Rattle.uca_c.specs.contracts.held.Held as Home
+use Rattle.uca_c.proofs.held.Held.TheSendSync.{the_send as home}
 use Rattle.uca_c.specs.contracts.handle.Handle.{the_row, the_type}
 use Rattle.uca_c.specs.inside.Handles.{handle_owns}
 
