@@ -1653,7 +1653,7 @@ def postgresql_use_language(work):
             same(says(it, fails=True), KEYS_ARE_KEPT, it)
         to_phone_book = another_language(says, PHONE_BOOK, f"uca: the server's language is sv, and not {PHONE_BOOK}")
         same(says(NAMES_IN_ORDER, fails=True), OTHER_FILES, "names before the language is used")
-        same(says(f"BEGIN READ ONLY; {used('sv')}", fails=True), "ERROR:  cannot execute DELETE in a read-only transaction", "a transaction that only reads")
+        same(says(f"BEGIN READ ONLY; {used('sv')}", fails=True), "ERROR:  cannot execute INSERT in a read-only transaction", "a transaction that only reads")
         same(says(f"{used('sv')} {NAMES_IN_ORDER}"), "1\nb bh bz\n", "another language")
         follow(server, says, to_phone_book)
         one_more = "CREATE TABLE more(name uca_text PRIMARY KEY); INSERT INTO more VALUES ('bh'), ('bz'); SET enable_seqscan = off; SELECT name FROM more ORDER BY name;"
