@@ -425,3 +425,13 @@ BEGIN ATOMIC
     SELECT pg_catalog.count(uca_run(d.statement, d.owner)) FROM uca_dependents() d WHERE again;
 END;
 REVOKE EXECUTE ON FUNCTION uca_use_files(boolean) FROM PUBLIC;
+
+-- an error, unless this is the tag of the server's language
+CREATE FUNCTION uca_need_language(tag pg_catalog.text) RETURNS boolean AS 'MODULE_PATHNAME', 'uca_need_language' LANGUAGE C STABLE;
+REVOKE EXECUTE ON FUNCTION uca_need_language(pg_catalog.text) FROM PUBLIC;
+
+-- The same as uca_use_files, where the server has the language of this tag. Else it is an error that says how it gets it: no statement changes
+-- the language of a server that runs.
+CREATE FUNCTION uca_use_language(tag pg_catalog.text, again boolean DEFAULT false) RETURNS bigint LANGUAGE sql
+RETURN CASE WHEN uca_need_language(tag) THEN uca_use_files(again) END;
+REVOKE EXECUTE ON FUNCTION uca_use_language(pg_catalog.text, boolean) FROM PUBLIC;

@@ -8,7 +8,8 @@
    ASCII letters and digits, in parts: with one hyphen between two of them, and in an edition also a dot. So they are no path, and name no
    folder above. No program is run, and no variable of the environment is read.
 
-   This runs while the server starts. So it raises no error, which would end the server, but leaves a reason. */
+   This runs while the server starts, and where uca_use_language is an error. So it raises no error itself, which would end the server, but
+   leaves a reason. */
 #include "uca_postgresql.h"
 
 #include <dirent.h>
@@ -116,12 +117,17 @@ static void find_only(const char *folder, const char *tag, char *edition, char *
     }
 }
 
+bool is_language(const char *tag)
+{
+    return is_name(tag, "-");
+}
+
 bool find_language(const char *tag, const char *asked, char *table, char *data, char *reason)
 {
     char folder[MOST_PATH], edition[MOST_NAME + 1] = "";
 
     *reason = '\0';
-    if (!is_name(tag, "-"))
+    if (!is_language(tag))
         strlcpy(reason, "uca: uca.language is not letters and digits with single hyphens between them", REASON);
     else if (*asked && !is_name(asked, "-."))
         strlcpy(reason, "uca: uca.edition is not letters and digits with single hyphens or dots between them", REASON);

@@ -926,6 +926,39 @@ Datum uca_need_no_dependents(PG_FUNCTION_ARGS)
     PG_RETURN_BOOL(true);
 }
 
+/* The error that the server has another language than this one, or none. It has what an administrator runs before the next start, and why
+   that start would find no files of this language, if it would not. */
+static void other_language_error(const char *tag)
+{
+    char table[MOST_PATH], data[MOST_PATH], reason[REASON];
+    bool has_files = find_language(tag, language_edition, table, data, reason);
+    const char *unnamed = *names.table || *names.data ? "ALTER SYSTEM SET uca.table_file = ''; ALTER SYSTEM SET uca.data_file = ''; " : "";
+
+    ereport(ERROR, (errcode(ERRCODE_OBJECT_NOT_IN_PREREQUISITE_STATE),
+                    *language ? errmsg("uca: the server's language is %s, and not %s", language, tag)
+                              : errmsg("uca: the server has no language in uca.language, and so not %s", tag),
+                    has_files ? 0 : errdetail("%s", reason + strlen("uca: ")),
+                    errhint("%sALTER SYSTEM SET uca.language = %s; then start the server again, and repeat this statement.", unnamed,
+                            quote_literal_cstr(tag))));
+}
+
+/* uca_need_language(text) returns boolean: true for the tag of the server's language. Another one, or NULL, is an error. */
+PG_FUNCTION_INFO_V1(uca_need_language);
+Datum uca_need_language(PG_FUNCTION_ARGS)
+{
+    char *tag;
+
+    if (PG_ARGISNULL(0))
+        ereport(ERROR, (errcode(ERRCODE_NULL_VALUE_NOT_ALLOWED), errmsg("uca: the language is NULL")));
+    tag = text_to_cstring(PG_GETARG_TEXT_PP(0));
+    if (!is_language(tag))
+        ereport(ERROR, (errcode(ERRCODE_INVALID_PARAMETER_VALUE),
+                        errmsg("uca: the language is not letters and digits with single hyphens between them")));
+    if (strcmp(tag, language) != 0)
+        other_language_error(tag);
+    PG_RETURN_BOOL(true);
+}
+
 /* uca_run(text, regrole) returns text: it runs this statement as this role, and returns it. What the statement sets ends with it. After
    an error, PostgreSQL restores all of this. */
 PG_FUNCTION_INFO_V1(uca_run_statement);

@@ -41,6 +41,9 @@ extern bool has_its_files(Oid function);
 /* Prepares sorting, and begins to look at the indexes of each table that is planned. The files have been read. */
 extern void start_texts(void);
 
+/* Whether a text can be the tag of a language: ASCII letters and digits, with single hyphens between them. */
+extern bool is_language(const char *tag);
+
 /* The paths of the table and the data file of a language, of the edition that is asked for, or of the only one where that is "". Otherwise it
    is false, and there is a reason. */
 extern bool find_language(const char *tag, const char *asked, char *table, char *data, char *reason);

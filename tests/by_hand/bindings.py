@@ -1605,6 +1605,82 @@ def postgresql_language_errors(server, says, folder):
     same(says(NAMES_IN_ORDER), "b bz bh\n", "an edition that it may read again")
 
 
+# What uca_use_language says of a tag where it is an error: the message, the detail and the hint.
+TOLD = """CREATE FUNCTION told(tag text) RETURNS TABLE(message text, detail text, hint text) LANGUAGE plpgsql AS $$ BEGIN
+    PERFORM uca_use_language(tag, again => true);
+EXCEPTION WHEN object_not_in_prerequisite_state THEN
+    GET STACKED DIAGNOSTICS message = MESSAGE_TEXT, detail = PG_EXCEPTION_DETAIL, hint = PG_EXCEPTION_HINT;
+    RETURN NEXT;
+END $$;"""
+NOT_FILES = "ALTER SYSTEM SET uca.table_file = ''; ALTER SYSTEM SET uca.data_file = ''; "
+NO_LANGUAGE = "uca: the server has no language in uca.language, and so not {}"
+
+
+def another_language(says, tag, message, detail="", before=""):
+    """The server has another language than this one, and says so. Returns the statements of the hint."""
+    statements = f"{before}ALTER SYSTEM SET uca.language = '{tag}';"
+    same(says(f"SELECT * FROM told('{tag}');"), f"{message}|{detail}|{statements} then start the server again, and repeat this statement.\n", f"the language {tag}")
+    return re.findall("ALTER SYSTEM [^;]*;", statements)
+
+
+def follow(server, says, statements):
+    """Does what a hint says before the statement is repeated."""
+    for it in statements:
+        says(it)
+    server.restart(content(f"{server.folder}/data/postgresql.auto.conf").decode())
+
+
+def postgresql_use_language(work):
+    """uca_use_language does what uca_use_files does for the language of the server. For another one it is an error that changes nothing, and its hint leads there."""
+    is_phone_book = f"uca: the server's language is {PHONE_BOOK}, and not {{}}"
+    used = lambda tag, again="true": f"SELECT uca_use_language('{tag}', again => {again});"
+    with language_server(work) as (server, says, folder):
+        says(f"{THREE_NAMES} CREATE INDEX by_name ON words(name); {TOLD}")
+        keep_language(folder, "sv", TABLE)
+        for it in (f"'{PHONE_BOOK}'", f"'{PHONE_BOOK}', NULL", f"tag => '{PHONE_BOOK}', again => false"):
+            same(says(f"SELECT uca_use_language({it});"), "0\n", f"uca_use_language({it})")
+        for it in ("NULL", "NULL, NULL", "NULL, true"):
+            same(says(f"SELECT uca_use_language({it});", fails=True), "ERROR:  uca: the language is NULL", f"uca_use_language({it})")
+        for it in ("", " ", "sv ", "../sv", "sv/..", "s.v", "sv-", "-sv", "sv--x", "sv_SE", "své", "sv'", "a" * 101, "%s"):
+            same(says(used(it.replace("'", "''")), fails=True), "ERROR:  uca: the language is not letters and digits with single hyphens between them", it)
+        made_by = "an administrator makes them by: uca-files --into /usr/local/share/uca"
+        another_language(says, "SV", is_phone_book.format("SV"), f"no folder has files of the language SV; {made_by} SV")
+        another_language(says, "pl", is_phone_book.format("pl"), "there are several editions of the language pl, and uca.edition names none of them: 15.0.0-cldr41, 16.0.0-cldr46")
+        to_swedish = another_language(says, "sv", is_phone_book.format("sv"))
+        same(says(f"{NAMES_IN_ORDER} SELECT fingerprint FROM uca_files;"), f"b bz bh\n{OTHER}\n", "what another language leaves")
+        follow(server, says, to_swedish)
+        for it in (used("sv", "false"), used("sv", "NULL"), "SELECT uca_use_language('sv');"):
+            same(says(it, fails=True), KEYS_ARE_KEPT, it)
+        to_phone_book = another_language(says, PHONE_BOOK, f"uca: the server's language is sv, and not {PHONE_BOOK}")
+        same(says(NAMES_IN_ORDER, fails=True), OTHER_FILES, "names before the language is used")
+        same(says(f"BEGIN READ ONLY; {used('sv')}", fails=True), "ERROR:  cannot execute INSERT in a read-only transaction", "a transaction that only reads")
+        same(says(f"{used('sv')} {NAMES_IN_ORDER}"), "1\nb bh bz\n", "another language")
+        follow(server, says, to_phone_book)
+        one_more = "CREATE TABLE more(name uca_text PRIMARY KEY); INSERT INTO more VALUES ('bh'), ('bz'); SET enable_seqscan = off; SELECT name FROM more ORDER BY name;"
+        same(says(f"{used(PHONE_BOOK)} {NAMES_IN_ORDER} {one_more}"), "1\nb bz bh\nbz\nbh\n", "the phone book again, and one more table")
+        postgresql_no_language(server, says, folder, used)
+
+
+def postgresql_no_language(server, says, folder, used):
+    """uca_use_language where the server's files are named, where it has no settings, no files of its language, and a next edition."""
+    table, data = (f"uca.{it}_file = '{folder}/15.0.0-cldr41/sv/{it}.txt'\n" for it in ("table", "data"))
+    server.restart(f"{BARE}{table}{data}")
+    to_swedish = another_language(says, "sv", NO_LANGUAGE.format("sv"), before=NOT_FILES)
+    follow(server, says, to_swedish)
+    same(says(f"{used('sv')} {NAMES_IN_ORDER}"), "2\nb bh bz\n", "a language in place of files")
+    server.restart(BARE)
+    another_language(says, "sv", NO_LANGUAGE.format("sv"))
+    server.restart(by_language("none"))
+    same(says(used("none"), fails=True)[:54], "ERROR:  uca: no folder has files of the language none;", "a language without files")
+    another_language(says, "sv", "uca: the server's language is none, and not sv")
+    both = "".join(f"uca.{name}_file = '{file}'\n" for name, file in zip(("next_table", "next_data", "changes", "certificate"), EDITIONS[2:]))
+    server.restart(by_language("pl", "15.0.0-cldr41", f"uca.weighting = shifted\n{both}"))
+    same(says(f"{used('pl')} {NAMES_IN_ORDER} SELECT uca_next_fingerprint() IS NULL;"), "2\nb bh bz\nf\n", "a language beside its next edition")
+    follow(server, says, another_language(says, PHONE_BOOK, f"uca: the server's language is pl, and not {PHONE_BOOK}"))
+    same(says(f"{used(PHONE_BOOK)} {NAMES_IN_ORDER}"), "2\nb bz bh\n", "another language than that of the next edition")
+    same(says("SELECT uca_next_fingerprint();", fails=True)[:47], "ERROR:  uca: the audit rejects the next edition", "the next edition of another language")
+
+
 def language_page(program):
     """What docs/BINDINGS.md says of languages from nothing, by the files that tools/uca_files.py makes."""
 
@@ -1628,9 +1704,9 @@ def language_page(program):
             statements = blocks["sql", "postgresql"]
             server.restart(blocks["conf", "postgresql"])
             same(says(statements).splitlines(), re.findall(r"^-- (.*)", statements, re.M), "the page's statements")
-            for tag, again in ((PHONE_BOOK, ""), ("pl", "SELECT FROM uca_use_files(again => true);")):
+            for tag in (PHONE_BOOK, "pl"):
                 server.restart(by_language(tag))
-                says(again)
+                says(f"SELECT FROM uca_use_language('{tag}', again => true);")
                 same(says("SELECT uca_fingerprint();"), run([program, "fingerprint", *kept_in(folder, tag)]).decode(), f"the fingerprint of {tag}")
                 keys_of_server(says, program, kept_in(folder, tag))
 
@@ -1801,7 +1877,7 @@ def postgresql_roles(work):
         says("SET ROLE joe; INSERT INTO words VALUES ('a');")
         says("REVOKE SELECT ON ext.uca_files FROM PUBLIC; SET ROLE joe; INSERT INTO words VALUES ('b');")
         says("GRANT USAGE ON SCHEMA ext TO joe;")
-        for it in ("SELECT ext.uca_use_files()", "SELECT ext.uca_run('SELECT 1', 'joe')", "DELETE FROM ext.uca_files", "INSERT INTO ext.uca_files VALUES ('')"):
+        for it in ("SELECT ext.uca_use_files()", "SELECT ext.uca_use_language('pl')", "SELECT ext.uca_need_language('pl')", "SELECT ext.uca_run('SELECT 1', 'joe')", "DELETE FROM ext.uca_files", "INSERT INTO ext.uca_files VALUES ('')"):
             if "permission denied" not in says(f"SET ROLE joe; {it};", fails=True):
                 raise AssertionError(f"{it} by a role without rights")
         says("CREATE INDEX CONCURRENTLY again ON words(ext.uca_key(word)); REINDEX INDEX CONCURRENTLY again; VACUUM FULL words; ANALYZE words;")
@@ -1924,7 +2000,7 @@ def postgresql_traps(work):
     """The owner of a database, and a role that may create in a schema, make functions and operators there before a superuser installs the extension. Each fits
     the types of some call better than what pg_catalog has. None may run as the superuser."""
     attacks = (("carol", "carols", "public", "CREATE EXTENSION uca;"), ("mallory", "hers", "app", "CREATE EXTENSION uca SCHEMA app;"))
-    with postgresql_server(work) as (server, says, settings):
+    with language_server(work) as (server, says, _):
         says("CREATE ROLE carol; CREATE DATABASE carols OWNER carol; CREATE ROLE mallory; CREATE DATABASE hers;")
         says("CREATE SCHEMA app; GRANT CREATE, USAGE ON SCHEMA app TO mallory;", database="hers")
         for role, database, schema, created in attacks:
@@ -1934,13 +2010,15 @@ def postgresql_traps(work):
             none_sprung(says, database, role, schema, created)
             says(f"SET search_path = {schema}; SELECT uca_use_files(again => false); {OF_SUPERUSER.format(schema)}", database=database)
             none_sprung(says, database, role, schema, "uca_use_files(again => false)")
-        server.restart(settings.replace("/table.txt", "/tailored.txt"))
+            same(says(f"SET search_path = {schema}; SELECT uca_use_language(tag => 'xx', again => false);", fails=True, database=database), f"ERROR:  uca: the server's language is {PHONE_BOOK}, and not xx", "another language")
+            none_sprung(says, database, role, schema, "uca_use_language(tag => 'xx', again => false)")
+        server.restart(by_language("pl", "15.0.0-cldr41"))
         for role, database, schema, _ in attacks:
-            used = f"SET search_path = {schema}; SELECT uca_fingerprint() IS NULL; SELECT object FROM uca_dependents(); SELECT uca_use_files(again => true);"
+            used = f"SET search_path = {schema}; SELECT uca_fingerprint() IS NULL; SELECT object FROM uca_dependents(); SELECT uca_use_language(tag => 'pl', again => true);"
             wanted = [f"{schema}.by_key", f"{schema}.by_name", f"{schema}.words.key", f"has_key on {schema}.words", f"short_check on {schema}.short", f"{schema}.keys"]
             same(says(used, database=database).splitlines(), ["f", *wanted, "6"], "what is made again")
             says(f"SET search_path = {schema}; INSERT INTO words VALUES ('c'::{schema}.short, DEFAULT, 'c'); SELECT uca_use_files(again => false);", database=database)
-            none_sprung(says, database, role, schema, "uca_use_files(again => true)")
+            none_sprung(says, database, role, schema, "uca_use_language(tag => 'pl', again => true)")
 
 
 # Thirty layers, where each view reads both of the layer before it. Then a materialized view that calls a function, and one that reads it.
@@ -2636,6 +2714,7 @@ def main():
               ("SQLite's loads of upgrades", sqlite_upgrade_loads), ("SQLite's compact keys in upgrades", sqlite_compact_upgrades), ("SQLite's moves", sqlite_moves),
               ("SQLite's indexes of texts", sqlite_texts), ("SQLite's memory", sqlite_memory), ("SQLite on the page", sqlite_page), ("SQLite's orders", sqlite_like(program)),
               ("PostgreSQL", postgresql), ("PostgreSQL's settings", postgresql_settings), ("PostgreSQL's numbers", postgresql_numbers), ("PostgreSQL's languages", postgresql_languages),
+              ("PostgreSQL's uca_use_language", postgresql_use_language),
               ("PostgreSQL's dumps", postgresql_dumps),
               ("PostgreSQL's replication", postgresql_replication), ("PostgreSQL's changes", postgresql_changes), ("PostgreSQL's roles", postgresql_roles),
               ("PostgreSQL's owners", postgresql_owners), ("PostgreSQL's traps", postgresql_traps), ("PostgreSQL's dependents", postgresql_dependents), ("PostgreSQL's columns", postgresql_columns), ("PostgreSQL's compact keys", postgresql_compact),

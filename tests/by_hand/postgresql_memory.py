@@ -20,8 +20,8 @@ it would show little. The checks are
 - pages: an insertion that splits pages of an index, and VACUUM, which deletes some;
 - transactions: after an error the transaction goes on by a savepoint or by a handler of PL/pgSQL. Others end in a cursor or at COMMIT;
 - editions: the transaction of docs/BINDINGS.md that takes a table to the next edition. All rows have the keys of one edition;
-- files: CREATE EXTENSION, and `uca_use_files(again => true)` after a start with another table. Each does all or nothing. In the second one each third allocation fails
-  alone, and each 13th with all after it.
+- files: CREATE EXTENSION, and `uca_use_language(.., again => true)` after a start by a language. Each does all or nothing. In the second one each third allocation
+  fails alone, and each 13th with all after it.
 
 No process of the server may end by a signal. Keys and orders were worked by hand from examples/table.txt, or are those of bindings.py, which were. A check prints how many runs it had, and how
 many of them were errors. In the others the extension did without that memory. It needs Debian's packages of NEEDS, and takes about two minutes. The last line is `N passed, M failed`.
@@ -268,6 +268,7 @@ def of_keys(tries):
         (f"SELECT uca_rekey(uca_key('ch', '{old}'), {named});", "ERROR:  22P03: uca: the bytes are rejected: NoImage"),
         (f"SELECT uca_key('a', '{OTHER}');", with_code(bindings.OTHERS_NAMED)),
         ("SELECT uca_fingerprint(), uca_next_fingerprint();", f"{old}|{new}"),
+        ("SELECT uca_use_language('pl');", with_code(f"ERROR:  {bindings.NO_LANGUAGE.format('pl')}")),
         (f"SELECT length({'uca_expand(uca_key(word))' if book else 'uca_key(word)'}) FROM long_texts;", "24006"),
         (f"SELECT uca_compact({whole}, '{new}') = uca_key('b a', '{new}'), encode({whole}, 'hex') = '{NEW_KEYS[3]}';", "t|t" if book else with_code(bindings.NO_SERVER_BOOK)),
     ]
@@ -438,11 +439,15 @@ def try_server(tries, first, has_next):
             raise AssertionError(f"{statement}, after a start where allocation {first} fails: {found}")
 
 
+def keep_language(tries, tag, table):
+    """Puts a language where the server finds it."""
+    shared, programs = (run([os.environ.get("PG_CONFIG", "pg_config"), it]).decode().strip() for it in ("--sharedir", "--bindir"))
+    bindings.keep_language(f"{tries.server.programs.removesuffix(programs)}{shared}/uca", tag, table)
+
+
 def languages(tries):
     """Allocations of a start by a language fail. The server has the language, or says why not, or it does not start."""
-    shared = run([os.environ.get("PG_CONFIG", "pg_config"), "--sharedir"]).decode().strip()
-    programs = run([os.environ.get("PG_CONFIG", "pg_config"), "--bindir"]).decode().strip()
-    bindings.keep_language(f"{tries.server.programs.removesuffix(programs)}{shared}/uca", "xx", TABLE)
+    keep_language(tries, "xx", TABLE)
     settings = [*without_files("table", "data", "next_table", "next_data", "next_book", "changes", "certificate"), "-c", "uca.language=xx"]
     no_next = bindings.OTHERS_NAMED.removeprefix("ERROR:  ")
     ended = set()
@@ -731,15 +736,16 @@ def editions(tries):
 
 
 def files(tries):
-    """An extension is created or not, and other files are used for all or for nothing."""
+    """An extension is created or not, and a language is used for all or for nothing."""
     tries.other.does("CREATE DATABASE empty;")
     try_to_create(tries)
     tries.other.does(f"{KEPT} INSERT INTO kept VALUES ('bh', 'bh'), ('ch', 'ch'), ('\u1ea1', '\u1ea1'); REFRESH MATERIALIZED VIEW seen;")
     settings = re.sub(r"uca.(next_.*|changes|certificate)_file.*\n", "", tries.settings)
-    tailored = settings.replace("/table.txt", "/tailored.txt")
+    keep_language(tries, "tailored", bindings.TAILORED)
+    tailored = re.sub(r"uca.(table|data)_file.*\n", "", settings) + "uca.language = 'tailored'\n"
     # the tailored table has a weight for bh; the third text is a with an accent, of which the server knows nothing when it starts
     old, new = (f"bh:{whole_key(it)} ch:{whole_key(['1c7b'])} \u1ea1:1c4700000020002c0000000200020000ffffffff" for it in (["1c60", "1d18"], ["1c61"]))
-    used = "SELECT uca_use_files(again => true);"
+    used = "SELECT uca_use_language('tailored', again => true);"
 
     def once(first, last):
         tries.tried.begin_anew()
@@ -752,7 +758,7 @@ def files(tries):
         if not is_error:
             same(tries.other.says(RIGHT_INDEXES), ["3"], "the indexes that were made again")
             begin(tries, settings)
-            same(tries.other.says(used), ["6"], "the files that were there before")
+            same(tries.other.says("SELECT uca_use_files(again => true);"), ["6"], "the files that were there before")
             begin(tries, tailored)
         return count
 

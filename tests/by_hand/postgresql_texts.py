@@ -407,6 +407,7 @@ def standby(work):
             others_fail(copy_says, wanted, "on a standby", ordered=reads)
             copy.restart(its)
             same(copy_says(f"{BY_INDEX} SELECT name FROM words ORDER BY name;"), in_order, "a standby with the same files")
+            same(copy_says("SELECT uca_use_language('pl');", fails=True), f"ERROR:  {bindings.NO_LANGUAGE.format('pl')}", "a language of a standby")
             # the primary takes other files, while the standby has a plan that reads the index
             server.restart(settings.replace("/table.txt", "/tailored.txt"))
             session = subprocess.Popen(["psql", "-XAtq"], stdin=subprocess.PIPE, stdout=subprocess.PIPE, stderr=subprocess.STDOUT, text=True, env={**os.environ, **copy.environment})
