@@ -7,7 +7,7 @@ use std::test::Fail;
 use uca_certificates::Certificate;
 use uca_host::report;
 use uca_key_runs::{KeyOutput, run_compare_in, run_keys_as, run_sort_in};
-use uca_run_parts::{KeySizes, RunFault, run_affected_in, run_check};
+use uca_run_parts::{KeySizes, RunFault, run_affected, run_check};
 use uca_tailor_runs::{run_audit_in, run_tailor_in, write_tailored};
 use uca_values::Table;
 use uca_weights::Depth::{Identical, Weights};
@@ -41,7 +41,7 @@ fn keys(memory: Memory, streams: &mut Streams, depth: Depth, lines: bool) -> Res
 
 // Its files stand one place further to the front: it has no table.
 fn affected(memory: Memory, streams: &mut Streams) -> Result<(), RunFault> {
-    run_affected_in(
+    run_affected(
         memory.tried,
         memory.ample,
         &mut streams.table,

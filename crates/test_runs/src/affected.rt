@@ -48,6 +48,7 @@ fn run_over(
     let mut out = Sink::new(FakeWriter::new(alloc, out_pace, out_calls));
     let end = run_affected(
         alloc,
+        alloc,
         &mut properties,
         &mut rules,
         &mut input,

@@ -7,7 +7,7 @@ use test_kit_allocator::Refusing;
 use uca_book_runs::run_book;
 use uca_certificates::write_certificate;
 use uca_change_files::write_changes;
-use uca_change_runs::{run_affected_by_changes_in, run_audit_changes, run_changes};
+use uca_change_runs::{run_affected_by_changes, run_audit_changes, run_changes};
 use uca_editions::FoundChanges;
 use uca_key_runs::{KeyOutput, run_compact_keys};
 use uca_rekey::{run_compact, run_expand, run_rekey};
@@ -259,7 +259,7 @@ pub fn call(ample: Global, tried: &Refusing, run: Run, out: &mut Sink<Vec<u8>>) 
         Run::Changes => changes(tried, out),
         Run::Audit => audit(tried, out),
         Run::Affected => {
-            run_affected_by_changes_in(
+            run_affected_by_changes(
                 tried,
                 ample,
                 &mut file(1),

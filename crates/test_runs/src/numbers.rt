@@ -51,6 +51,7 @@ fn run_named(
         "sort" => run_sort_in(alloc, alloc, &mut table, &mut data, &mut input, out, asked),
         "affected as text" => run_affected(
             alloc,
+            alloc,
             &mut data,
             &mut rules,
             &mut input,
@@ -58,6 +59,7 @@ fn run_named(
             Numbers::AsText,
         ),
         _ => run_affected(
+            alloc,
             alloc,
             &mut data,
             &mut rules,

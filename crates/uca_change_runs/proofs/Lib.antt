@@ -1,6 +1,2 @@
 pub mod EditionsRead
 pub mod ChangeVerdicts
-pub mod MarkLaws
-pub mod SearchLaws
-pub mod AffectedTexts
-pub mod FreeTexts

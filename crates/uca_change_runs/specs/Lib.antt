@@ -2,5 +2,4 @@ pub mod ChangeFiles
 pub mod ChangesRun
 pub mod AuditRun
 pub mod AffectedRun
-pub mod ReadChange
 pub mod inside

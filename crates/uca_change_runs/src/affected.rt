@@ -3,15 +3,16 @@
 
 ghost use Rattle.std.specs.Prelude.{◌∷◌, []};
 ghost use Rattle.uca_values.specs.Content.{properties_of};
+ghost use Rattle.uca_run_parts.specs.AffectedRun.{PrintsAffected};
 ghost use Rattle.uca_run_parts.specs.ReadFiles.{ReadsFiles};
 ghost use Rattle.uca_change_runs.specs.ChangeFiles.{changes_with, data_and_changes, data_and_changes_roles};
-ghost use Rattle.uca_change_runs.specs.AffectedRun.{AffectedByChangesAreTheOthers, PrintsAffectedByChanges};
+ghost use Rattle.uca_change_runs.specs.AffectedRun.{by_changes};
 
 use crate::files::read_changes_file;
-use crate::index::ChangeIndex;
 use std::alloc::{Allocator, Global};
 use std::io::{Read, Write};
 use uca_change_files::ChangeList;
+use uca_editions::ChangeIndex;
 use uca_run_parts::{Role, RunFault, print_affected, read_data_file};
 use uca_values::Data;
 use uca_weights::{Numbers, Sink, Source};
@@ -28,7 +29,7 @@ struct DataAndChanges<A: Allocator> {
 /// Prints the lines of `input` that the changes affect, each with LF. So it is of a line if a changed text occurs in order in
 /// what is read of it, or a changed range has a code point of that. It is read in Normalization Form D. With numbers by value
 /// it has the code of each number in place of it. The data file and the file of changes are read first. The lines are as they are, and in their order. Under each accepted change with these texts and ranges the
-/// other lines keep their order among themselves.
+/// other lines keep their order among themselves. Texts in Normalization Form D are in `global`.
 ///
 /// # Errors
 ///
@@ -37,27 +38,7 @@ struct DataAndChanges<A: Allocator> {
 /// - `Input`: the first line with an error. The affected lines before it were written.
 /// - `Write`: the writer failed, also where a later line has an error. The first `written` bytes of the whole output went
 ///   out.
-pub fn run_affected_by_changes<D: Read, C: Read, I: Read, W: Write>(
-    alloc: Global,
-    properties: &mut Source<D>,
-    changes: &mut Source<C>,
-    input: &mut Source<I>,
-    out: &mut Sink<W>,
-    numbers: Numbers,
-) -> Result<(), RunFault>
-    ensures { PrintsAffectedByChanges numbers (properties.old ∷ changes.old ∷ []) (properties.new ∷ changes.new ∷ [])
-        input.old input.new out.old out.new result }
-{
-    run_affected_by_changes_in(alloc, alloc, properties, changes, input, out, numbers)
-}
-
-/// As [`run_affected_by_changes`], with the two files and the lines in memory of any allocator. Texts in Normalization Form D
-/// are in `global`.
-///
-/// # Errors
-///
-/// Those of [`run_affected_by_changes`].
-pub fn run_affected_by_changes_in<A: Allocator + Copy, D: Read, C: Read, I: Read, W: Write>(
+pub fn run_affected_by_changes<A: Allocator + Copy, D: Read, C: Read, I: Read, W: Write>(
     alloc: A,
     global: Global,
     properties: &mut Source<D>,
@@ -66,7 +47,7 @@ pub fn run_affected_by_changes_in<A: Allocator + Copy, D: Read, C: Read, I: Read
     out: &mut Sink<W>,
     numbers: Numbers,
 ) -> Result<(), RunFault>
-    ensures { PrintsAffectedByChanges numbers (properties.old ∷ changes.old ∷ []) (properties.new ∷ changes.new ∷ [])
+    ensures { PrintsAffected by_changes numbers (properties.old ∷ changes.old ∷ []) (properties.new ∷ changes.new ∷ [])
         input.old input.new out.old out.new result }
 {
     match read_data_and_changes(alloc, properties, changes) {
@@ -85,13 +66,6 @@ pub fn run_affected_by_changes_in<A: Allocator + Copy, D: Read, C: Read, I: Read
         Err(fault) => Err(fault),
     }
 }
-
-/// A run of the lines that changes affect prints all lines but those that a change with these texts and ranges leaves as they
-/// are. In the text of each a changed text occurs in order, or a code point lies in a changed range. In no other line that is
-/// so.
-pub fn affected_by_changes_are_the_others()
-    ensures { AffectedByChangesAreTheOthers }
-{}
 
 // Reads the data file, and then the file of changes, each to its end or its first error. The error is `File` if one of them is
 // rejected, the first if both are.

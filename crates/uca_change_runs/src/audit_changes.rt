@@ -1,18 +1,15 @@
 //! The run that audits a change.
 
-ghost use Rattle.std.specs.Prelude.{◌≡◌, ◌⊎◌, ◌||◌, ◌∷◌, [], IfErr, OnOk};
-ghost use Rattle.uca_changes.specs.Changes.{IsAcceptedChange};
-ghost use Rattle.uca_editions.specs.ChangeInputs.{MeansUnaffectedTextsStay};
-ghost use Rattle.uca_editions.specs.ChangeRefusals.{IsFirstRefusal};
+ghost use Rattle.std.specs.Prelude.{◌≡◌, ◌||◌, ◌∷◌, []};
+ghost use Rattle.uca_editions.specs.ReadChange.{change_of};
 ghost use Rattle.uca_run_parts.specs.Runs.{ended_by_output};
 ghost use Rattle.uca_run_parts.specs.Verdicts.{RunsAudit};
-ghost use Rattle.uca_change_runs.specs.ReadChange.{change_of};
 ghost use Rattle.uca_change_runs.specs.AuditRun.{AuditsChanges, change_audit};
 
-use crate::files::{ChangeFiles, read_editions, read_listed};
+use crate::files::{read_editions, read_listed};
 use std::alloc::Allocator;
 use std::io::{Read, Write};
-use uca_editions::{ChangeFault, ChangeInputs, audit_change, changes_of};
+use uca_editions::{ChangeFault, ChangeFiles, audit_files};
 use uca_run_parts::RunFault;
 use uca_run_parts::change_faults::change_verdict;
 use uca_run_parts::output::end_verdict;
@@ -83,32 +80,5 @@ fn write_verdict<M: Allocator + Copy, W: Write>(
             let verdict = change_verdict(ChangeFault::NotMet(condition, place));
             end_verdict(false, verdict.text("\n").as_str().as_bytes(), out)
         }
-    }
-}
-
-/// Audits the change that was read of its files, as [`audit_change`] does.
-///
-/// # Errors
-///
-/// Those of [`audit_change`].
-pub fn audit_files<M: Allocator + Copy>(alloc: M, files: &ChangeFiles<M>) -> Result<(), ChangeFault>
-    ensures accepted { OnOk result (IsAcceptedChange (change_of files.now)) }
-    ensures meaning { OnOk result (MeansUnaffectedTextsStay (change_of files.now)) }
-    ensures refused { IfErr result (λ fault. IsFirstRefusal (change_of files.now) fault ⊎ (fault ≡ ChangeFault.Memory)) }
-{
-    match changes_of(alloc, &files.listed.list) {
-        Ok(changes) => {
-            let editions = &files.editions;
-            let inputs = ChangeInputs {
-                old: &editions.old.table,
-                old_data: &editions.old.properties,
-                new: &editions.new.table,
-                new_data: &editions.new.properties,
-                changes: &changes,
-                certificate: &files.listed.certificate,
-            };
-            audit_change(alloc, &inputs)
-        }
-        Err(_) => Err(ChangeFault::Memory),
     }
 }

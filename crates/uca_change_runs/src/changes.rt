@@ -4,10 +4,10 @@ ghost use Rattle.std.specs.Prelude.{◌∷◌, []};
 ghost use Rattle.uca_change_runs.specs.inside.ReadChanges.{editions_of};
 ghost use Rattle.uca_change_runs.specs.ChangesRun.{FindsChanges, RunsChanges};
 
-use crate::files::{EditionFiles, read_editions};
+use crate::files::read_editions;
 use std::alloc::Allocator;
 use std::io::Read;
-use uca_editions::{Editions, FoundChanges, find_changes};
+use uca_editions::{EditionFiles, Editions, FoundChanges, find_changes};
 use uca_run_parts::RunFault;
 use uca_weights::Source;
 

@@ -1,4 +1,4 @@
-//! The files of changes: two editions, each of them a table and its data file, and then a file of changes and a certificate.
+//! Reading the files of changes: two editions, each of them a table and its data file, and then a file of changes and a certificate.
 
 ghost use Rattle.std.specs.Prelude.{◌≡◌, ◌∷◌, [], false};
 ghost use Rattle.uca_run_parts.specs.Files.{is_role};
@@ -6,51 +6,14 @@ ghost use Rattle.uca_run_parts.specs.ReadFiles.{ReadsFiles};
 ghost use Rattle.uca_change_runs.specs.ChangeFiles.{editions_files, editions_roles};
 ghost use Rattle.uca_change_runs.specs.inside.ReadChanges.{changes_file, edition_files, edition_of, editions_of, listed_files, listed_of, listed_roles};
 
-use std::alloc::{Allocator, Global};
+use std::alloc::Allocator;
 use std::io::Read;
-use uca_certificates::Certificate;
 use uca_change_files::{ChangeList, read_changes};
+use uca_editions::{Edition, EditionFiles, Listed};
 use uca_run_parts::{
     FileFault, Role, RunFault, read_certificate_file, read_data_file, read_table_file,
 };
-use uca_values::{Data, Table};
 use uca_weights::Source;
-
-/// What a table and its data file mean.
-#[derive(Drop)]
-pub struct Edition<M: Allocator = Global> {
-    /// The weight table.
-    pub table: Table<M>,
-    /// The properties of code points.
-    pub properties: Data<M>,
-}
-
-/// What the files of two editions mean.
-#[derive(Drop)]
-pub struct EditionFiles<M: Allocator = Global> {
-    /// The old table and its data file.
-    pub old: Edition<M>,
-    /// The new table and its data file.
-    pub new: Edition<M>,
-}
-
-/// What a file of changes and a certificate mean.
-#[derive(Drop)]
-pub struct Listed<M: Allocator = Global> {
-    /// The changed texts and the changed ranges of code points.
-    pub list: ChangeList<M>,
-    /// The images of the old table's weights.
-    pub certificate: Certificate<M>,
-}
-
-/// What the files of a change mean.
-#[derive(Drop)]
-pub struct ChangeFiles<M: Allocator = Global> {
-    /// The two editions.
-    pub editions: EditionFiles<M>,
-    /// What changes from the one to the other.
-    pub listed: Listed<M>,
-}
 
 /// Reads the files of two editions, in turn, each to its end or its first error.
 ///

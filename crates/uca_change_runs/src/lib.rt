@@ -7,14 +7,7 @@ pub mod affected;
 pub mod audit_changes;
 pub mod changes;
 mod files;
-mod index;
-mod marks;
-mod searches;
 
-pub use affected::{
-    affected_by_changes_are_the_others, run_affected_by_changes, run_affected_by_changes_in,
-};
-pub use audit_changes::{audit_files, run_audit_changes};
+pub use affected::run_affected_by_changes;
+pub use audit_changes::run_audit_changes;
 pub use changes::run_changes;
-pub use files::{ChangeFiles, Edition, EditionFiles, Listed};
-pub use index::ChangeIndex;

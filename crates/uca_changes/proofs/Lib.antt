@@ -3,3 +3,4 @@ pub mod Unaffected
 pub mod FromTailorings
 pub mod SameLists
 pub mod WorkedChanges
+pub mod AffectedTexts

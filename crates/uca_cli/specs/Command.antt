@@ -43,11 +43,11 @@ use Rattle.uca_run_parts.specs.CheckRun.{Checks}
 use Rattle.uca_key_runs.specs.CompareRun.{Compares, comparing}
 use Rattle.uca_key_runs.specs.KeysRun.{PrintsKeysAs}
 use Rattle.uca_key_runs.specs.declared.runs.KeyOutput.{KeyOutput}
-use Rattle.uca_run_parts.specs.AffectedRun.{PrintsAffected}
+use Rattle.uca_run_parts.specs.AffectedRun.{Affecting, PrintsAffected, by_rules}
 use Rattle.uca_key_runs.specs.SortRun.{SortsLines}
 use Rattle.uca_change_runs.specs.ChangesRun.{FindsChanges}
 use Rattle.uca_change_runs.specs.AuditRun.{AuditsChanges}
-use Rattle.uca_change_runs.specs.AffectedRun.{PrintsAffectedByChanges}
+use Rattle.uca_change_runs.specs.AffectedRun.{by_changes}
 use Rattle.uca_rekey.specs.ChangeRun.{CompactsLines, ExpandsLines, RekeysLines}
 use Rattle.uca_fingerprint_runs.specs.FingerprintRun.{PrintsCompactFingerprint, PrintsFingerprint}
 use Rattle.uca_book_runs.specs.BookRun.{PrintsBookImage}
@@ -281,12 +281,10 @@ DoesAuditChanges files old new words out out_new result =
 
 -- ---- Affected
 
--- which lines `affected` prints: with `--changes` those that the changes affect, else those that the rules affect
-abbrev pub PrintsLines : Bool → Numbers → List SourceState → List SourceState → SourceState → SourceState
-    → SinkState → SinkState → Result (Unit {0}) RunFault → Type 0
-PrintsLines true numbers olds news input input_new out out_new run =
-    PrintsAffectedByChanges numbers olds news input input_new out out_new run
-PrintsLines false numbers olds news input input_new out out_new run = PrintsAffected numbers olds news input input_new out out_new run
+-- what `affected` goes by: with `--changes` a file of changes, else rules
+abbrev pub affected_by : Bool → Affecting
+affected_by true = by_changes
+affected_by false = by_rules
 
 -- what `affected` does
 abbrev pub DoesAffected : {O F M : Type 0} → FileSystem O F M → O → O → AffectedWords → Streams → Streams
@@ -294,7 +292,7 @@ abbrev pub DoesAffected : {O F M : Type 0} → FileSystem O F M → O → O → 
 DoesAffected files old new words start end result =
     OpensAndRuns files old new (affected_files words.changes words.properties.now words.rules.now) (end ≡ start)
     (λ olds news. Ran (done_result {A = Unit {0}})
-    (PrintsLines words.changes words.numbers olds news start.input end.input start.out end.out) result) result
+    (PrintsAffected (affected_by words.changes) words.numbers olds news start.input end.input start.out end.out) result) result
 
 -- ---- Stored keys
 

@@ -2,8 +2,9 @@
 
 ghost use Rattle.std.specs.Prelude.{false, ◌∷◌, [], ⊤, ℕ, Bool, List, Result, ◌≡◌};
 ghost use Rattle.clap.specs.Walk.{texts};
-ghost use Rattle.uca_cli.specs.Command.{DoesAffected, DoesAudit, DoesCheck, DoesCommand, DoesCompare, DoesSort, DoesTailor, DoesWords, EndsWith, KeepsAndPrints, KeepsMade, MakesOpened, PrintsLines, asked_for, files_of_tailor, made_table, may_advise, streams};
+ghost use Rattle.uca_cli.specs.Command.{DoesAffected, DoesAudit, DoesCheck, DoesCommand, DoesCompare, DoesSort, DoesTailor, DoesWords, EndsWith, KeepsAndPrints, KeepsMade, MakesOpened, affected_by, asked_for, files_of_tailor, made_table, may_advise, streams};
 ghost use Rattle.uca_host.specs.NamedFiles.{affected_role, file_system};
+ghost use Rattle.uca_run_parts.specs.AffectedRun.{PrintsAffected};
 ghost use Rattle.uca_tailor_runs.specs.TailorRun.{TailorsFiles};
 
 use crate::book_commands::{compact, expand, print_book};
@@ -270,13 +271,13 @@ fn print_lines<D: Read, U: Read, I: Read, W: Write>(
     input: &mut Source<I>,
     out: &mut Sink<W>,
 ) -> Result<(), RunFault>
-    ensures { PrintsLines changes numbers (properties.old ∷ rules.old ∷ []) (properties.new ∷ rules.new ∷ [])
+    ensures { PrintsAffected (affected_by changes) numbers (properties.old ∷ rules.old ∷ []) (properties.new ∷ rules.new ∷ [])
         input.old input.new out.old out.new result }
 {
     if changes {
-        run_affected_by_changes(alloc, properties, rules, input, out, numbers)
+        run_affected_by_changes(alloc, alloc, properties, rules, input, out, numbers)
     } else {
-        run_affected(alloc, properties, rules, input, out, numbers)
+        run_affected(alloc, alloc, properties, rules, input, out, numbers)
     }
 }
 

@@ -13,10 +13,8 @@ mod statuses;
 
 pub use command::run_command;
 pub use uca_book_runs::run_book;
-pub use uca_change_runs::{
-    affected_by_changes_are_the_others, run_affected_by_changes, run_affected_by_changes_in,
-    run_audit_changes, run_changes,
-};
+pub use uca_change_runs::{run_affected_by_changes, run_audit_changes, run_changes};
+pub use uca_editions::affected_by_changes_are_the_others;
 pub use uca_fingerprint_runs::{run_compact_fingerprint, run_fingerprint};
 pub use uca_host::{MakeFault, OpenFault, Opens, STREAM_FAILED, report};
 pub use uca_key_runs::{
@@ -28,7 +26,7 @@ pub use uca_key_runs::{
 pub use uca_rekey::{lines_move_with_keys, run_compact, run_expand, run_rekey};
 pub use uca_run_parts::{
     Affects, FileFault, InputKind, KeySizes, Role, RunFault, StoredKeyKind, print_affected,
-    run_affected, run_affected_in, run_check,
+    run_affected, run_check,
 };
 pub use uca_tailor_runs::{run_audit, run_audit_in, run_tailor, run_tailor_in, write_tailored};
 pub use uca_words::{

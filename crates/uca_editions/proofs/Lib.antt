@@ -7,3 +7,7 @@ pub mod ListedTexts
 pub mod Refusals
 pub mod ListedKeys
 pub mod EveryKey
+pub mod MarkLaws
+pub mod SearchLaws
+pub mod AffectedTexts
+pub mod FreeTexts

@@ -1,3 +1,5 @@
 pub mod Chaining
 pub mod Everything
 pub mod LeastMaps
+pub mod Index
+pub mod ReadChange

@@ -1,39 +1,21 @@
--- The lines that are affected, and those that rules affect.
-use Rattle.std.proofs.Common.{◌≡◌, ℕ, ◌^◌, ◌<◌, ◌≤◌, Bool, true, false, List, [], ◌∷◌, length, if◌then◌else◌, ◌==◌, ◌&&◌, true≢false, refl, ap, sym, ◌∙◌, arith, length-append}
-use Rattle.std.specs.Prelude.{◌↔◌, IsTrue, not}
-use Rattle.std.specs.Bool.{Decides}
-use Rattle.std.proofs.lemmas.Bool.{or_from, or_parts}
-use Rattle.std.proofs.lemmas.Bool.Decides.{Decides-eqb, Decides-and, Decides-or, not_from_Decides}
-use Rattle.uca_text.specs.Occurring.{OccursInOrder}
+-- The lines that are affected.
+use Rattle.std.proofs.Common.{◌≡◌, ℕ, ◌^◌, ◌<◌, ◌≤◌, ◌||◌, Bool, true, false, List, [], ◌∷◌, Result, Ok, Err, length, if◌then◌else◌, refl, ap, sym, subst, ◌∙◌, arith, length-append}
+use Rattle.std.specs.Prelude.{⊤, IsTrue}
+use Rattle.uca_weights.specs.declared.Numbers.{Numbers}
+use Rattle.uca_weights.specs.Streams.{SourceState, SinkState}
 use Rattle.uca_text.specs.Texts.{NfdText}
 use Rattle.uca_lines.specs.Lines.{ended}
-use Rattle.uca_relations.specs.declared.Relation.{Relation}
-use Rattle.uca_relations.specs.Relations.{IsUntouched}
-use Rattle.uca_run_parts.specs.AffectedRun.{occurs_in_order, is_affected, if_so, AffectedTextsAreTheOthers}
-use Rattle.uca_weights.proofs.Tests.{by_cases}
-
--- the test finds what occurs in order
-occurs_decides : (xs ys : List ℕ) → Decides (occurs_in_order xs ys) (OccursInOrder xs ys)
-occurs_decides [] ys = (λ yes_. tt, λ occurs. refl)
-occurs_decides (x ∷ xs) [] = (λ never. absurd (true≢false (sym never)), λ never. absurd never)
-occurs_decides (x ∷ xs) (y ∷ ys) =
-    Decides-or (x == y && occurs_in_order xs ys) (occurs_in_order (x ∷ xs) ys)
-    (Decides-and (x == y) (occurs_in_order xs ys) (Decides-eqb x y) (occurs_decides xs ys)) (occurs_decides (x ∷ xs) ys)
-
--- no target occurs in a text that the rules leave as it is
-affects_none : (relations : List Relation) (text : List ℕ) → IsUntouched relations text → is_affected relations text ≡ false
-affects_none [] text none = refl
-affects_none (r ∷ relations) text none =
-    or_from (occurs_in_order r.target.points text) (is_affected relations text)
-    (by_cases (occurs_in_order r.target.points text) (λ found. absurd (none.0 ((occurs_decides r.target.points text).0 found))) (λ is. is))
-    (affects_none relations text none.1)
-
--- and only in such a text none occurs
-leaves_others : (relations : List Relation) (text : List ℕ) → is_affected relations text ≡ false → IsUntouched relations text
-leaves_others [] text none = tt
-leaves_others (r ∷ relations) text none =
-    let parts = or_parts (occurs_in_order r.target.points text) (is_affected relations text) none in
-    (not_from_Decides (occurs_in_order r.target.points text) (occurs_decides r.target.points text) parts.0, leaves_others relations text parts.1)
+use Rattle.uca_changes.proofs.AffectedTexts.{affects_none, leaves_others}
+use Rattle.uca_run_parts.specs.declared.faults.RunFault.{RunFault}
+use Rattle.uca_run_parts.specs.declared.faults.RunFault.TheVariants.{Memory}
+use Rattle.uca_run_parts.specs.AffectedRun.{Affecting, AffectedTextsAreTheOthers, PrintsAffected, RunsAffected, if_so, line_if}
+use Rattle.uca_run_parts.specs.EachLine.{RunsEach, ended_before_input}
+use Rattle.uca_run_parts.specs.Input.{line_text}
+use Rattle.uca_run_parts.specs.ReadFiles.{ReadsFiles}
+use Rattle.uca_run_parts.specs.Runs.{is_input_read, ended_by_output}
+use Rattle.uca_run_parts.proofs.FilesLemmas.{failed_by_no_file, runs_over_all}
+use Rattle.uca_run_parts.proofs.Running.{file_before}
+use Rattle.uca_run_parts.proofs.WholeRuns.{ended_before, ended_by_lines}
 
 pub affected_are_the_others : AffectedTextsAreTheOthers
 affected_are_the_others relations text = (leaves_others relations text, affects_none relations text)
@@ -42,13 +24,6 @@ affected_are_the_others relations text = (leaves_others relations text, affects_
 pub test_gives : (is_so : List ℕ → Bool) (text : NfdText) (points : List ℕ) (answer told : Bool) → answer ≡ is_so text.points → answer ≡ told
     → text.points ≡ points → is_so points ≡ told
 test_gives is_so text points answer told is same at = ap is_so (sym at) ∙ sym is ∙ same
-
--- rules affect a text unless they leave it as it is
-pub affected_unless : (relations : List Relation) (text : List ℕ) (untouched : Bool) → (IsTrue untouched ↔ IsUntouched relations text) →
-    not untouched ≡ is_affected relations text
-affected_unless relations text true same = sym (affects_none relations text (same.0 refl))
-affected_unless relations text false same =
-    sym (by_cases (is_affected relations text) (λ is. is) (λ none. absurd (true≢false (sym (same.1 (leaves_others relations text none))))))
 
 -- nothing is written of a line that is not affected
 pub nothing_affected : (is_so : List ℕ → Bool) (text line : List ℕ) → is_so text ≡ false → if_so is_so text line ≡ []
@@ -61,3 +36,50 @@ line_affected is_so text line so = ap (λ b. if b then ended line else []) so
 -- a line is short
 pub affected_is_short : (line : List ℕ) → length line ≤ 4194304 → length (ended line) < 2 ^ 43
 affected_is_short line short = omega (arith, short, length-append line (10 ∷ []))
+
+-- ---- Whole runs
+
+module _ (affecting : Affecting) (numbers : Numbers) where
+  -- what is written by what the files mean
+  abbrev pub WritesAffected : {A : Type 0} → SourceState → SourceState → SinkState → SinkState → Result A RunFault → affecting.Content → Type 0
+  WritesAffected input input_new out out_new result files =
+      let read_of = line_text numbers (affecting.properties files) in RunsEach read_of (line_if (affecting.affects files) read_of) input input_new out out_new result
+
+  -- a run that ended by its lines lacked no memory for looking texts up
+  by_lines : {A : Type 0} (input input_new : SourceState) (out out_new : SinkState) (result : Result A RunFault) (files : affecting.Content)
+      → ended_before_input result ≡ false → WritesAffected input input_new out out_new result files
+      → RunsAffected affecting numbers input input_new out out_new result files
+  by_lines input input_new out out_new (Ok x) files lines writes = (lines, writes)
+  by_lines input input_new out out_new (Err Memory) files lines writes = let never : ⊥ = cc in absurd never
+  by_lines input input_new out out_new (Err _) files lines writes = (lines, writes)
+
+  module _ {A : Type 0} (olds news : List SourceState) (content_of : A → affecting.Content) (input : SourceState) (out : SinkState) where
+    abbrev Reads : Result A RunFault → Type 0
+    Reads read = ReadsFiles affecting.files affecting.file_roles olds news content_of read
+
+    -- one of the files was rejected
+    pub not_read : (fault : RunFault) → Reads (Err fault) → PrintsAffected {A = ⊤} affecting numbers olds news input input out out (Err fault)
+    not_read fault reads =
+        ended_before affecting.files affecting.file_roles (λ content. ⊥) (RunsAffected {A = ⊤} affecting numbers input input out out (Err fault)) olds news
+        ⊤ A input out fault (λ content never. absurd never) reads.read (file_before A A fault reads.of_files) reads.failed
+
+    -- memory for looking texts up was lacking
+    pub no_memory : (read : A) → IsTrue affecting.takes_memory → Reads (Ok read)
+        → PrintsAffected {A = ⊤} affecting numbers olds news input input out out (Err Memory)
+    no_memory read takes reads =
+        let same = λ (content : affecting.Content). content_of read ≡ content in
+        ended_before affecting.files affecting.file_roles same (RunsAffected {A = ⊤} affecting numbers input input out out (Err Memory)) olds news
+        ⊤ A input out Memory (λ content is. takes)
+        (runs_over_all {A = A} {B = A} affecting.files olds news same same read (Err Memory) refl (λ content is. is) reads.read)
+        refl (failed_by_no_file {A = A} {B = A} affecting.file_roles olds news read (Err Memory) reads.failed refl)
+
+    -- the affected lines were written, or not all of them
+    pub lines_printed : {R : Type 0} (input_new : SourceState) (out_new : SinkState) (read : A) (result : Result R RunFault) → Reads (Ok read)
+        → WritesAffected input input_new out out_new result (content_of read) → ended_before_input result ≡ false
+        → (ended_by_output result ≡ false → input_new.failed ≡ (input.failed || is_input_read result))
+        → out_new.failed ≡ (out.failed || ended_by_output result) → PrintsAffected affecting numbers olds news input input_new out out_new result
+    lines_printed input_new out_new read result reads writes lines =
+        ended_by_lines affecting.files affecting.file_roles (λ content. content_of read ≡ content)
+        (RunsAffected affecting numbers input input_new out out_new result) olds news {B = A} input input_new out out_new read result lines
+        (λ content same. by_lines input input_new out out_new result content lines (subst (WritesAffected input input_new out out_new result) same writes))
+        reads.read reads.failed

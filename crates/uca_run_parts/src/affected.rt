@@ -11,7 +11,7 @@ ghost use Rattle.uca_run_parts.specs.Input.{line_text};
 ghost use Rattle.uca_run_parts.specs.Runs.{is_input_read, ended_by_output};
 ghost use Rattle.uca_run_parts.specs.EachLine.{WritesEach, ended_before_input};
 ghost use Rattle.uca_run_parts.specs.EachLineSoFar.{HasWritten, WritesText, WritesRest};
-ghost use Rattle.uca_run_parts.specs.AffectedRun.{PrintsAffected, if_so, is_affected, line_if};
+ghost use Rattle.uca_run_parts.specs.AffectedRun.{PrintsAffected, by_rules, if_so, line_if};
 
 use crate::faults::RunFault;
 use crate::input::InputTexts;
@@ -19,29 +19,10 @@ use crate::output::{end_output, write_line};
 use crate::rule_file::read_data_and_rules;
 use std::alloc::{Allocator, Global};
 use std::io::{Read, Write};
+use uca_changes::Affects;
 use uca_lines::{LINE_LIMIT, OutputBuffer};
-use uca_relations::Rules;
-use uca_text::Normal;
 use uca_values::Data;
 use uca_weights::{Numbers, Sink, Source};
-
-/// What affects some texts and no others.
-pub trait Affects {
-    ghost affects: { Self → List ℕ → Bool };
-
-    /// Whether it affects a text.
-    fn affects(&self, text: &Normal) -> bool
-        ensures { result ≡ affects self.now text.now.points };
-}
-
-impl<A: Allocator> Affects for Rules<A> {
-    ghost affects = { λ rules. is_affected rules };
-
-    // A text is affected if a target of the rules occurs in it.
-    fn affects(&self, text: &Normal) -> bool {
-        !self.untouched(text)
-    }
-}
 
 // The lines of the input, and what waits to be written.
 #[derive(Drop)]
@@ -139,7 +120,7 @@ pub fn print_affected<D: Allocator, X: Affects, A: Allocator, I: Read, W: Write>
 
 /// Prints the lines of `input` in which a target of the rules occurs in order, each with LF. The data file and the rules are
 /// read first. The lines are as they are, and in their order. Under each accepted tailoring by the rules the other lines keep
-/// their order among themselves.
+/// their order among themselves. Texts in Normalization Form D are in `global`.
 ///
 /// # Errors
 ///
@@ -147,27 +128,7 @@ pub fn print_affected<D: Allocator, X: Affects, A: Allocator, I: Read, W: Write>
 /// - `Input`: the first line with an error. The affected lines before it were written.
 /// - `Write`: the writer failed, also where a later line has an error. The first `written` bytes of the whole output went
 ///   out.
-pub fn run_affected<D: Read, U: Read, I: Read, W: Write>(
-    alloc: Global,
-    properties: &mut Source<D>,
-    rules: &mut Source<U>,
-    input: &mut Source<I>,
-    out: &mut Sink<W>,
-    numbers: Numbers,
-) -> Result<(), RunFault>
-    ensures { PrintsAffected numbers (properties.old ∷ rules.old ∷ []) (properties.new ∷ rules.new ∷ [])
-        input.old input.new out.old out.new result }
-{
-    run_affected_in(alloc, alloc, properties, rules, input, out, numbers)
-}
-
-/// As [`run_affected`], with the two files and the lines in memory of any allocator. Texts in Normalization Form D are in
-/// `global`.
-///
-/// # Errors
-///
-/// Those of [`run_affected`].
-pub fn run_affected_in<A: Allocator + Copy, D: Read, U: Read, I: Read, W: Write>(
+pub fn run_affected<A: Allocator + Copy, D: Read, U: Read, I: Read, W: Write>(
     alloc: A,
     global: Global,
     properties: &mut Source<D>,
@@ -176,7 +137,7 @@ pub fn run_affected_in<A: Allocator + Copy, D: Read, U: Read, I: Read, W: Write>
     out: &mut Sink<W>,
     numbers: Numbers,
 ) -> Result<(), RunFault>
-    ensures { PrintsAffected numbers (properties.old ∷ rules.old ∷ []) (properties.new ∷ rules.new ∷ [])
+    ensures { PrintsAffected by_rules numbers (properties.old ∷ rules.old ∷ []) (properties.new ∷ rules.new ∷ [])
         input.old input.new out.old out.new result }
 {
     match read_data_and_rules(alloc, global, properties, rules) {

@@ -7,8 +7,6 @@ ghost use Rattle.std.specs.Str.{IsUtf8};
 ghost use Rattle.uca_weights.specs.Streams.{SourceState};
 ghost use Rattle.uca_values.specs.Content.{properties_of};
 ghost use Rattle.uca_text.specs.Texts.{NfdText};
-ghost use Rattle.uca_text.specs.Limits.{IsAccepted};
-ghost use Rattle.uca_text.specs.Faults.{IsCause};
 ghost use Rattle.uca_run_parts.specs.Input.{cause_of, is_input_read_kind, line_text};
 ghost use Rattle.uca_run_parts.specs.Runs.{is_input_read, ended_by_output};
 ghost use Rattle.uca_run_parts.specs.Texts.{line_kind, text_kind, HasRead, HasTextCause, ReadsNextLine, ReadsCleanLine, is_read};
@@ -17,6 +15,7 @@ use crate::faults::{InputKind, RunFault};
 use std::alloc::{Allocator, Global};
 use std::io::Read;
 use std::marker::Model;
+use uca_changes::renew_text;
 use uca_lines::{LINE_LIMIT, LineFault, LineReader, NextLine};
 use uca_numbers::WrittenText;
 use uca_text::{Normal, TextFault};
@@ -272,31 +271,5 @@ fn take_text<A: Allocator, D: Allocator>(
             Err(fault) => Err(kind_of_text(fault)),
         },
         Err(kind) => Err(kind),
-    }
-}
-
-/// Makes the text what is read of a line, in Normalization Form D. With numbers by value that is the line with the code of
-/// each number in place of it, and `written` has it.
-///
-/// # Errors
-///
-/// Those of [`normal`](uca_text::normal) for what is read.
-pub fn renew_text<D: Allocator>(
-    text: &mut Normal,
-    written: &mut WrittenText,
-    line: &str,
-    numbers: Numbers,
-    properties: &Data<D>,
-) -> Result<(), TextFault>
-    ensures found { OnOk result (text.new ≡ line_text numbers (properties_of properties.now) line.now) }
-    ensures accepted { OnOk result (IsAccepted text.new) }
-    ensures fault { IfErr result (IsCause (line_text numbers (properties_of properties.now) line.now)) }
-{
-    match numbers {
-        Numbers::AsText => text.renew(line, properties),
-        Numbers::ByValue => {
-            written.renew(line)?;
-            text.renew(written.as_str(), properties)
-        }
     }
 }

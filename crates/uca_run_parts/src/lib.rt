@@ -19,8 +19,9 @@ pub mod print;
 mod rule_file;
 pub mod tailor_files;
 
-pub use affected::{Affects, print_affected, run_affected, run_affected_in};
+pub use affected::{print_affected, run_affected};
 pub use check::run_check;
 pub use faults::{FileFault, InputKind, Role, RunFault, StoredKeyKind};
 pub use files::{read_book_file, read_certificate_file, read_data_file, read_table_file};
 pub use key_sizes::KeySizes;
+pub use uca_changes::Affects;

@@ -12,8 +12,8 @@ use Rattle.uca_order.proofs.Keyings.{read_scalars}
 use Rattle.uca_change_files.specs.Changes.{ChangeContent}
 use Rattle.uca_tailorings.specs.Moves.{moved_key}
 use Rattle.uca_changes.specs.Changes.{Change, new_reading, old_reading, old_weighting}
-use Rattle.uca_change_runs.specs.AffectedRun.{is_affected_by}
-use Rattle.uca_change_runs.proofs.AffectedTexts.{affected_are_the_others}
+use Rattle.uca_editions.specs.AffectedTexts.{is_affected_by}
+use Rattle.uca_editions.proofs.AffectedTexts.{affected_are_the_others}
 use Rattle.uca_editions.specs.ChangeInputs.{MeansUnaffectedTextsStay}
 use Rattle.uca_upgrade.specs.declared.files.UpgradeFiles.{UpgradeFiles}
 use Rattle.uca_upgrade.specs.Upgrades.{KeepsChange, KeysAreRenewed, UpgradeState, old_keying}

@@ -5,7 +5,7 @@ use Rattle.uca_certificates.specs.Texts as certificates
 use Rattle.uca_tailorings.specs.Inputs.{maps_of}
 use Rattle.uca_change_files.specs.ChangeTexts as changes
 use Rattle.uca_changes.specs.Changes.{Change}
-use Rattle.uca_change_runs.specs.AffectedRun.{listed_in}
+use Rattle.uca_editions.specs.AffectedTexts.{listed_in}
 use Rattle.uca_owned.specs.Opening.{MeanFiles}
 use Rattle.uca_upgrade.specs.declared.files.UpgradeFiles.{UpgradeFiles}
 

@@ -1,9 +1,10 @@
 -- What a clause sees of an upgrade, and what is true of stored keys where it is that of an accepted change.
-use Rattle.std.specs.Prelude.{◌≡◌, ℕ, List, Bool, false, Option, Some}
+use Rattle.std.specs.Prelude.{◌≡◌, ℕ, List, Bool, false, Option, Some, chars}
 use Rattle.std.specs.Str.{IsUtf8}
 use Rattle.uca_weights.specs.declared.Asked.{Asked}
 use Rattle.uca_weights.specs.declared.Settings.{Settings}
 use Rattle.uca_values.specs.Content.{DataContent, properties_of}
+use Rattle.uca_order.specs.Depths.{written_text}
 use Rattle.uca_order.specs.Keyings.{Keying, keying, key_of_bytes}
 use Rattle.uca_certificates.specs.Certificates.{CertificateContent}
 use Rattle.uca_tailorings.specs.Inputs.{maps_of}
@@ -11,8 +12,7 @@ use Rattle.uca_tailorings.specs.Moves.{moved_key}
 use Rattle.uca_change_files.specs.Changes.{ChangeContent}
 use Rattle.uca_changes.specs.Changes.{Change, new_reading, old_reading, new_settings, old_settings}
 use Rattle.uca_changes.specs.Laws.{UnaffectedTextsStay}
-use Rattle.uca_run_parts.specs.Input.{line_text}
-use Rattle.uca_change_runs.specs.AffectedRun.{is_affected_by, listed_in}
+use Rattle.uca_editions.specs.AffectedTexts.{is_affected_by, listed_in}
 use Rattle.uca_fingerprint.specs.Fingerprints.{fingerprint}
 use Rattle.uca_upgrade.specs.declared.files.UpgradeFiles.{UpgradeFiles}
 
@@ -38,7 +38,7 @@ pub record KeepsChange (files : UpgradeFiles) (change : Change) (asked : Asked) 
 -- Whether it affects a text of UTF-8. A changed text occurs in order in what is read of it, or a changed range has a code
 -- point of that.
 abbrev pub is_affected_in : UpgradeState → List ℕ → Bool
-is_affected_in upgrade text = is_affected_by upgrade.list (line_text upgrade.settings.numbers (properties_of upgrade.data_file) text).points
+is_affected_in upgrade text = is_affected_by upgrade.list (written_text upgrade.settings.numbers (properties_of upgrade.data_file) (chars text)).points
 
 -- a stored key put through its maps
 abbrev pub rekeyed_in : UpgradeState → List ℕ → Option (List ℕ)

@@ -7,9 +7,8 @@ ghost use Rattle.uca_upgrade.specs.Upgrades.{is_affected_in, rekeyed_in};
 
 use crate::OwnedUpgrade;
 use std::alloc::AllocError;
+use uca_changes::{Affects, renew_text};
 use uca_owned::KeyFault;
-use uca_run_parts::Affects;
-use uca_run_parts::input::renew_text;
 
 impl OwnedUpgrade {
     /// Whether the key of a text has to be made anew. A changed text occurs in order in what is read of it, or a changed

@@ -12,14 +12,14 @@ ghost use Rattle.uca_changes.specs.Changes.{Change};
 ghost use Rattle.uca_owned.specs.Opening.{MeanFiles, IsOpenCause, IsOpenStop};
 ghost use Rattle.uca_upgrade.specs.Files.{MeanChange};
 ghost use Rattle.uca_upgrade.specs.Causes.{AreEditions, IsUpgradeCause, IsUpgradeStop, RejectsChanges, RejectsCertificate};
-ghost use Rattle.uca_change_runs.specs.ReadChange.{change_of};
+ghost use Rattle.uca_editions.specs.ReadChange.{change_of};
 ghost use Rattle.uca_upgrade.specs.inside.Read.{AreEditionsOf, EditionsMean, IsListedOf, ListMeans, new_fault_of, old_fault_of};
 
 use crate::faults::UpgradeFault;
 use std::alloc::Global;
 use uca_certificates::{Certificate, CertificateFault, CertificateFaultKind, read_certificate};
 use uca_change_files::{ChangeList, read_changes};
-use uca_change_runs::{ChangeFiles, Edition, EditionFiles, Listed};
+use uca_editions::{ChangeFiles, Edition, EditionFiles, Listed};
 use uca_owned::{OpenFault, in_memory};
 use uca_table::{read_data, read_table};
 use uca_values::TableFault;

@@ -9,15 +9,16 @@ ghost use Rattle.uca_upgrade.specs.Causes.{IsUpgradeCause, IsUpgradeStop, TakesT
 ghost use Rattle.uca_upgrade.specs.Files.{MeanChange};
 ghost use Rattle.uca_upgrade.specs.Opening.{IsUpgradeOf, OpensUpgrade};
 ghost use Rattle.uca_upgrade.specs.Upgrades.{KeepsChange};
-ghost use Rattle.uca_change_runs.specs.ReadChange.{change_of};
+ghost use Rattle.uca_editions.specs.ReadChange.{change_of};
 ghost use Rattle.uca_upgrade.specs.inside.Read.{IsAuditStop, IsTableStop, audit_fault_of};
 
 use crate::faults::UpgradeFault;
 use crate::files::{UpgradeFiles, new_fault, old_fault, read_change};
 use crate::owned::OwnedUpgrade;
 use std::alloc::{AllocError, Global};
-use uca_change_runs::{ChangeFiles, ChangeIndex, Edition, EditionFiles, Listed, audit_files};
-use uca_editions::ChangeFault;
+use uca_editions::{
+    ChangeFault, ChangeFiles, ChangeIndex, Edition, EditionFiles, Listed, audit_files,
+};
 use uca_fingerprint::fingerprint;
 use uca_images::KeyMover;
 use uca_number_keys::check_number_rows;

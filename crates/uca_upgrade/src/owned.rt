@@ -1,7 +1,7 @@
 //! `OwnedUpgrade`: what an upgrade owns.
 
 use std::marker::Model;
-use uca_change_runs::ChangeIndex;
+use uca_editions::ChangeIndex;
 use uca_images::KeyMover;
 use uca_numbers::WrittenText;
 use uca_text::Normal;

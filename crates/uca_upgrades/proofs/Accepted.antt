@@ -12,13 +12,14 @@ use Rattle.uca_tailorings.specs.Moves.{KeyMoves}
 use Rattle.uca_tailorings.specs.Tailorings.{IsAccepted}
 use Rattle.uca_changes.specs.Changes.{Change, IsChange, IsAcceptedChange, old_reading, new_reading}
 use Rattle.uca_changes.specs.Laws.{ChangesKeepUnaffectedTexts, TailoringsAreChanges, UnaffectedTextsStay, change_of}
-use Rattle.uca_run_parts.specs.AffectedRun.{if_so, is_affected, occurs_in_order}
+use Rattle.uca_changes.specs.AffectedTexts.{is_affected, occurs_in_order}
+use Rattle.uca_run_parts.specs.AffectedRun.{if_so}
 use Rattle.uca_run_parts.specs.Files.{audit_files}
 use Rattle.uca_run_parts.specs.Verdicts.{RunsAudit}
-use Rattle.uca_change_runs.specs.AffectedRun.{is_affected_by, listed_in}
+use Rattle.uca_editions.specs.AffectedTexts.{is_affected_by, listed_in}
 use Rattle.uca_change_runs.specs.AuditRun.{change_audit}
 use Rattle.uca_change_runs.specs.ChangeFiles.{change_files}
-use Rattle.uca_change_runs.proofs.AffectedTexts.{affected_are_the_others}
+use Rattle.uca_editions.proofs.AffectedTexts.{affected_are_the_others}
 use Rattle.uca_tailor_runs.specs.AuditRun.{tailoring_audit}
 use Rattle.uca_upgrades.specs.Upgrades.{Upgrade, IsUnaffectedLine, change_upgrade, tailoring_upgrade}
 use Rattle.uca_upgrades.specs.Laws.{AcceptedChangesKeepOrder, AuditedChangesKeepOrder, AcceptedTailoringsKeepOrder, AuditedTailoringsKeepOrder, MeanOnly, sources_of}

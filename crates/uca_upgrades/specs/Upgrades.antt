@@ -17,11 +17,12 @@ use Rattle.uca_tailorings.specs.Moves.{moved_key}
 use Rattle.uca_tailorings.specs.Tailorings.{Tailoring}
 use Rattle.uca_changes.specs.Changes.{Change}
 use Rattle.uca_order.specs.Keyings.{Keying, keying, key_of_bytes, bytes_compared}
-use Rattle.uca_run_parts.specs.AffectedRun.{is_affected, line_if}
+use Rattle.uca_changes.specs.AffectedTexts.{is_affected}
+use Rattle.uca_run_parts.specs.AffectedRun.{line_if}
 use Rattle.uca_run_parts.specs.Files.{TableAndData, table_with}
 use Rattle.uca_run_parts.specs.Input.{cause_of, line_text}
 use Rattle.uca_run_parts.specs.Print.{keyed_line_of}
-use Rattle.uca_change_runs.specs.AffectedRun.{is_affected_by, listed_in}
+use Rattle.uca_editions.specs.AffectedTexts.{is_affected_by, listed_in}
 use Rattle.uca_rekey.specs.ChangedLines.{KeyChange, LineBecomes, LinesBecome, moves}
 use Rattle.uca_key_runs.specs.Keys.{keyed_line, printed_key}
 

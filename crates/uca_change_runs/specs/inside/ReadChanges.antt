@@ -3,16 +3,14 @@ use Rattle.std.specs.Prelude.{List, [], ◌∷◌}
 use Rattle.uca_values.specs.Content.{properties_of}
 use Rattle.uca_certificates.specs.Certificates.{CertificateContent}
 use Rattle.uca_change_files.specs.Changes.{ChangeContent}
-use Rattle.uca_change_lists.specs.ChangeLists.{ChangesContent}
 use Rattle.uca_changes.specs.Changes.{Change}
 use Rattle.uca_run_parts.specs.declared.faults.Role.{Role}
 use Rattle.uca_run_parts.specs.declared.faults.Role.TheVariants as roles
 use Rattle.uca_run_parts.specs.Files.{Reading, TableAndData, Done, table_with, then_certificate, then_data, then_table}
 use Rattle.uca_change_runs.specs.ChangeFiles.{EditionsContent, change_between, editions_with, then_changes}
-use Rattle.uca_change_runs.specs.declared.files.Edition.{Edition}
-use Rattle.uca_change_runs.specs.declared.files.EditionFiles.{EditionFiles}
-use Rattle.uca_change_runs.specs.declared.files.Listed.{Listed}
-use Rattle.uca_change_runs.specs.declared.files.ChangeFiles.{ChangeFiles}
+use Rattle.uca_editions.specs.declared.files.Edition.{Edition}
+use Rattle.uca_editions.specs.declared.files.EditionFiles.{EditionFiles}
+use Rattle.uca_editions.specs.declared.files.Listed.{Listed}
 
 -- ---- Some of the files
 
@@ -53,8 +51,3 @@ editions_of files = editions_with (edition_of files.old) (edition_of files.new)
 
 abbrev pub listed_of : {A : Type 0} → Listed A → ListedContent
 listed_of listed = listed_with listed.list listed.certificate
-
--- the change of these files, with other lists of texts and ranges
-abbrev pub change_by : {A : Type 0} → ChangeFiles A → ChangesContent → Change
-change_by files changes =
-    change_between (editions_of files.editions) (record { texts = changes.texts; ranges = changes.ranges }) files.listed.certificate

@@ -9,9 +9,9 @@ use Rattle.uca_change_files.specs.ChangeTexts as changes
 use Rattle.uca_changes.specs.Changes.{Change}
 use Rattle.uca_changes.specs.declared.faults.ChangeFault.{ChangeFault}
 use Rattle.uca_changes.specs.declared.faults.ChangeFault.TheVariants as change_faults
-use Rattle.uca_change_runs.specs.AffectedRun.{listed_in}
-use Rattle.uca_change_runs.specs.declared.files.EditionFiles.{EditionFiles}
-use Rattle.uca_change_runs.specs.declared.files.Listed.{Listed}
+use Rattle.uca_editions.specs.AffectedTexts.{listed_in}
+use Rattle.uca_editions.specs.declared.files.EditionFiles.{EditionFiles}
+use Rattle.uca_editions.specs.declared.files.Listed.{Listed}
 use Rattle.uca_editions.specs.ChangeRefusals.{IsFirstRefusal}
 use Rattle.uca_number_keys.specs.Tables.{RefusesTable}
 use Rattle.uca_owned.specs.Opening.{MeanFiles}

@@ -4,7 +4,7 @@ use Rattle.uca_changes.specs.declared.faults.ChangeFault.TheVariants.{Memory, No
 use Rattle.uca_editions.specs.ChangeRefusals.{IsFirstRefusal}
 use Rattle.uca_run_parts.proofs.Verdicts.{audit_written}
 use Rattle.uca_change_runs.specs.AuditRun.{change_audit}
-use Rattle.uca_change_runs.specs.ReadChange.{change_of}
+use Rattle.uca_editions.specs.ReadChange.{change_of}
 use Rattle.uca_change_runs.proofs.ChangeVerdicts.{refusal_of_not_met}
 use Rattle.uca_change_runs.proofs.audit_changes.write_verdict.Goals as goal
 

@@ -1,7 +1,7 @@
 -- What is read is what the files mean.
 use Rattle.std.proofs.Common.{◌∙◌, ap, sym}
 use Rattle.uca_tailorings.specs.Inputs.{maps_of}
-use Rattle.uca_change_runs.specs.AffectedRun.{listed_in}
+use Rattle.uca_editions.specs.AffectedTexts.{listed_in}
 use Rattle.uca_upgrade.proofs.files.read_listed.Goals as goal
 
 pub returns-in-Ok-certificate_of-clause-only : goal.returns-in-Ok-certificate_of-clause-only

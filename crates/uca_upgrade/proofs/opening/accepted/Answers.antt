@@ -1,5 +1,5 @@
 -- An upgrade of a change that the audit accepts renews keys.
-use Rattle.uca_change_runs.specs.ReadChange.{change_of}
+use Rattle.uca_editions.specs.ReadChange.{change_of}
 use Rattle.uca_upgrade.proofs.Renewed.{keys_renewed}
 use Rattle.uca_upgrade.proofs.opening.accepted.Goals as goal
 

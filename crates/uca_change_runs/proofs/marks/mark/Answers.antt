@@ -1,9 +1,0 @@
-use Rattle.std.proofs.Common.{arith}
-use Rattle.uca_change_runs.proofs.MarkLaws.{marked_here, marked_still}
-use Rattle.uca_change_runs.proofs.marks.mark.Goals as goal
-
-pub returns-clause-kept : goal.returns-clause-kept
-returns-clause-kept c = λ point marked. marked_still c.args.words.now c.args.code point (omega arith) marked
-
-pub returns-clause-marked : goal.returns-clause-marked
-returns-clause-marked c = marked_here c.args.words.now c.args.code (omega arith)
