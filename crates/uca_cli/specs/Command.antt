@@ -1,6 +1,6 @@
 -- What the whole command does: it reads its arguments, opens the files that they name in their order, runs over them,
 -- and ends with a status.
-use Rattle.std.specs.Prelude.{◌≡◌, ◌≢◌, ◌⊎◌, ◌<◌, ℕ, List, [], ◌∷◌, ◌||◌, Bool, true, false, Option, Some, None, Result, Ok, Err, IfErr, is_err, length, unwrap_or}
+use Rattle.std.specs.Prelude.{◌≡◌, ◌≢◌, ◌⊎◌, ◌<◌, ℕ, List, [], ◌∷◌, ◌||◌, Bool, true, false, Option, Some, None, Result, Ok, Err, IfErr, is_err, is_some, length, unwrap_or}
 use Rattle.std.specs.Borrow.{Bor}
 use Rattle.std.specs.Global.{Global}
 use Rattle.uca_weights.specs.declared.Asked.{Asked}
@@ -52,7 +52,7 @@ use Rattle.uca_change_runs.specs.AffectedRun.{by_changes}
 use Rattle.uca_rekey.specs.HeadedRun.{RekeysHeaded}
 use Rattle.uca_rekey.specs.RekeyRun.{RekeysLines}
 use Rattle.uca_rekey.specs.ChangeRun.{CompactsHeaded, CompactsLines, ExpandsHeaded, ExpandsLines}
-use Rattle.uca_fingerprint_runs.specs.FingerprintRun.{PrintsCompactFingerprint, PrintsFingerprint}
+use Rattle.uca_fingerprint_runs.specs.FingerprintRun.{PrintsFingerprint}
 use Rattle.uca_book_runs.specs.BookRun.{PrintsBookImage}
 use Rattle.uca_host.specs.NamedFiles.{FileSystem, NamedFile, file_for, table_and_data, tailor_files, affected_files, audit_files, edition_files, change_files, AreOpened, DoesNotOpen, AreOthers, IsFirstSame, KeepsCertificate}
 use Rattle.uca_tailor_runs.specs.AuditRun.{Audits}
@@ -185,19 +185,13 @@ abbrev pub fingerprint_files : Option (Bor (List ℕ)) → List ℕ → List ℕ
 fingerprint_files None table properties = table_and_data table properties
 fingerprint_files (Some book) table properties = booked_files table properties book.now
 
--- the run of `fingerprint`: with `--compact` it is that of compact keys
-abbrev pub Fingerprinted : Option (Bor (List ℕ)) → Asked → List SourceState → List SourceState
-    → SinkState → SinkState → Result (Unit {0}) RunFault → Type 0
-Fingerprinted None asked olds news out out_new run = PrintsFingerprint asked olds news out out_new run
-Fingerprinted (Some book) asked olds news out out_new run = PrintsCompactFingerprint asked olds news out out_new run
-
 -- what `fingerprint` does
 abbrev pub DoesFingerprint : {O F M : Type 0} → FileSystem O F M → O → O → FingerprintWords → SinkState → SinkState
     → Result ℕ RunFault → Type 0
 DoesFingerprint files old new words out out_new result =
     OpensAndRuns files old new (fingerprint_files words.book words.table.now words.properties.now) (out_new ≡ out)
     (λ olds news. Ran (done_result {A = Unit {0}})
-    (Fingerprinted words.book (asked_for words.weighting words.depth words.numbers) olds news out out_new) result) result
+    (PrintsFingerprint (is_some words.book) (asked_for words.weighting words.depth words.numbers) olds news out out_new) result) result
 
 -- ---- Tailor and changes
 
