@@ -49,7 +49,7 @@ use Rattle.uca_change_runs.specs.ChangesRun.{FindsChanges}
 use Rattle.uca_change_runs.specs.AuditRun.{AuditsChanges}
 use Rattle.uca_change_runs.specs.AffectedRun.{by_changes}
 use Rattle.uca_rekey.specs.ChangeRun.{CompactsLines, ExpandsLines, RekeysLines}
-use Rattle.uca_fingerprint_runs.specs.FingerprintRun.{PrintsCompactFingerprint, PrintsFingerprint}
+use Rattle.uca_fingerprint_runs.specs.FingerprintRun.{PrintsFingerprint}
 use Rattle.uca_book_runs.specs.BookRun.{PrintsBookImage}
 use Rattle.uca_host.specs.NamedFiles.{FileSystem, NamedFile, file_for, table_and_data, tailor_files, affected_files, audit_files, edition_files, change_files, AreOpened, DoesNotOpen, AreOthers, IsFirstSame, KeepsCertificate}
 use Rattle.uca_tailor_runs.specs.AuditRun.{Audits}
@@ -115,10 +115,14 @@ DoesCheck files old new words out out_new result =
 abbrev pub asked_for : Option Weighting → Depth → Numbers → Asked
 asked_for weighting depth numbers = record { weighting = weighting; depth = depth; numbers = numbers }
 
+-- a table, a data file and a book
+abbrev pub booked_files : List ℕ → List ℕ → List ℕ → List NamedFile
+booked_files table properties book = file_for roles.Table table ∷ file_for roles.Data properties ∷ file_for roles.Book book ∷ []
+
 -- a table and a data file, and perhaps a book
 abbrev pub files_with_book : Option (Bor (List ℕ)) → List ℕ → List ℕ → List NamedFile
 files_with_book None table properties = table_and_data table properties
-files_with_book (Some book) table properties = file_for roles.Table table ∷ file_for roles.Data properties ∷ file_for roles.Book book.now ∷ []
+files_with_book (Some book) table properties = booked_files table properties book.now
 
 -- what the output of `keys` has beside keys
 abbrev pub output_of : KeysWords → KeyOutput
@@ -148,19 +152,13 @@ DoesCompare files old new words out out_new result =
     (λ olds news. Ran (done_result {A = Unit {0}})
     (Compares (comparing (asked_for words.weighting words.depth words.numbers) words.left.now words.right.now) olds news out out_new) result) result
 
--- the run of `fingerprint`: with `--compact` it is that of compact keys
-abbrev pub Fingerprinted : Option (Bor (List ℕ)) → Asked → List SourceState → List SourceState
-    → SinkState → SinkState → Result (Unit {0}) RunFault → Type 0
-Fingerprinted None asked olds news out out_new run = PrintsFingerprint asked olds news out out_new run
-Fingerprinted (Some book) asked olds news out out_new run = PrintsCompactFingerprint asked olds news out out_new run
-
 -- what `fingerprint` does
 abbrev pub DoesFingerprint : {O F M : Type 0} → FileSystem O F M → O → O → FingerprintWords → SinkState → SinkState
     → Result ℕ RunFault → Type 0
 DoesFingerprint files old new words out out_new result =
     OpensAndRuns files old new (files_with_book words.book words.table.now words.properties.now) (out_new ≡ out)
     (λ olds news. Ran (done_result {A = Unit {0}})
-    (Fingerprinted words.book (asked_for words.weighting words.depth words.numbers) olds news out out_new) result) result
+    (PrintsFingerprint (is_some words.book) (asked_for words.weighting words.depth words.numbers) olds news out out_new) result) result
 
 -- ---- Tailor and changes
 

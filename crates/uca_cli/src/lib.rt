@@ -15,7 +15,7 @@ pub use command::run_command;
 pub use uca_book_runs::run_book;
 pub use uca_change_runs::{run_affected_by_changes, run_audit_changes, run_changes};
 pub use uca_editions::affected_by_changes_are_the_others;
-pub use uca_fingerprint_runs::{run_compact_fingerprint, run_fingerprint};
+pub use uca_fingerprint_runs::run_fingerprint;
 pub use uca_host::{MakeFault, OpenFault, Opens, STREAM_FAILED, report};
 pub use uca_key_runs::{
     KeyOutput, affected_texts_are_the_others, canonically_equivalent_lines_have_one_key_line,

@@ -1,5 +1,5 @@
 -- What a run of fingerprint returns and writes.
-use Rattle.std.specs.Prelude.{◌≡◌, ℕ, List, [], ◌∷◌, ◌++◌, ◌||◌, true, Option, Result, Ok, Err}
+use Rattle.std.specs.Prelude.{◌≡◌, ℕ, List, [], ◌∷◌, ◌++◌, ◌||◌, Bool, true, false, Option, Result, Ok, Err}
 use Rattle.std.specs.Io.KnownBytes.{Appends}
 use Rattle.hex.specs.Hex.{encode_lower}
 use Rattle.sha2.specs.Sha256.{sha256}
@@ -45,10 +45,7 @@ pub record PrintsLine {A C : Type 0} (reading : Reading C) (of : List Role) (lin
   pub failed : HaveFailed of olds news result
   pub out_failed : out_new.failed ≡ (out.failed || ended_by_output result)
 
--- a run of fingerprint
-abbrev pub PrintsFingerprint : {A : Type 0} → Asked → List SourceState → List SourceState → SinkState → SinkState → Result A RunFault → Type 0
-PrintsFingerprint asked = PrintsLine summed_files table_and_data_roles (fingerprint_line asked)
-
--- one of fingerprint with a book
-abbrev pub PrintsCompactFingerprint : {A : Type 0} → Asked → List SourceState → List SourceState → SinkState → SinkState → Result A RunFault → Type 0
-PrintsCompactFingerprint asked = PrintsLine booked_files booked_roles (compact_fingerprint_line asked)
+-- a run of fingerprint, without a book or with one
+abbrev pub PrintsFingerprint : {A : Type 0} → Bool → Asked → List SourceState → List SourceState → SinkState → SinkState → Result A RunFault → Type 0
+PrintsFingerprint false asked = PrintsLine summed_files table_and_data_roles (fingerprint_line asked)
+PrintsFingerprint true asked = PrintsLine booked_files booked_roles (compact_fingerprint_line asked)

@@ -1,15 +1,10 @@
-//! The runs that print the fingerprint of what keys are made by, and that of what compact keys are. They read the table
-//! and the data file, each by a parser that sums (`Summed` of `summed_files`), and the second one a book too.
+//! The run that prints the fingerprint of what keys are made by, or that of what compact keys are. It reads the table
+//! and the data file, each by a parser that sums (`Summed` of `summed_files`), and for compact keys a book too.
 
-ghost use Rattle.std.specs.Prelude.{◌≡◌, ◌∷◌, [], ◌++◌};
+ghost use Rattle.std.specs.Prelude.{◌≡◌, ◌∷◌, [], ◌++◌, is_some, option_to_list};
 ghost use Rattle.hex.specs.Hex.{encode_lower};
 ghost use Rattle.uca_values.specs.Content.{properties_of};
-ghost use Rattle.uca_fingerprint_runs.specs.FingerprintRun.{
-  PrintsCompactFingerprint,
-  PrintsFingerprint,
-  compact_fingerprint_under,
-  fingerprint_under,
-};
+ghost use Rattle.uca_fingerprint_runs.specs.FingerprintRun.{PrintsFingerprint, compact_fingerprint_under, fingerprint_under};
 ghost use Rattle.uca_fingerprint_runs.specs.SummedFiles.{booked_with, summed_with};
 
 use crate::summed_files::{BookedFiles, SummedFiles, read_booked_files, read_summed_files};
@@ -21,57 +16,42 @@ use uca_run_parts::RunFault;
 use uca_run_parts::output::write_text;
 use uca_weights::{Asked, Settings, Sink, Source, Weighting};
 
-/// Writes the fingerprint of what keys are made by under a table and a data file: 64 lower-case hexadecimal digits and LF. The
-/// weighting is the one that is asked for, or else that of the table's `@variable`, or else shifted (UTS #10, section 4).
-///
-/// # Errors
-///
-/// `File` if the table, or else the data file, is rejected: nothing was written. `Write` if the writer failed: the first
-/// `written` bytes of the line went out.
-pub fn run_fingerprint<A: Allocator + Copy, T: Read, D: Read, W: Write>(
-    alloc: A,
-    table: &mut Source<T>,
-    properties: &mut Source<D>,
-    out: &mut Sink<W>,
-    asked: Asked,
-) -> Result<(), RunFault>
-    ensures { PrintsFingerprint asked (table.old ∷ properties.old ∷ []) (table.new ∷ properties.new ∷ []) out.old out.new result }
-{
-    match read_summed_files(alloc, table, properties) {
-        Ok(files) => {
-            let sum = fingerprint_of_files(&files, asked);
-            drop(files);
-            write_text(&line_of(&sum), out)
-        }
-        Err(fault) => Err(fault),
-    }
-}
-
-/// Writes the fingerprint of what compact keys are made by under a table, a data file and a book: 64 lower-case hexadecimal
-/// digits and LF. The weighting is as in [`run_fingerprint`]. The files are read in this order.
+/// Writes the fingerprint of what keys are made by under a table and a data file: 64 lower-case hexadecimal digits and LF.
+/// With a book it is that of what compact keys are made by. The weighting is the one that is asked for, or else that of the
+/// table's `@variable`, or else shifted (UTS #10, section 4). The files are read in this order.
 ///
 /// # Errors
 ///
 /// `File` if the table, or else the data file, or else the book, is rejected: nothing was written. `Write` if the writer
 /// failed: the first `written` bytes of the line went out.
-pub fn run_compact_fingerprint<A: Allocator + Copy, T: Read, D: Read, B: Read, W: Write>(
+pub fn run_fingerprint<A: Allocator + Copy, T: Read, D: Read, B: Read, W: Write>(
     alloc: A,
     table: &mut Source<T>,
     properties: &mut Source<D>,
-    book: &mut Source<B>,
+    book: &mut Option<Source<B>>,
     out: &mut Sink<W>,
     asked: Asked,
 ) -> Result<(), RunFault>
-    ensures { PrintsCompactFingerprint asked (table.old ∷ properties.old ∷ book.old ∷ [])
-        (table.new ∷ properties.new ∷ book.new ∷ []) out.old out.new result }
+    ensures { PrintsFingerprint (is_some book.old) asked (table.old ∷ properties.old ∷ option_to_list book.old)
+        (table.new ∷ properties.new ∷ option_to_list book.new) out.old out.new result }
 {
-    match read_booked_files(alloc, table, properties, book) {
-        Ok(files) => {
-            let sum = compact_fingerprint_of_files(&files, asked);
-            drop(files);
-            write_text(&line_of(&sum), out)
-        }
-        Err(fault) => Err(fault),
+    match book {
+        None => match read_summed_files(alloc, table, properties) {
+            Ok(files) => {
+                let sum = fingerprint_of_files(&files, asked);
+                drop(files);
+                write_text(&line_of(&sum), out)
+            }
+            Err(fault) => Err(fault),
+        },
+        Some(book) => match read_booked_files(alloc, table, properties, book) {
+            Ok(files) => {
+                let sum = compact_fingerprint_of_files(&files, asked);
+                drop(files);
+                write_text(&line_of(&sum), out)
+            }
+            Err(fault) => Err(fault),
+        },
     }
 }
 

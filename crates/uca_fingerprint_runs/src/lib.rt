@@ -1,5 +1,4 @@
-//! The runs that print the fingerprint of what keys are made by (`run_fingerprint`), and that of compact keys
-//! (`run_compact_fingerprint`). Reading a table, a data file and a book with their sums (`read_summed_files`,
+//! The run that prints the fingerprint of what keys are made by, or that of compact keys (`run_fingerprint`). Reading a table, a data file and a book with their sums (`read_summed_files`,
 //! `read_booked_files`).
 #![tactic(auto)]
 
@@ -8,4 +7,4 @@ mod fingerprint;
 pub mod summed_files;
 
 pub use book_sums::sum_of_book;
-pub use fingerprint::{run_compact_fingerprint, run_fingerprint};
+pub use fingerprint::run_fingerprint;

@@ -1,11 +1,12 @@
 -- The three files are opened, and then run over.
+use Rattle.std.specs.Prelude.{option_to_list}
 use Rattle.std.proofs.Common.{[], ◌∷◌, inr}
 use Rattle.uca_cli.proofs.fingerprint_commands.fingerprint_of_compact_keys.Goals as goal
 
 pub returns-in-Ok : goal.returns-in-Ok
 returns-in-Ok g c = inr (record {
   before = c.in-Ok.table ∷ c.in-Ok.properties ∷ c.in-Ok.book ∷ [];
-  after = c.run_compact_fingerprint.new.table ∷ c.run_compact_fingerprint.new.properties ∷ c.run_compact_fingerprint.new.book ∷ [];
+  after = c.run_fingerprint.new.table ∷ c.run_fingerprint.new.properties ∷ option_to_list c.run_fingerprint.new.book;
   opened = c.in-Ok.ensures;
-  runs = record { run = c.run_compact_fingerprint.result; runs = rw c.asked_for.ensures at c.run_compact_fingerprint.ensures; status = c.done.ensures };
+  runs = record { run = c.run_fingerprint.result; runs = rw c.asked_for.ensures at c.run_fingerprint.ensures; status = c.done.ensures };
 })

@@ -1,11 +1,12 @@
 -- Both files are opened, and then run over.
+use Rattle.std.specs.Prelude.{option_to_list}
 use Rattle.std.proofs.Common.{[], ◌∷◌, inr}
 use Rattle.uca_cli.proofs.fingerprint_commands.fingerprint_of_keys.Goals as goal
 
 pub returns-in-Ok : goal.returns-in-Ok
 returns-in-Ok g c = inr (record {
   before = c.in-Ok.table ∷ c.in-Ok.properties ∷ [];
-  after = c.run_fingerprint.new.table ∷ c.run_fingerprint.new.properties ∷ [];
+  after = c.run_fingerprint.new.table ∷ c.run_fingerprint.new.properties ∷ option_to_list c.run_fingerprint.new.book;
   opened = c.in-Ok.ensures;
   runs = record { run = c.run_fingerprint.result; runs = rw c.asked_for.ensures at c.run_fingerprint.ensures; status = c.done.ensures };
 })
