@@ -70,7 +70,7 @@ def given_files(work):
     """Unicode's table and data file, and the lines of each kind."""
     for kind in ("table", "data"):
         with open(f"{work}/{kind}.txt", "wb") as it:
-            it.write(run([sys.executable, f"{TOP}/tools/unicode_files.py", kind]))
+            it.write(run([sys.executable, f"{TOP}/languages/unicode_files.py", kind]))
     kinds = {
         "latin": bindings.words(100_000),
         "ascii": bindings.list_of_words("/usr/share/dict/american-english-large"),

@@ -6,9 +6,9 @@
 - layout: `rattle fmt --check` over all files of all crates;
 - columns: no line of a page has more than 120 columns, but for tables and blocks of code, and none has `@@`, which stands for a figure to come;
 - edits: each `old:` text of an edit is in its file exactly once, in crates/*/must-fail and in the lists of edits/;
-- english: tools/plain_english.py;
+- english: tools/pages/plain_english.py;
 - definitions: tools/definitions.py;
-- library: tools/library_page.py;
+- library: tools/pages/library_page.py;
 - man, completions, crates, charts: the page of the manual, the completions, the list of crates and the charts are as their scripts would write them.
 
 The checks run side by side. Each has a line, and what it finds comes after that line. A check whose script is not there is left out. The last line is
@@ -88,11 +88,11 @@ CHECKS = {
     "layout": layout,
     "columns": columns,
     "edits": edits,
-    "english": by_script("tools/plain_english.py"),
-    "library": by_script("tools/library_page.py"),
-    "man": by_script("tools/man_page.py", "--check"),
-    "completions": by_script("tools/completions.py", "--check"),
-    "crates": by_script("tools/crates_page.py", "--check"),
+    "english": by_script("tools/pages/plain_english.py"),
+    "library": by_script("tools/pages/library_page.py"),
+    "man": by_script("tools/pages/man_page.py", "--check"),
+    "completions": by_script("tools/pages/completions.py", "--check"),
+    "crates": by_script("tools/pages/crates_page.py", "--check"),
     "definitions": by_script("tools/definitions.py"),
     "charts": by_script("bench/charts.py", "--check"),
 }

@@ -16,7 +16,7 @@ First prove and build the static library: `tools/build.py uca_c uca_run`. Then t
 - the tests of the module for Python, as it is and from a wheel with the library inside, and those of keys, threads, signals and forks under valgrind;
 - statements of SQLite with the extension, over files that are the same or others, and those of docs/BINDINGS.md; also in threads, and where each allocation fails in turn;
 - upgrades from the edition of examples/ to that of examples/editions/, in Python, SQLite and PostgreSQL. upgrades.py does the same with Unicode's tables;
-- languages by their tags, by files of examples/ and by those that tools/uca_files.py makes: in Python, C, SQLite and PostgreSQL, and what names no files there;
+- languages by their tags, by files of examples/ and by those that languages/uca_files.py makes: in Python, C, SQLite and PostgreSQL, and what names no files there;
 - statements, dumps and replication of PostgreSQL with its extension, roles that make functions to be run by a superuser, and the commands, settings and statements of docs/BINDINGS.md. The extension is installed to a copy of the server's programs in a temporary folder. Each server
   has a folder of its own, listens on a Unix socket there, and is stopped afterwards;
 - all four over Unicode's table, and over that table tailored for Danish: 100,000 words of nine languages have the keys of `uca keys` and the order of `uca sort`.
@@ -1523,7 +1523,7 @@ BY_INDEX = "SET enable_seqscan = off; SELECT string_agg(word, ' ') FROM (SELECT 
 USES = ("SELECT uca_key('a');", "INSERT INTO words VALUES ('d');", "SELECT FROM plain WHERE key = uca_key(word);", "INSERT INTO parts VALUES ('bh');")
 
 
-UCA_FILES = f"{TOP}/tools/uca_files.py"
+UCA_FILES = f"{TOP}/languages/uca_files.py"
 BARE = "shared_preload_libraries = 'uca'\n"
 NAMES_IN_ORDER = "SELECT string_agg(name::text, ' ') FROM (SELECT name FROM words ORDER BY name) it;"
 NAMES_BY_KEY = "SELECT string_agg(name::text, ' ') FROM (SELECT name FROM words ORDER BY uca_key(name)) it;"
@@ -1606,7 +1606,7 @@ def postgresql_language_errors(server, says, folder):
 
 
 def language_page(program):
-    """What docs/BINDINGS.md says of languages from nothing, by the files that tools/uca_files.py makes."""
+    """What docs/BINDINGS.md says of languages from nothing, by the files that languages/uca_files.py makes."""
 
     def check(work):
         for it in (program, UCA_FILES, "/usr/share/unicode/allkeys.txt", "/usr/share/unicode/cldr/common/collation"):
@@ -2509,7 +2509,7 @@ def unicode_files(work, program):
     if not os.path.exists(packages.NEW_KEYS):
         raise NotHere(f"there is no {packages.NEW_KEYS}")
     for kind in ("table", "data"):
-        made = run([sys.executable, f"{TOP}/tools/unicode_files.py", kind])
+        made = run([sys.executable, f"{TOP}/languages/unicode_files.py", kind])
         with open(f"{work}/{kind}.txt", "wb") as it:
             it.write(made)
     made = run([program, "tailor", f"{work}/table.txt", f"{work}/data.txt", f"{EXAMPLES}/rules_danish.txt", f"{work}/certificate.txt"])

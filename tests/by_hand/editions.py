@@ -103,7 +103,7 @@ def old_data(new):
 
 def make(folder):
     """The tables and data files."""
-    tool = [sys.executable, "tools/unicode_files.py"]
+    tool = [sys.executable, "languages/unicode_files.py"]
     for name, words in (("new.txt", ["table"]), ("old.txt", ["table", packages.OLD_KEYS]), ("new_data.txt", ["data"])):
         with open(folder.file(name), "wb") as file:
             subprocess.run([*tool, *words], stdout=file, check=True)

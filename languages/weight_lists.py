@@ -1,4 +1,4 @@
-"""A weight table as three lists of weights that have no numbers yet. Part of tools/languages.py.
+"""A weight table as three lists of weights that have no numbers yet. Part of languages/languages.py.
 
 A Draft reads a table, is changed, and writes a new table. A new weight goes directly after that of its anchor, or before it, as `uca tailor` does it. Numbers
 are given at the end: weights of the old table keep theirs where there is room, and none falls. So old weights that stay in their order have a rising map, and

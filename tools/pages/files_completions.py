@@ -1,6 +1,6 @@
-"""The completions of uca-files for bash, zsh and fish: options, folders, and the tags of all languages. Part of tools/completions.py."""
+"""The completions of uca-files for bash, zsh and fish: options, folders, and the tags of all languages. Part of tools/pages/completions.py."""
 HEAD = """# Completion of the command uca-files for @SHELL@: options, folders, and the tags of all languages with their names.
-# Written by tools/completions.py from the help of the script. Do not edit."""
+# Written by tools/pages/completions.py from the help of the script. Do not edit."""
 
 BASH = """@HEAD@
 

@@ -1,4 +1,4 @@
-"""Changes from one table to another that keep the letters of a script: they list the letters that these letters pass. Part of tools/languages.py.
+"""Changes from one table to another that keep the letters of a script: they list the letters that these letters pass. Part of languages/languages.py.
 
 `uca changes` keeps as many weights as it can. So for a Russian table, which has Cyrillic before Latin, it lists the Cyrillic letters. Here the weights of a
 script count more than all others. Nothing here is trusted: `uca audit-changes` judges the changes and the certificate.

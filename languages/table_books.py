@@ -1,10 +1,10 @@
-"""Makes a book for the table of a language, so that compact keys by this table are short. Part of tools/uca_files.py.
+"""Makes a book for the table of a language, so that compact keys by this table are short. Part of languages/uca_files.py.
 
 A book fits the table whose weights it names. examples/books/general.book fits Unicode's own. Where a language leaves the letters in their order, `uca changes` and
 `uca book` make the book that fits its table. It is taken where the language's own letters are short by it, as those of Latin languages are. For all others a book
 is chosen by texts that CLDR has in the language. Lines of English and numbers are among them, since most lists have some.
 
-The same table and the same files of Unicode and CLDR always give the same book. tools/uca_files.py makes none of files of another edition than the table's.
+The same table and the same files of Unicode and CLDR always give the same book. languages/uca_files.py makes none of files of another edition than the table's.
 """
 import io
 import os

@@ -1,10 +1,10 @@
 #!/usr/bin/env python3
 """Checks what is installed: the manual page, the completions of three shells, tools/install.sh, and the version.
 
-    tools/packaging.py [--program PATH]
+    tools/pages/packaging.py [--program PATH]
 
 The manual page and each completion name the commands and options that the program's help names, and no others. They are what
-tools/man_page.py and tools/completions.py write. The page renders without a warning. Each completion is run by its shell. tools/install.sh puts all files
+tools/pages/man_page.py and tools/pages/completions.py write. The page renders without a warning. Each completion is run by its shell. tools/install.sh puts all files
 into a temporary folder, lists them, and takes them away again; the program there runs. The gate's tests/test_installed.py looks at the scripts and pages.
 `uca --version` names the logic of this machine's kit, and docs/FORMATS.md shows its line.
 
@@ -18,9 +18,10 @@ import subprocess
 import sys
 import tempfile
 
-import script_help
 from command_help import TOP, helps_of, printed, program_of
 from completion_shells import Zsh, bash_offers, fish_offers
+
+import script_help  # command_help has put its folder on the path
 
 PACKAGES = {"man": "man-db", "mandoc": "mandoc", "zsh": "zsh", "fish": "fish"}
 WEIGHTINGS = {"non-ignorable", "shifted"}
@@ -37,8 +38,8 @@ INSTALLED = [
     "share/zsh/site-functions/_uca-files",
     "share/fish/vendor_completions.d/uca-files.fish",
     *(f"share/doc/uca/{it}" for it in ["LICENSE", "LICENSE-MIT", "LICENSE-APACHE", "NOTICE", "README.md", "CHANGELOG.md", "SECURITY.md"]),
-    *(f"share/doc/uca/{it}" for it in ["docs/FORMATS.md", "docs/MESSAGES.md", "examples/table.txt", "tools/unicode_files.py", "installed_files"]),
-    "share/uca/tools/uca_files.py",
+    *(f"share/doc/uca/{it}" for it in ["docs/FORMATS.md", "docs/MESSAGES.md", "examples/table.txt", "languages/unicode_files.py", "installed_files"]),
+    "share/uca/languages/uca_files.py",
     "share/uca/examples/books/general.book",
 ]
 
@@ -164,8 +165,8 @@ def check_man_page(counts, program, whole, helps):
         counts.same(f"man/uca.1: options of {name}", options_in(sections.get(name, "")), text.options() - {"-h", "--help"})
     top = re.search(r"^\.SH OPTIONS\n(.*?)(?=^\.SH )", page, re.M | re.S)
     counts.same("man/uca.1: options", options_in(top[1] if top else ""), whole.options())
-    made = subprocess.run([sys.executable, f"{TOP}/tools/man_page.py", "--program", program], stdout=subprocess.PIPE, text=True, check=False).stdout
-    counts.check("man/uca.1 is what tools/man_page.py prints", made == page)
+    made = subprocess.run([sys.executable, f"{TOP}/tools/pages/man_page.py", "--program", program], stdout=subprocess.PIPE, text=True, check=False).stdout
+    counts.check("man/uca.1 is what tools/pages/man_page.py prints", made == page)
     locale = {**os.environ, "LC_ALL": "C.UTF-8", "MANWIDTH": "80"}
     for command in (["man", "--warnings", "-l"], ["mandoc", "-Tlint", "-Wwarning"]):
         for name in ("uca.1", "uca-files.1") if is_there(command[0]) else ():
@@ -212,8 +213,8 @@ def put_stand_in(folder):
 
 def check_completions(counts, whole, helps):
     check_names(counts, whole, helps)
-    ran = subprocess.run([sys.executable, f"{TOP}/tools/completions.py", "--check"], stdout=subprocess.PIPE, text=True, check=False)
-    counts.check("completions/ is what tools/completions.py writes", ran.returncode == 0, ran.stdout)
+    ran = subprocess.run([sys.executable, f"{TOP}/tools/pages/completions.py", "--check"], stdout=subprocess.PIPE, text=True, check=False)
+    counts.check("completions/ is what tools/pages/completions.py writes", ran.returncode == 0, ran.stdout)
     with tempfile.TemporaryDirectory(prefix="uca-room-") as room, tempfile.TemporaryDirectory(prefix="uca-commands-") as commands:
         for name in FILES - {"rules"}:
             open(f"{room}/{name}", "w", encoding="utf-8").close()
@@ -237,7 +238,7 @@ def check_installed(counts, folder):
     """All files are there, and the program prints keys with the files that were installed beside it."""
     for name in INSTALLED:
         counts.check(f"install.sh: {name}", os.path.isfile(f"{folder}/{name}"))
-    for name in ["bin/uca", "bin/uca-files", "share/doc/uca/tools/unicode_files.py"]:
+    for name in ["bin/uca", "bin/uca-files", "share/doc/uca/languages/unicode_files.py"]:
         counts.check(f"install.sh: {name} may be run", os.access(f"{folder}/{name}", os.X_OK))
     examples = f"{folder}/share/doc/uca/examples"
     if os.access(f"{folder}/bin/uca", os.X_OK):

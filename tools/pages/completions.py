@@ -1,26 +1,27 @@
 #!/usr/bin/env python3
 """Writes the completions of uca for bash, zsh and fish, made from the program's help texts, and those of uca-files, made from its help.
 
-    tools/completions.py            writes the six files of completions/
-    tools/completions.py --check    compares them with what it would write; the last line is `N passed, M failed`
+    tools/pages/completions.py            writes the six files of completions/
+    tools/pages/completions.py --check    compares them with what it would write; the last line is `N passed, M failed`
 
 The commands, their options and their arguments are those of tests/help, which tests/run.py compares with what the program prints. An argument is a file
 unless TEXTS names it. A value of an option is one of the words that its help begins with, such as `non-ignorable or shifted`. Else nothing is
-offered for it. tools/packaging.py runs each completion in its shell.
+offered for it. tools/pages/packaging.py runs each completion in its shell.
 """
 import re
 import sys
 from typing import NamedTuple
 
 import files_completions
-import script_help
 from command_help import TOP, files_items, stored_helps
+
+import script_help  # command_help has put its folder on the path
 
 # The arguments that are no files.
 TEXTS = {"LEFT", "RIGHT"}
 
 HEAD = """# Completion of the command uca for @SHELL@: commands, options, the two weightings, and files.
-# Written by tools/completions.py from the help of the program. Do not edit."""
+# Written by tools/pages/completions.py from the help of the program. Do not edit."""
 
 BASH = """@HEAD@
 
@@ -366,7 +367,7 @@ def main(words):
             with open(path, encoding="utf-8") as file:
                 is_same = file.read() == text
             failed += not is_same
-            print("" if is_same else f"completions/{name} is not what tools/completions.py writes\n", end="")
+            print("" if is_same else f"completions/{name} is not what tools/pages/completions.py writes\n", end="")
         else:
             with open(path, "w", encoding="utf-8") as file:
                 file.write(text)

@@ -1,4 +1,4 @@
-"""Lines in the order of a table, each with the label of its bucket in an index. Part of tools/uca_files.py."""
+"""Lines in the order of a table, each with the label of its bucket in an index. Part of languages/uca_files.py."""
 import bisect
 import subprocess
 from collections.abc import Iterator

@@ -1,4 +1,4 @@
-"""Writes the rules of CLDR as rules of the profile that `uca` reads (docs/FORMATS.md), over a given table. Part of tools/languages.py."""
+"""Writes the rules of CLDR as rules of the profile that `uca` reads (docs/FORMATS.md), over a given table. Part of languages/languages.py."""
 import string
 import unicodedata
 from dataclasses import dataclass

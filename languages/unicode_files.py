@@ -1,8 +1,8 @@
 #!/usr/bin/env python3
 """Makes the files that `uca` reads from what Unicode publishes.
 
-    tools/unicode_files.py table > table.txt
-    tools/unicode_files.py data > data.txt
+    languages/unicode_files.py table > table.txt
+    languages/unicode_files.py data > data.txt
 
 Both come from the files of Debian's package unicode-data in /usr/share/unicode, so they are of one edition. `--folder FOLDER` names another folder
 with Unicode's files, and `table ALLKEYS` another `allkeys.txt`.

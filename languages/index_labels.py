@@ -1,4 +1,4 @@
-"""The labels of an index, such as A to Z and then Å Ä Ö, from CLDR's files. Part of tools/languages.py.
+"""The labels of an index, such as A to Z and then Å Ä Ö, from CLDR's files. Part of languages/languages.py.
 
 A label begins a bucket, which goes up to the next label. A table of Chinese has labels of its own: rows of U+FDD0 and a character. Where the scripts of two
 labels differ, the bucket ends after the script of the first one. So does the last bucket.

@@ -1,4 +1,4 @@
-"""Makes the weight table of a language from Unicode's table and CLDR's rules. Part of tools/languages.py."""
+"""Makes the weight table of a language from Unicode's table and CLDR's rules. Part of languages/languages.py."""
 from collections.abc import Iterator
 from itertools import chain
 
@@ -16,6 +16,8 @@ POSITIONS = {"tertiary ignorable": (False, False, False), "secondary ignorable":
 FIRST = "\ufdd1"  # CLDR's root has such a place before each group: U+FDD1 and a character of it
 WEIGHTINGS = {"noignore": "non-ignorable", "shifted": "shifted"}
 FIRST_CASES = {"off": "", "upper": "upper", "lower": "lower"}
+# The script, as the head of each table names it: by its place of before, since fingerprints depend on each byte of a table.
+MAKER = "tools/languages.py"
 
 
 class Rules:
@@ -182,7 +184,7 @@ class Made:
     def lines(self) -> Iterator[str]:
         """The table, with comments at its head."""
         version, *rest = self.draft.lines(han_order.single(self.draft, self.kind))
-        yield f"# The order of {self.tag.text}, made from Unicode's table and CLDR's files by tools/languages.py."
+        yield f"# The order of {self.tag.text}, made from Unicode's table and CLDR's files by {MAKER}."
         if not self.tag.has_rules:
             yield f"# {rootless(self.tag)}"
         yield version

@@ -1,13 +1,13 @@
 #!/usr/bin/env python3
 """Prints the manual page of uca, made from the program's help texts, or that of uca-files, made from the head and the help of that script.
 
-    tools/man_page.py [--program PATH] > man/uca.1
-    tools/man_page.py --files > man/uca-files.1
-    tools/man_page.py --check        compares both with what it would print; the last line is `N passed, M failed`
+    tools/pages/man_page.py [--program PATH] > man/uca.1
+    tools/pages/man_page.py --files > man/uca-files.1
+    tools/pages/man_page.py --check        compares both with what it would print; the last line is `N passed, M failed`
 
 The names, usages, texts and options are those of tests/help, and the version is that of docs/FORMATS.md. With `--program` they are what this program prints.
 The sections after them come from man/sections.roff, which is written by hand.
-Debian's help2man makes a page of one help text; this page has a section for each command. tools/packaging.py checks that
+Debian's help2man makes a page of one help text; this page has a section for each command. tools/pages/packaging.py checks that
 man/uca.1 is what this script prints for the built program.
 """
 import ast
@@ -15,8 +15,9 @@ import re
 import sys
 import textwrap
 
-import script_help
 from command_help import FILES, TOP, files_items, helps_of, printed, program_of, stored_helps, stored_version
+
+import script_help  # command_help has put its folder on the path
 
 DATE = "2026-11-25"
 
@@ -80,7 +81,7 @@ def command_section(name, text, help_text):
 def page(whole, commands, version):
     name, number = version.split()[:2]
     made = [
-        '.\\" Written by tools/man_page.py from the help of the program. Do not edit.',
+        '.\\" Written by tools/pages/man_page.py from the help of the program. Do not edit.',
         f'.TH UCA 1 {DATE} "{name} {number}" "User Commands"',
         *(".SH NAME", r"uca \- sort text in any language, and make sort keys"),
         ".SH SYNOPSIS",
@@ -119,7 +120,7 @@ def files_page(version):
     title, *blocks = ast.get_docstring(ast.parse(text_of(FILES))).split("\n\n")
     name, number = version.split()[:2]
     made = [
-        '.\\" Written by tools/man_page.py from tools/uca_files.py. Do not edit.',
+        '.\\" Written by tools/pages/man_page.py from languages/uca_files.py. Do not edit.',
         f'.TH UCA-FILES 1 {DATE} "{name} {number}" "User Commands"',
         *(".SH NAME", rf"uca\-files \- {plain(title[0].lower() + title[1:].rstrip('.'))}"),
         *(".SH SYNOPSIS", r"\fBuca\-files\fR [\fIOPTION\fR..] \fITAG\fR.."),
@@ -134,7 +135,7 @@ def check():
     pages = {"uca.1": page(*stored_helps(), stored_version()), "uca-files.1": files_page(stored_version())}
     others = [name for name, text in pages.items() if text_of(f"{TOP}/man/{name}") != text]
     for name in others:
-        print(f"man/{name} is not what tools/man_page.py prints")
+        print(f"man/{name} is not what tools/pages/man_page.py prints")
     print(f"{len(pages) - len(others)} passed, {len(others)} failed")
     return 1 if others else 0
 

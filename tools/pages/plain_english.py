@@ -1,7 +1,7 @@
 #!/usr/bin/env python3
 """Finds long sentences and words that this project does not use, in its pages and in the comments of its code.
 
-    tools/plain_english.py [FILE..]       in any folder of the repository; all files, unless some are named
+    tools/pages/plain_english.py [FILE..]       in any folder of the repository; all files, unless some are named
 
 It reads Markdown pages outside of code, doc comments (`///` and `//!` of .rt files, `--` of .antt files), and docstrings of Python
 without their indented lines. A sentence has at most 30 words, where code counts as one word. A cell of a table, an item of a list and
@@ -15,9 +15,10 @@ import os
 import re
 import sys
 
+TOP = os.path.dirname(os.path.dirname(os.path.dirname(os.path.realpath(__file__))))
+sys.path.append(f"{TOP}/tools")
 import script_help
 
-TOP = os.path.dirname(os.path.dirname(os.path.realpath(__file__)))
 MOST_WORDS = 30
 CODE = "CODE"
 
@@ -152,7 +153,7 @@ def prose_of(name):
 
 
 def all_files():
-    patterns = ["*.md", "docs/*.md", "bench/*.md", "examples/**/*.md", "tools/*.py", "tests/by_hand/*.py", "bench/*.py", "bench/*_main.txt", "examples/**/*.py"]
+    patterns = ["*.md", "docs/*.md", "bench/*.md", "examples/**/*.md", "tools/**/*.py", "languages/*.py", "tests/by_hand/*.py", "bench/*.py", "bench/*_main.txt", "examples/**/*.py"]
     patterns += [f"crates/*/{it}" for it in ("src/**/*.rt", "specs/**/*.antt", "proofs/**/*.antt")]
     return sorted(os.path.relpath(it, TOP) for pattern in patterns for it in glob.glob(f"{TOP}/{pattern}", recursive=True))
 

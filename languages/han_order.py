@@ -1,4 +1,4 @@
-"""Where Han characters come in a Draft. Part of tools/languages.py.
+"""Where Han characters come in a Draft. Part of languages/languages.py.
 
 Rules list Han after all scripts (CLDR's `[last regular]`). Where the script order puts Han before other scripts, those that no rule lists need rows too. A few
 thousand Han get one weight each. There is no room for more, so the others get two: a lead that they share, and a second weight from 8000 up.

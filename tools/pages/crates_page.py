@@ -1,8 +1,8 @@
 #!/usr/bin/env python3
 """Writes crates/README.md: what each crate is, and how many crates use it.
 
-    tools/crates_page.py             in any folder of the repository
-    tools/crates_page.py --check     writes nothing
+    tools/pages/crates_page.py             in any folder of the repository
+    tools/pages/crates_page.py --check     writes nothing
 
 The crates and their order are those of crates.txt. A comment there that stands directly above crates is the heading of their group. What a crate
 is comes from the first sentence of its head, the lines `//!` of src/lib.rt or src/main.rt. A crate uses another one by its own line of crates.txt,
@@ -14,12 +14,13 @@ import os
 import re
 import sys
 
+TOP = os.path.dirname(os.path.dirname(os.path.dirname(os.path.realpath(__file__))))
+sys.path.append(f"{TOP}/tools")
 import script_help
 
-TOP = os.path.dirname(os.path.dirname(os.path.realpath(__file__)))
 PAGE, RECIPES = "crates/README.md", "docs/RECIPES.md"
 PROGRAM = "uca"
-HEAD = """<!-- Written by tools/crates_page.py from crates.txt and the heads of the crates. Do not edit. -->
+HEAD = """<!-- Written by tools/pages/crates_page.py from crates.txt and the heads of the crates. Do not edit. -->
 # The crates
 
 The lowest come first. A crate may use those that its line of `crates.txt` names, and knows them by their contracts
@@ -114,7 +115,7 @@ def main(arguments):
             file.write(made)
         return 0
     is_there = os.path.exists(f"{TOP}/{PAGE}")
-    found = [*([] if is_there and text_of(PAGE) == made else [f"{PAGE} is not what tools/crates_page.py writes"]), *other_numbers(counts)]
+    found = [*([] if is_there and text_of(PAGE) == made else [f"{PAGE} is not what tools/pages/crates_page.py writes"]), *other_numbers(counts)]
     print("\n".join(found), end="\n" if found else "")
     return 1 if found else 0
 

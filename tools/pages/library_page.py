@@ -1,7 +1,7 @@
 #!/usr/bin/env python3
 """Checks that docs/LIBRARY.md shows the code that is proved.
 
-    tools/library_page.py        in any folder of the repository
+    tools/pages/library_page.py        in any folder of the repository
 
 Each code block of the page must occur, line for line, in a file of crates/uca_sorted_list or crates/uca_examples. Blocks of `rust` are in src/, those of
 `antt` in specs/ or proofs/, and those of `text` in the file stdout, which has what the program must print. Blocks of `sh` are commands and are not
@@ -12,9 +12,10 @@ import os
 import re
 import sys
 
+TOP = os.path.dirname(os.path.dirname(os.path.dirname(os.path.realpath(__file__))))
+sys.path.append(f"{TOP}/tools")
 import script_help
 
-TOP = os.path.dirname(os.path.dirname(os.path.realpath(__file__)))
 CRATES = [f"{TOP}/crates/{it}" for it in ("uca_sorted_list", "uca_examples")]
 PAGE = f"{TOP}/docs/LIBRARY.md"
 PLACES = {"rust": ["src"], "antt": ["specs", "proofs"], "text": ["stdout"]}

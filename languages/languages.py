@@ -1,11 +1,11 @@
 #!/usr/bin/env python3
 """Makes the weight table of a language, or rules for it, from CLDR's own files.
 
-    tools/languages.py table ru table.txt data.txt > russian.txt
-    tools/languages.py rules sv table.txt > swedish.rules
-    tools/languages.py keep Cyrl table.txt data.txt russian.txt russian.certificate > russian.changes
+    languages/languages.py table ru table.txt data.txt > russian.txt
+    languages/languages.py rules sv table.txt > swedish.rules
+    languages/languages.py keep Cyrl table.txt data.txt russian.txt russian.certificate > russian.changes
 
-`table TAG TABLE DATA` prints a whole table, from Unicode's own and its data file, which tools/unicode_files.py makes. The tag names a locale, such as `sv`, and
+`table TAG TABLE DATA` prints a whole table, from Unicode's own and its data file, which languages/unicode_files.py makes. The tag names a locale, such as `sv`, and
 perhaps a collation and settings (UTS #35 Part 5, section 3.3): `de-u-co-phonebk`, `da-u-kf-lower`, `en-u-kr-grek-ka-shifted`. The table is printed once `uca`
 says that it is well-formed, and accepts the changes from Unicode's table to it. With --short the lists of Chinese are the short ones, which ICU has too.
 
@@ -40,7 +40,7 @@ import unicode_files
 from cldr_rules import CldrError, Relation, Reset, items_of
 from index_labels import index_labels
 from kept_changes import kept_changes
-from language_tables import table_of
+from language_tables import MAKER, table_of
 from language_tags import read_tag, rootless, script_codes
 from profile_rules import MOST_RELATIONS, Table, Translation, chains
 from weight_lists import read_rows
@@ -161,7 +161,7 @@ def translated(options, name, table, part=None):
 
 def head(name, translation):
     """The comment at the head of rules."""
-    yield f"# The order of {name}, made from CLDR's files by tools/languages.py."
+    yield f"# The order of {name}, made from CLDR's files by {MAKER}."
     if translation.weighting != "non-ignorable":
         yield f"# CLDR takes the weighting {translation.weighting} with it."
     if translation.is_upper_first:
@@ -181,7 +181,7 @@ def print_rules(options):
         check_table(options, options.table, data)
         translation = translated(options, tag.name, Table(options.table), options.part)
         if translation is None:
-            raise CldrError(f"{tag.text}: more than {MOST_RELATIONS} relations, which is more than uca takes at once: take a part by --part 1, or `tools/languages.py table`")
+            raise CldrError(f"{tag.text}: more than {MOST_RELATIONS} relations, which is more than uca takes at once: take a part by --part 1, or `languages/languages.py table`")
         rules = rules_of(tag.text, translation)
         error = planned(options, folder, rules, options.table, data).error
     if error:
@@ -239,7 +239,7 @@ def print_kept(options):
         names = [write(os.path.join(folder, name), text) for name, text in (("changes", changes), ("certificate", certificate))]
         out, said = run([program(options), "audit-changes", options.table, options.data, options.new, options.data, *names])
     if "SettingChanged" in out:
-        raise CldrError("the tables name two weightings: make the first one by `tools/unicode_files.py table --weighting non-ignorable`")
+        raise CldrError("the tables name two weightings: make the first one by `languages/unicode_files.py table --weighting non-ignorable`")
     if out != "accepted\n":
         raise CldrError(f"{options.script}: {out.strip() or said}")
     write(options.certificate, certificate)

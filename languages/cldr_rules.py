@@ -1,4 +1,4 @@
-"""CLDR's collation files: which rules a locale has, and what their text says (UTS #35 Part 5, section 3). Part of tools/languages.py."""
+"""CLDR's collation files: which rules a locale has, and what their text says (UTS #35 Part 5, section 3). Part of languages/languages.py."""
 import os
 import re
 import unicodedata

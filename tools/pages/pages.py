@@ -1,10 +1,10 @@
 #!/usr/bin/env python3
 """Runs the commands that the pages show, and compares what they print with what the page shows.
 
-    tools/pages.py [PAGE..]       at the top of the repository; all pages that show commands, unless some are named
+    tools/pages/pages.py [PAGE..]       at the top of the repository; all pages that show commands, unless some are named
 
 A command is a line of a block ```console that begins with `$ `; what follows it up to the next one is its output. The blocks
-of a page run in turn in one shell. They run in a fresh folder that has a copy of examples/, and links to tools/ and crates/; a page
+of a page run in turn in one shell. They run in a fresh folder that has a copy of examples/, and links to languages/ and crates/; a page
 of examples/ runs in that copy. The program is crates/uca/out/uca, which tools/build.py builds. `uca-files` keeps its files in a folder of this run.
 
 A block ```console unicode needs files of Debian's packages unicode-data and unicode-cldr-core. Without them
@@ -19,9 +19,10 @@ import subprocess
 import sys
 import tempfile
 
+TOP = os.path.dirname(os.path.dirname(os.path.dirname(os.path.realpath(__file__))))
+sys.path.append(f"{TOP}/tools")
 import script_help
 
-TOP = os.path.dirname(os.path.dirname(os.path.realpath(__file__)))
 PAGES = ["README.md", "examples/README.md", "examples/books/README.md", *(f"docs/{it}" for it in sorted(os.listdir(f"{TOP}/docs")) if it.endswith(".md"))]
 END = "== end of output"
 ALLKEYS, CLDR = "/usr/share/unicode/allkeys.txt", "/usr/share/unicode/cldr/common/collation"
@@ -60,7 +61,7 @@ def runnable(page):
 
 def commands_folder(folder):
     """Puts `uca-files` into a folder, and returns an environment that has it and the program on the path."""
-    os.symlink(f"{TOP}/tools/uca_files.py", f"{folder}/uca-files")
+    os.symlink(f"{TOP}/languages/uca_files.py", f"{folder}/uca-files")
     kept = {"XDG_DATA_HOME": f"{folder}/data", "XDG_DATA_DIRS": f"{folder}/data"}
     return {**os.environ, **kept, "PATH": f"{TOP}/crates/uca/out:{folder}:{os.environ['PATH']}"}
 
@@ -74,7 +75,7 @@ def tried(page, is_named, environment):
         print(f"{page}: it shows no command")
     with tempfile.TemporaryDirectory(prefix="uca-page-") as room:
         shutil.copytree(f"{TOP}/examples", f"{room}/examples")
-        for name in ("tools", "crates"):
+        for name in ("languages", "crates"):
             os.symlink(f"{TOP}/{name}", f"{room}/{name}")
         given = outputs_of(commands, f"{room}/examples" if page.startswith("examples/") else room, environment)
     for (command, wanted), got in zip(commands, given + [None] * len(commands)):

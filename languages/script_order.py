@@ -1,4 +1,4 @@
-"""The order of scripts, CLDR's root, and upper or lower case first, over a Draft. Part of tools/languages.py.
+"""The order of scripts, CLDR's root, and upper or lower case first, over a Draft. Part of languages/languages.py.
 
 In Unicode's table the primary weights of each script stand together. Before the letters come groups of signs. CLDR's root is that table with some changes
 (UTS #35 Part 5, section 2). Numbers that are no digits stand after the currency signs. ₨ and ﷼ are currency signs, and U+10A7F is punctuation. Only spaces and

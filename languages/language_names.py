@@ -1,4 +1,4 @@
-"""All languages and variants that CLDR has an order for, by plain names. Part of tools/uca_files.py."""
+"""All languages and variants that CLDR has an order for, by plain names. Part of languages/uca_files.py."""
 import os
 from collections.abc import Iterator
 

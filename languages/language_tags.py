@@ -1,4 +1,4 @@
-"""Language tags: which locale, collation and settings a tag such as `de-u-co-phonebk-kf-upper` names (UTS #35 Part 1, section 3). Part of tools/languages.py."""
+"""Language tags: which locale, collation and settings a tag such as `de-u-co-phonebk-kf-upper` names (UTS #35 Part 1, section 3). Part of languages/languages.py."""
 import functools
 import os
 import re
@@ -136,7 +136,7 @@ def read_tag(folder, text, allowed=tuple(NAMES)):
     parts, found = parts_of(text)
     for key, value in found.items():
         if key not in allowed:
-            more = "" if key not in NAMES else " by rules: `tools/languages.py table` has it"
+            more = "" if key not in NAMES else " by rules: `languages/languages.py table` has it"
             raise CldrError(f"{text}: `{key}` cannot be had{more}. These can: {', '.join(f'{it} ({NAMES[it]})' for it in allowed)}")
         if not value or VALUES.get(key) and value not in VALUES[key]:
             raise CldrError(f"{text}: `{value or key}` is no value of {key}" + (f": {', '.join(VALUES[key])}" if VALUES.get(key) else ""))

@@ -4,8 +4,9 @@ import re
 import subprocess
 import sys
 
-TOP = os.path.dirname(os.path.dirname(os.path.realpath(__file__)))
-PROGRAM, FILES = f"{TOP}/crates/uca/out/uca", f"{TOP}/tools/uca_files.py"
+TOP = os.path.dirname(os.path.dirname(os.path.dirname(os.path.realpath(__file__))))
+sys.path.append(f"{TOP}/tools")
+PROGRAM, FILES = f"{TOP}/crates/uca/out/uca", f"{TOP}/languages/uca_files.py"
 HEADINGS = ["Usage", "Arguments", "Commands", "Options"]
 
 
@@ -81,7 +82,7 @@ def stored_text(command):
 
 
 def stored_version():
-    """The line that `uca --version` prints, as docs/FORMATS.md shows it; tools/packaging.py compares it with what the program prints."""
+    """The line that `uca --version` prints, as docs/FORMATS.md shows it; tools/pages/packaging.py compares it with what the program prints."""
     with open(f"{TOP}/docs/FORMATS.md", encoding="utf-8") as file:
         return re.search(r"^\$ uca --version\n(.*)$", file.read(), re.M)[1]
 
