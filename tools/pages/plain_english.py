@@ -153,7 +153,7 @@ def prose_of(name):
 
 
 def all_files():
-    patterns = ["*.md", "docs/*.md", "bench/*.md", "examples/**/*.md", "tools/**/*.py", "languages/*.py", "tests/by_hand/*.py", "bench/*.py", "bench/*_main.txt", "examples/**/*.py"]
+    patterns = ["*.md", "docs/*.md", "bench/*.md", "examples/**/*.md", "tools/**/*.py", "languages/*.py", "tests/by_hand/*.py", "bench/*.py", "bench/*.rt.txt", "examples/**/*.py"]
     patterns += [f"crates/*/{it}" for it in ("src/**/*.rt", "specs/**/*.antt", "proofs/**/*.antt")]
     return sorted(os.path.relpath(it, TOP) for pattern in patterns for it in glob.glob(f"{TOP}/{pattern}", recursive=True))
 
