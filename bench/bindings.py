@@ -118,7 +118,7 @@ def given_files(work):
     """Unicode's table and data file, and words of nine languages."""
     for kind in ("table", "data"):
         with open(f"{work}/{kind}.txt", "w", encoding="utf-8") as it:
-            it.write(run([sys.executable, f"{TOP}/tools/unicode_files.py", kind]))
+            it.write(run([sys.executable, f"{TOP}/languages/unicode_files.py", kind]))
     with open(f"{work}/words", "w", encoding="utf-8") as it:
         it.writelines(word + "\n" for word in bindings.words(100_000))
     return f"{work}/table.txt", f"{work}/data.txt", [f"{work}/words"]

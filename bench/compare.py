@@ -4,7 +4,7 @@
     tools/build.py                 # proves and builds crates/uca/out/uca, whose keys give the pairs
     bench/compare.py               # from the top of the repository; needs valgrind
 
-The script makes a copy of the repository in a temporary folder, and puts the program of `compare_main.txt` there as
+The script makes a copy of the repository in a temporary folder, and puts the program of `compare.rt.txt` there as
 a crate of its own. It has `rt run` prove and build it, and runs it under `valgrind --tool=callgrind`, which counts the
 same instructions each time. The copy takes over the libraries that are proved and built in the repository, and proves
 the others; the program itself takes a minute or two. With `--program FILE` a program that was built before is run,
@@ -64,17 +64,17 @@ def copied(folder):
             shutil.copytree(library, os.path.join(target, "out", "rlib"), copy_function=shutil.copy2)
 
 
-def built(folder):
-    """The program that a copy of the repository builds."""
+def built(folder, crate, uses, text):
+    """The program that a copy of the repository builds, of a file of this folder and the libraries that it uses."""
     copied(folder)
-    source = os.path.join(folder, "crates", CRATE, "src")
+    source = os.path.join(folder, "crates", crate, "src")
     os.makedirs(source)
-    shutil.copy(os.path.join(TOP, "bench", "compare_main.txt"), os.path.join(source, "main.rt"))
+    shutil.copy(os.path.join(TOP, "bench", text), os.path.join(source, "main.rt"))
     with open(os.path.join(folder, "crates.txt"), "a", encoding="utf-8") as crates:
-        crates.write("%s: %s\n" % (CRATE, USES))
+        crates.write("%s: %s\n" % (crate, uses))
     # It is run without arguments, which it rejects.
     ran = subprocess.run(["rt", "run"], cwd=os.path.dirname(source), stdout=subprocess.PIPE, stderr=subprocess.STDOUT, errors="replace")
-    program = os.path.join(os.path.dirname(source), "out", CRATE)
+    program = os.path.join(os.path.dirname(source), "out", crate)
     if not os.path.exists(program):
         sys.exit("%s\nthe program was not built" % ran.stdout)
     return program
@@ -222,7 +222,7 @@ def counted(options, program, weighting, sets, folder):
 
 
 def measure(options, folder):
-    program = options.program or built(os.path.join(folder, "copy"))
+    program = options.program or built(os.path.join(folder, "copy"), CRATE, USES, "compare.rt.txt")
     if options.keep:
         shutil.copy(program, options.keep)
     workloads = lines_of(options)

@@ -116,10 +116,10 @@ def stored(measured, folder):
     if lacking := packages.missing(packages.LISTS):
         print(f"stored keys are left out, for lack of Debian's {', '.join(lacking)}")
         return
-    import bindings
+    import bindings_shared
 
     listed = editions.Listed(folder.file("changes.txt"))
-    words = [word for word in bindings.words(WORDS) if not listed.affects(unicodedata.normalize("NFD", word))]
+    words = [word for word in bindings_shared.words(WORDS) if not listed.affects(unicodedata.normalize("NFD", word))]
     with open(folder.file("words"), "w", encoding="utf-8") as file:
         file.writelines(word + "\n" for word in words)
     editions.make_books(folder, words)

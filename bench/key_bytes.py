@@ -35,7 +35,7 @@ TOP = os.path.dirname(os.path.dirname(os.path.realpath(__file__)))
 sys.path[:0] = [f"{TOP}/tests/by_hand", f"{TOP}/bench"]
 sys.dont_write_bytecode = True
 
-import bindings  # noqa: E402
+import bindings_shared  # noqa: E402
 import figures  # noqa: E402
 
 PROGRAM, BOOKS = f"{TOP}/crates/uca/out/uca", f"{TOP}/examples/books"
@@ -70,11 +70,11 @@ def given_files(work):
     """Unicode's table and data file, and the lines of each kind."""
     for kind in ("table", "data"):
         with open(f"{work}/{kind}.txt", "wb") as it:
-            it.write(run([sys.executable, f"{TOP}/tools/unicode_files.py", kind]))
+            it.write(run([sys.executable, f"{TOP}/languages/unicode_files.py", kind]))
     kinds = {
-        "latin": bindings.words(100_000),
-        "ascii": bindings.list_of_words("/usr/share/dict/american-english-large"),
-        "german": bindings.list_of_words("/usr/share/dict/ngerman"),
+        "latin": bindings_shared.words(100_000),
+        "ascii": bindings_shared.list_of_words("/usr/share/dict/american-english-large"),
+        "german": bindings_shared.list_of_words("/usr/share/dict/ngerman"),
         "mixed": translated(),
         "marks": figures.lines_text("marks", 2_000).splitlines(),
     }

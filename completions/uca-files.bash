@@ -1,5 +1,5 @@
 # Completion of the command uca-files for bash: options, folders, and the tags of all languages with their names.
-# Written by tools/completions.py from the help of the script. Do not edit.
+# Written by tools/pages/completions.py from the help of the script. Do not edit.
 
 _uca_files_command() {
     local current=${COMP_WORDS[COMP_CWORD]}

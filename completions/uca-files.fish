@@ -1,5 +1,5 @@
 # Completion of the command uca-files for fish: options, folders, and the tags of all languages with their names.
-# Written by tools/completions.py from the help of the script. Do not edit.
+# Written by tools/pages/completions.py from the help of the script. Do not edit.
 
 complete -c uca-files -f
 complete -c uca-files -a '(uca-files --names 2> /dev/null | string replace -r "(.*): (.*)" "\$2\t\$1")'

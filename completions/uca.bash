@@ -1,5 +1,5 @@
 # Completion of the command uca for bash: commands, options, the two weightings, and files.
-# Written by tools/completions.py from the help of the program. Do not edit.
+# Written by tools/pages/completions.py from the help of the program. Do not edit.
 
 _uca_files() {
     mapfile -t COMPREPLY < <(compgen -f -- "$1")

@@ -1,5 +1,5 @@
 # Completion of the command uca for fish: commands, options, the two weightings, and files.
-# Written by tools/completions.py from the help of the program. Do not edit.
+# Written by tools/pages/completions.py from the help of the program. Do not edit.
 
 # The command and its arguments, without options. The file of a redirection counts too, since fish does not tell it apart.
 function __uca_arguments

@@ -1,6 +1,6 @@
 """Makes the rules and the tables of CLDR's languages for the page, and the list of them (made/languages.json).
 
-Each language has its rules where tools/languages.py can make them, and else its table. A table takes seconds and megabytes, so only these and a few
+Each language has its rules where languages/languages.py can make them, and else its table. A table takes seconds and megabytes, so only these and a few
 others are made, unless `tables` is asked for. A table with upper case first is made for the languages of UPPER. docs/LANGUAGES.md says what these tables
 and rules have of CLDR's order, and what they lack.
 """
@@ -14,13 +14,13 @@ TOP = os.path.dirname(os.path.dirname(os.path.realpath(__file__)))
 import languages
 from language_names import collation_names
 
-TOOL = f"{TOP}/tools/languages.py"
+TOOL = f"{TOP}/languages/languages.py"
 TABLES = ["und", "sv", "de"]
 UPPER = ["und", "sv", "el", "ru"]
 
 
 def made_by(words, path):
-    """Writes what tools/languages.py prints for these arguments, and returns whether it printed something."""
+    """Writes what languages/languages.py prints for these arguments, and returns whether it printed something."""
     done = subprocess.run([sys.executable, TOOL, *words], stdout=subprocess.PIPE, stderr=subprocess.PIPE, check=False)
     if done.returncode:
         return False
@@ -58,7 +58,7 @@ def make(made, tags, jobs, tables=False):
     os.makedirs(f"{made}/languages", exist_ok=True)
     names, path = {tag: name for name, tag in collation_names(languages.CLDR)}, f"{made}/languages.json"
     if unknown := {*tags} - {*names}:
-        sys.exit(f"CLDR has no collation {', '.join(sorted(unknown))}: tools/uca_files.py --names lists them")
+        sys.exit(f"CLDR has no collation {', '.join(sorted(unknown))}: languages/uca_files.py --names lists them")
     with ThreadPoolExecutor(jobs) as pool:
         entries = [*pool.map(lambda tag: make_one(made, tag, names[tag], tables), tags or names)]
     if tags and os.path.exists(path):

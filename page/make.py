@@ -23,7 +23,7 @@ import tempfile
 sys.dont_write_bytecode = True
 HERE = os.path.dirname(os.path.realpath(__file__))
 TOP, MADE = os.path.dirname(HERE), f"{HERE}/made"
-sys.path[:0] = [f"{TOP}/tools", HERE]
+sys.path[:0] = [f"{TOP}/tools", f"{TOP}/languages", HERE]
 import build
 import kit
 import languages_list
@@ -185,7 +185,7 @@ def without_comments(table):
 def make_files():
     """Makes Unicode's table, without its comments, and its data file."""
     for name in ("table", "data"):
-        text = run(sys.executable, f"{TOP}/tools/unicode_files.py", name, capture_output=True, text=True).stdout
+        text = run(sys.executable, f"{TOP}/languages/unicode_files.py", name, capture_output=True, text=True).stdout
         with open(f"{MADE}/{name}.txt", "w", encoding="utf-8") as it:
             it.write(without_comments(text) if name == "table" else text)
         print(f"{name}.txt: {os.path.getsize(f'{MADE}/{name}.txt')} bytes")

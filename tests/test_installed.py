@@ -62,8 +62,8 @@ class Installed(unittest.TestCase):
                 done = subprocess.run([path, "--help"], cwd="/", capture_output=True, text=True, check=False)
                 self.assertEqual((done.returncode, done.stderr), (0, ""))
                 self.assertNotEqual(done.stdout, "")
-        modules = sorted(it.removesuffix(".py") for it in os.listdir(f"{self.own}/tools"))
-        subprocess.run([sys.executable, "-B", "-c", f"import {', '.join(modules)}"], cwd=f"{self.own}/tools", check=True)
+        modules = sorted(it.removesuffix(".py") for it in os.listdir(f"{self.own}/languages"))
+        subprocess.run([sys.executable, "-B", "-c", f"import {', '.join(modules)}"], cwd=f"{self.own}/languages", check=True)
         self.assertFalse([it for it, _, _ in os.walk(self.prefix) if it.endswith("__pycache__")])
 
     def test_own_folder(self):
@@ -71,7 +71,7 @@ class Installed(unittest.TestCase):
         modules = [os.path.basename(it) for it in self.files if it.endswith(".py")]
         self.assertEqual(sorted(modules), sorted({*modules}))
         self.assertTrue(os.path.realpath(f"{self.prefix}/bin/uca-files").startswith(f"{self.own}/"))
-        self.assertEqual(os.path.realpath(f"{self.top}/tools"), f"{self.own}/tools")
+        self.assertEqual(os.path.realpath(f"{self.top}/languages"), f"{self.own}/languages")
         self.assertEqual(os.path.realpath(f"{self.top}/examples/books/general.book"), f"{self.own}/examples/books/general.book")
 
     def test_pages(self):

@@ -1,4 +1,4 @@
-"""`tools/uca_files.py --book`: a book for the table of a language. It reads small folders in the place of Unicode's and CLDR's (small_cldr.py)."""
+"""`languages/uca_files.py --book`: a book for the table of a language. It reads small folders in the place of Unicode's and CLDR's (small_cldr.py)."""
 import os
 import re
 import subprocess
@@ -27,7 +27,7 @@ class TableBooks(ProgramTest):
         """Runs the script over the folders of this test."""
         small_cldr.write(f"{self.folder}/unicode", self.unicode)
         small_cldr.write(f"{self.folder}/cldr", self.cldr)
-        words = [f"{TOP}/tools/uca_files.py", "--uca", UCA, "--unicode", "unicode", "--cldr", "cldr", "--into", into, "--book", tag]
+        words = [f"{TOP}/languages/uca_files.py", "--uca", UCA, "--unicode", "unicode", "--cldr", "cldr", "--into", into, "--book", tag]
         ran = subprocess.run([sys.executable, *words], cwd=self.folder, capture_output=True, timeout=LIMIT, check=False)
         self.assertNotIn(b"Traceback", ran.stderr)
         return Ended(ran.returncode, ran.stdout, ran.stderr)

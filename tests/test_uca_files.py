@@ -1,4 +1,4 @@
-"""`tools/uca_files.py`: the files of a language are made once and kept. It reads small folders in the place of Unicode's and CLDR's (small_cldr.py)."""
+"""`languages/uca_files.py`: the files of a language are made once and kept. It reads small folders in the place of Unicode's and CLDR's (small_cldr.py)."""
 import hashlib
 import os
 import resource
@@ -13,7 +13,7 @@ from program import LIMIT, TOP, UCA, Ended, ProgramTest
 
 # Runs the script with two folders, the first arguments, in the place of those of the packages.
 SCRIPT = f"""import sys
-sys.path.insert(0, {TOP + '/tools'!r})
+sys.path.insert(0, {TOP + '/languages'!r})
 import languages, unicode_files
 unicode_files.FOLDER, languages.CLDR = sys.argv[1:3]
 del sys.argv[1:3]

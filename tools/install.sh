@@ -60,7 +60,7 @@ uninstall() {
     done < "$to/$list"
     rm "$to/$list"
     # an administrator's tables are in $own too
-    for folder in "$documents" "$own/tools" "$own/examples"; do
+    for folder in "$documents" "$own/languages" "$own/examples"; do
         [ ! -d "$to/$folder" ] || find "$to/$folder" -depth -type d -empty -delete
     done
     [ ! -d "$to/$own" ] || rmdir --ignore-fail-on-non-empty "$to/$own"
@@ -141,13 +141,13 @@ for page in "$top"/docs/* "$top"/examples/* "$top"/examples/*/*; do
         *) put_documents "${page#"$top"/}" ;;
     esac
 done
-put_own tools/uca_files.py tools/unicode_files.py tools/languages.py
-put_own tools/cldr_rules.py tools/profile_rules.py tools/language_tags.py tools/language_tables.py tools/language_names.py
-put_own tools/weight_lists.py tools/script_order.py tools/han_order.py tools/kept_changes.py tools/index_labels.py tools/index_buckets.py
-put_own tools/table_books.py examples/books/choose_book.py examples/books/general.book
-put_link "../$own/tools/uca_files.py" bin/uca-files
-# the pages name these by tools/ and examples/
-put_link ../../uca/tools "$documents/tools"
+for module in "$top"/languages/*.py; do
+    put_own "${module#"$top"/}"
+done
+put_own examples/books/choose_book.py examples/books/general.book
+put_link "../$own/languages/uca_files.py" bin/uca-files
+# the pages name these by languages/ and examples/
+put_link ../../uca/languages "$documents/languages"
 for name in choose_book.py general.book; do
     put_link "../../../../uca/examples/books/$name" "$documents/examples/books/$name"
 done

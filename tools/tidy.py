@@ -5,10 +5,10 @@
 
 - layout: `rattle fmt --check` over all files of all crates;
 - columns: no line of a page has more than 120 columns, but for tables and blocks of code, and none has `@@`, which stands for a figure to come;
-- edits: each `old:` text of an edit is in its file exactly once, in crates/*/must-fail and in edits/;
-- english: tools/plain_english.py;
+- edits: each `old:` text of an edit is in its file exactly once, in crates/*/must-fail and in the lists of edits/;
+- english: tools/pages/plain_english.py;
 - definitions: tools/definitions.py;
-- library: tools/library_page.py;
+- library: tools/pages/library_page.py;
 - man, completions, crates, charts: the page of the manual, the completions, the list of crates and the charts are as their scripts would write them.
 
 The checks run side by side. Each has a line, and what it finds comes after that line. A check whose script is not there is left out. The last line is
@@ -18,11 +18,13 @@ import glob
 import os
 import subprocess
 import sys
+import tempfile
 import time
 from concurrent.futures import ThreadPoolExecutor
 
 import kit
 import script_help
+import try_edits
 
 # The most columns of a line of a page.
 COLUMNS = 120
@@ -58,10 +60,17 @@ def edits():
     rt = kit.opened("edits", instead="no edit is looked at")
     if not rt:
         return "not run", ["the edits were not read"]
-    parts = ("crates/*/must-fail/*.edit", "edits/*/*.edit", "edits/*/by_tests/*.edit")
-    files = sorted(it for part in parts for it in glob.glob(part, root_dir=kit.TOP))
-    causes = [(it, rt.edited(f"{kit.TOP}/{it}", kit.folder_of(it.split("/")[1]))[1]) for it in files]
-    return f"{len(files)} edits", [f"{name}: {why}" for name, why in causes if why]
+    files = sorted(glob.glob("crates/*/must-fail/*.edit", root_dir=kit.TOP))
+    paths = [(it, it.split("/")[1], f"{kit.TOP}/{it}") for it in files]
+    with tempfile.TemporaryDirectory(prefix="uca-edits-") as folder:
+        try:
+            for crate in try_edits.crates_with_list():
+                names = [*try_edits.bugs_of(crate)]
+                paths += [(f"edits/{crate}.edits, {name}", crate, path) for name, path in zip(names, try_edits.written(crate, names, folder))]
+        except ValueError as error:
+            return "not run", [str(error)]
+        causes = [(name, rt.edited(path, kit.folder_of(crate))[1]) for name, crate, path in paths]
+    return f"{len(causes)} edits", [f"{name}: {why}" for name, why in causes if why]
 
 
 def by_script(path, *words):
@@ -79,11 +88,11 @@ CHECKS = {
     "layout": layout,
     "columns": columns,
     "edits": edits,
-    "english": by_script("tools/plain_english.py"),
-    "library": by_script("tools/library_page.py"),
-    "man": by_script("tools/man_page.py", "--check"),
-    "completions": by_script("tools/completions.py", "--check"),
-    "crates": by_script("tools/crates_page.py", "--check"),
+    "english": by_script("tools/pages/plain_english.py"),
+    "library": by_script("tools/pages/library_page.py"),
+    "man": by_script("tools/pages/man_page.py", "--check"),
+    "completions": by_script("tools/pages/completions.py", "--check"),
+    "crates": by_script("tools/pages/crates_page.py", "--check"),
     "definitions": by_script("tools/definitions.py"),
     "charts": by_script("bench/charts.py", "--check"),
 }

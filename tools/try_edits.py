@@ -1,13 +1,22 @@
 #!/usr/bin/env python3
-"""Tries by hand the wrong bodies that are not part of the gate: edits/CRATE/*.edit.
+"""Tries by hand the wrong bodies that are not part of the gate: those of the lists edits/CRATE.edits.
 
-    tools/try_edits.py [--each] [CRATE | FILE.edit ..]          all crates that have some, unless crates or single edits are named
+    tools/try_edits.py [--each] [CRATE [NAME ..] | FILE.edit ..]
 
-They have the format of the must-fail edits of `rt ci`, which tries only those under crates/*/must-fail/. For each it says
-that the prover rejects it, as it must, that it no longer applies, or NOT REJECTED: it was proved. Then the status is 1.
+Without arguments it takes all crates that have a list. After a crate come names of bugs of its list, or else it takes the whole list. FILE is one of the
+must-fail edits of `rt ci`, which tries only those under crates/*/must-fail/. For each bug it says that the prover rejects it, as it must, that it no longer
+applies, or NOT REJECTED: it was proved. Then the status is 1.
 
-The folders edits/CRATE/by_tests have bugs that a test rejects, and maybe no contract: out of memory where memory is there. The first line of each
-names the test that rejects it. This script tries those only if they are named, and the prover may accept them.
+A list has a block for each bug, and an empty line between two. A block has the lines of a must-fail edit, and its name before them:
+
+    bug: NAME
+    rejected by: the test that does
+    file: src/FILE.rt
+    old: a text that is in the file once
+    new: the text with the bug
+
+Only bugs that a test rejects, and maybe no contract, have the second line: out of memory where memory is there. This script tries those only if they are
+named, and the prover may accept them.
 
 The crates and the libraries below them are proved first, if they have changed. Then edits of other functions of a crate are tried together, by one check of
 these functions alone: each must not be proved, for a reason of its own. So one check tries four edits or more. An edit that this does not settle is tried by
@@ -16,8 +25,10 @@ a check of its function alone. If that is proved, or if the edit changes no func
 import os
 import re
 import sys
+import tempfile
 
 from concurrent.futures import ThreadPoolExecutor
+from typing import NamedTuple
 
 import build
 import check
@@ -26,25 +37,69 @@ import script_help
 
 EDITS = f"{kit.TOP}/edits"
 
-
-def edits_of(crate):
-    folder = f"{EDITS}/{crate}"
-    if not os.path.isdir(folder):
-        sys.exit(f"there is no folder edits/{crate}")
-    return sorted(f"{folder}/{it}" for it in os.listdir(folder) if it.endswith(".edit"))
+# A block of a list.
+BLOCK = re.compile(r"bug: (?P<name>\w+)\n(?:rejected by: (?P<test>.+)\n)?(?P<edit>(?:file: .+\n(?:old: .+\nnew:.*\n)+)+)")
 
 
-def named(names):
-    """The edits that the arguments name, by their crates."""
-    found = {}
-    for name in names or sorted(os.listdir(EDITS)):
-        if name.endswith(".edit"):
-            path = os.path.realpath(name)
-            folder = os.path.dirname(path)
-            crate = os.path.basename(os.path.dirname(folder) if os.path.basename(folder) in ("must-fail", "by_tests") else folder)
-            found.setdefault(crate, []).append(path)
-        elif edits := edits_of(name):
-            found.setdefault(name, []).extend(edits)
+class Bug(NamedTuple):
+    """A block of a list: the test that rejects the bug, or none, and its edit as `rt` reads it."""
+
+    test: str
+    edit: str
+
+
+def list_of(crate):
+    return f"{EDITS}/{crate}.edits"
+
+
+def crates_with_list():
+    return sorted(it.removesuffix(".edits") for it in os.listdir(EDITS) if it.endswith(".edits"))
+
+
+def bugs_of(crate):
+    """The bugs of a crate's list, by their names. A ValueError says what is no list."""
+    if not os.path.isfile(list_of(crate)):
+        raise ValueError(f"there is no file edits/{crate}.edits")
+    with open(list_of(crate), encoding="utf-8") as file:
+        text = file.read()
+    bugs = {}
+    for block in text.removesuffix("\n").split("\n\n"):
+        if not (it := BLOCK.fullmatch(block + "\n")):
+            raise ValueError(f"edits/{crate}.edits has no such blocks: {block[:80]!r}")
+        if it["name"] in bugs:
+            raise ValueError(f"edits/{crate}.edits has two bugs {it['name']}")
+        bugs[it["name"]] = Bug(it["test"] or "", it["edit"])
+    return bugs
+
+
+def written(crate, names, folder):
+    """Writes bugs of a crate's list into a folder, each as a file of its own, and returns their paths. Without names it takes those that a proof rejects."""
+    bugs = bugs_of(crate)
+    if unknown := {*names} - {*bugs}:
+        raise ValueError(f"edits/{crate}.edits has no bug {', '.join(sorted(unknown))}")
+    os.makedirs(f"{folder}/{crate}", exist_ok=True)
+    paths = {name: f"{folder}/{crate}/{name}.edit" for name, bug in bugs.items() if name in names or not names and not bug.test}
+    for name, path in paths.items():
+        with open(path, "w", encoding="utf-8") as file:
+            file.write(bugs[name].edit)
+    return [*paths.values()]
+
+
+def named(words, folder):
+    """The edits that the arguments name, by their crates. Those of lists are written into the folder."""
+    found, chosen = {}, {}
+    for word in words or crates_with_list():
+        if word.endswith(".edit"):
+            path = os.path.realpath(word)
+            if os.path.dirname(path) not in (folders := {f"{kit.folder_of(it)}/must-fail": it for it in kit.uses()}):
+                raise ValueError(f"{word} is in no folder crates/CRATE/must-fail")
+            found.setdefault(folders[os.path.dirname(path)], []).append(path)
+        elif os.path.isfile(list_of(word)) or not chosen:
+            names = chosen.setdefault(word, [])
+        else:
+            names.append(word)
+    for crate, names in chosen.items():
+        found.setdefault(crate, []).extend(written(crate, names, folder))
     return found
 
 
@@ -130,9 +185,8 @@ def try_together(rt, pool, edits):
     return passed, left
 
 
-def main(names):
-    is_each = "--each" in names
-    edits = named([it for it in names if it != "--each"])
+def try_all(edits, is_each):
+    """Tries edits, by their crates, and returns the status."""
     rt = check.opened("edits", "tries", instead="no edit can be tried; `rt must-fail` tries those of the gate")
     if not rt:
         return 1
@@ -150,6 +204,15 @@ def main(names):
             failed += not is_rejected
     print(f"{passed + len(tries) - failed} passed, {failed} failed")
     return int(failed > 0)
+
+
+def main(words):
+    with tempfile.TemporaryDirectory(prefix="uca-edits-") as folder:
+        try:
+            edits = named([it for it in words if it != "--each"], folder)
+        except ValueError as error:
+            sys.exit(str(error))
+        return try_all(edits, "--each" in words)
 
 
 if __name__ == "__main__":

@@ -88,7 +88,7 @@ class Bench:
         """Unicode's table with the rows that it lacks, and a data file (docs/UNICODE.md)."""
         if not os.path.exists(ALLKEYS):
             raise Failed(f"there is no {ALLKEYS}: Debian has it in the package unicode-data; or give --table and --data")
-        table, data, maker = self.path("table.txt"), self.path("data.txt"), f"{TOP}/tools/unicode_files.py"
+        table, data, maker = self.path("table.txt"), self.path("data.txt"), f"{TOP}/languages/unicode_files.py"
         self.run([sys.executable, maker, "table"], out=table)
         self.run([sys.executable, maker, "data"], out=data)
         return table, data
@@ -423,7 +423,7 @@ class Upgrade:
         self.bench = bench
         self.old, self.old_data, self.changes, self.certificate, self.book, self.new_book = (
             bench.path(f"upgrade.{it}") for it in ("table", "data", "changes", "certificate", "old.book", "new.book"))
-        bench.run([sys.executable, f"{TOP}/tools/unicode_files.py", "table", packages.OLD_KEYS], out=self.old)
+        bench.run([sys.executable, f"{TOP}/languages/unicode_files.py", "table", packages.OLD_KEYS], out=self.old)
         with open(self.old_data, "w", encoding="utf-8") as file:
             file.write(editions.old_data(bench.content(bench.data).decode()))
         self.files = [self.old, self.old_data, bench.table, bench.data]
@@ -618,7 +618,7 @@ def try_from_keys(bench):
 
 def try_page(bench):
     """The commands of docs/STORED_KEYS.md, with a PostgreSQL server for those that want one."""
-    sys.path.insert(0, f"{TOP}/tools")
+    sys.path.insert(0, f"{TOP}/tools/pages")
     import pages
 
     folder = bench.path("page")

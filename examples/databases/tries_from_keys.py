@@ -10,12 +10,12 @@ import unicodedata
 
 HERE = os.path.dirname(os.path.realpath(__file__))
 TOP = os.path.dirname(os.path.dirname(HERE))
-sys.path[:0] = [f"{TOP}/tools", f"{TOP}/tests/by_hand"]
+sys.path[:0] = [f"{TOP}/languages", f"{TOP}/tests/by_hand"]
 
 import language_lines  # noqa: E402
 
 CLDR, FRENCH = "/usr/share/unicode/cldr/common", "/usr/share/dict/french"
-SCRIPT, LANGUAGES = f"{HERE}/from_keys.py", f"{TOP}/tools/languages.py"
+SCRIPT, LANGUAGES = f"{HERE}/from_keys.py", f"{TOP}/languages/languages.py"
 ACCENTED = "aàâeéèêëoôuùûcçn"
 NEEDLES = ("e", "et", "ca", "ie", "ét", "oeu", "ann", "ÉCO", "ss", "f")
 # The tag of each index that is tried, and ICU's name of the locale.

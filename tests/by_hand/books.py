@@ -1,5 +1,5 @@
 #!/usr/bin/env python3
-"""Tries examples/books/choose_book.py, the book of that folder, and the books that tools/table_books.py makes for the tables of languages.
+"""Tries examples/books/choose_book.py, the book of that folder, and the books that languages/table_books.py makes for the tables of languages.
 
     tests/by_hand/books.py               from the top of the repository (four minutes, on four processors)
     tests/by_hand/books.py Grek Thai     these scripts alone
@@ -37,7 +37,7 @@ SCRIPT, TABLE, DATA = f"{BOOKS}/choose_book.py", f"{TOP}/examples/table.txt", f"
 COUNTS = {"passed": 0, "failed": 0, "not run": 0}
 
 sys.dont_write_bytecode = True
-sys.path[:0] = [BOOKS, f"{TOP}/tools"]
+sys.path[:0] = [BOOKS, f"{TOP}/languages"]
 
 import choose_book  # noqa: E402
 import packages  # noqa: E402
@@ -250,7 +250,7 @@ def try_general(program, folder):
     lines = run(f"{BOOKS}/general_lines.py")
     halves = [run(f"{BOOKS}/general_lines.py", it).splitlines() for it in ("--odd", "--even")]
     see("the odd and the even lines are all lines", [lines.splitlines()[at::2] for at in (0, 1)] == halves)
-    table, data = (run(f"{TOP}/tools/unicode_files.py", it) for it in ("table", "data"))
+    table, data = (run(f"{TOP}/languages/unicode_files.py", it) for it in ("table", "data"))
     if [hashlib.sha256(it).hexdigest() for it in (lines, table)] != [GENERAL_LINES, GENERAL_TABLE]:
         not_run("general.book is not made again: the packages are of other editions")
         return
@@ -368,7 +368,7 @@ def set_up(program, folder):
     table, data = f"{folder}/unicode_table", f"{folder}/unicode_data"
     for path, what in ((table, "table"), (data, "data")):
         with open(path, "wb") as file:
-            subprocess.run([sys.executable, f"{TOP}/tools/unicode_files.py", what], stdout=file, check=True)
+            subprocess.run([sys.executable, f"{TOP}/languages/unicode_files.py", what], stdout=file, check=True)
     icu = f"{folder}/icu_lines"
     subprocess.run(["gcc", "-std=gnu11", "-O2", "-o", icu, f"{TOP}/tests/by_hand/icu_lines.c", "-licui18n", "-licuuc"], check=True)
     return Setup(uca=program, cldr=CLDR, unicode=FOLDER, table=table, data=data, icu=icu, folder=folder, scripts=scripts())

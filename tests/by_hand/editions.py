@@ -103,7 +103,7 @@ def old_data(new):
 
 def make(folder):
     """The tables and data files."""
-    tool = [sys.executable, "tools/unicode_files.py"]
+    tool = [sys.executable, "languages/unicode_files.py"]
     for name, words in (("new.txt", ["table"]), ("old.txt", ["table", packages.OLD_KEYS]), ("new_data.txt", ["data"])):
         with open(folder.file(name), "wb") as file:
             subprocess.run([*tool, *words], stdout=file, check=True)
@@ -294,9 +294,9 @@ def words_are_mended(folder, listed):
     if lacking := packages.missing(WANTS):
         print(f"not run: compact keys of words, for lack of Debian's {', '.join(lacking)}")
         return 1
-    import bindings
+    import bindings_shared
 
-    words = bindings.words(WORDS)
+    words = bindings_shared.words(WORDS)
     affected = {word for word in words if listed.affects(unicodedata.normalize("NFD", word))}
     kept = [word for word in words if word not in affected]
     make_books(folder, kept)

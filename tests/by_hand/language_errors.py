@@ -6,7 +6,7 @@ import sys
 import tempfile
 
 HERE = os.path.dirname(os.path.realpath(__file__))
-TOOL = f"{os.path.dirname(os.path.dirname(HERE))}/tools/languages.py"
+TOOL = f"{os.path.dirname(os.path.dirname(HERE))}/languages/languages.py"
 CLDR = "/usr/share/unicode/cldr/common"
 
 # A tag, the commands that reject it, and what the error says.

@@ -1,5 +1,5 @@
 #!/usr/bin/env python3
-"""Tests tools/languages.py: CLDR's relations, the tables and the rules beside ICU, and its errors.
+"""Tests languages/languages.py: CLDR's relations, the tables and the rules beside ICU, and its errors.
 
     tests/by_hand/languages.py               all collations of CLDR (six minutes with --jobs 4, on four processors)
     tests/by_hand/languages.py --quick       some of them, over fewer lines
@@ -9,7 +9,7 @@
 - Each wrong tag and each broken file of CLDR gets the error that it should, and nothing is printed.
 - CLDR's own test of the root is in order under the table of `und`.
 - The rules of Korean and Japanese in two parts are accepted. The changes that keep Cyrillic letters in a Russian table list no Cyrillic line.
-- For each collation `tools/languages.py table` makes a table. All relations of CLDR hold under it (relations.py): this needs no ICU.
+- For each collation `languages/languages.py table` makes a table. All relations of CLDR hold under it (relations.py): this needs no ICU.
 - With `--numeric`, numbers come in the order of their values under each of these tables and under Unicode's. That of
   emoji alone has keys that begin with a digit: keycaps.
 - Beside ICU: the row of docs/LANGUAGES.md is the same in this run. The page says what the columns are. Without `gcc` and `libicu-dev` this part is not run.
@@ -31,7 +31,7 @@ from typing import NamedTuple
 HERE = os.path.dirname(os.path.realpath(__file__))
 TOP = os.path.dirname(os.path.dirname(HERE))
 sys.dont_write_bytecode = True
-sys.path[:0] = [f"{TOP}/tools", HERE]
+sys.path[:0] = [f"{TOP}/languages", HERE]
 import language_errors
 import language_lines
 import languages
@@ -54,7 +54,7 @@ SETTINGS += ["ru-u-kf-upper", "sv-u-kf-upper", "und-u-kr-zzzz-latn-symbol", "vi-
 DIGITS, NUMBERS = "0123456789", [f"{it}a" for it in (0, 1, 2, 9, 10, 19, 99, 100, 12_345_678, 123_456_789, 10**20, 10**20 + 1)]
 # An order with keys that begin with a digit.
 KEYCAPS, NO_ORDER = ["und-u-co-emoji"], "the table does not order numbers"
-LOCALES, TOOL = languages.CLDR, f"{TOP}/tools/languages.py"
+LOCALES, TOOL = languages.CLDR, f"{TOP}/languages/languages.py"
 # CLDR 41 is of Unicode 14. These have other weights since Unicode 15, and the last two have weights in CLDR alone.
 OTHERS = {0x0F82, 0x0F83, 0x101FD, 0x1D89, 0x2B739, 0xFFFE, 0xFFFF}
 TESTS = (("CollationTest_CLDR_NON_IGNORABLE_SHORT.txt", "non-ignorable"), ("CollationTest_CLDR_SHIFTED_SHORT.txt", "shifted"))
@@ -264,7 +264,7 @@ class Tries:
         return Row(self.tag.text, language_of(self.tag), self.relations, self.listed, same, own[0], len(real), own[1], rules, left_out)
 
     def by_rules(self, made):
-        """What comes of the rules that `tools/languages.py rules` prints, and what they leave out."""
+        """What comes of the rules that `languages/languages.py rules` prints, and what they leave out."""
         setup, translation = self.setup, languages.translated(self.options, self.tag.name, Table(self.setup.table))
         if translation is None:
             return "", "all: too many"

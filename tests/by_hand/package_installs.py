@@ -34,7 +34,7 @@ import zipfile
 import packages
 
 TOP = os.path.dirname(os.path.dirname(os.path.dirname(os.path.realpath(__file__))))
-sys.path.append(f"{TOP}/tools")
+sys.path.append(f"{TOP}/tools/pages")
 import pages  # noqa: E402
 
 EXAMPLES, TRIPLET = f"{TOP}/examples", "x86_64-linux-gnu"
@@ -269,7 +269,7 @@ def program_in(system, tests):
     for name in LINES:
         same(system.run(f"uca keys {FILES}", given=content(f"{EXAMPLES}/{name}")), tests.keys(name), f"keys of {name}")
     same(system.run("uca --version"), run([tests.program, "--version"]), "the version")
-    system.run("cd /usr/share/doc/uca && uca check examples/table.txt examples/data.txt && test -x tools/unicode_files.py && test -f docs/FORMATS.md")
+    system.run("cd /usr/share/doc/uca && uca check examples/table.txt examples/data.txt && test -x languages/unicode_files.py && test -f docs/FORMATS.md")
     same(lost_links(f"{system.folder}/usr/share/doc/uca"), [], "links of pages that lead nowhere")
     same(system.run("bash -c '. /usr/share/bash-completion/completions/uca && complete -p uca'").decode().split()[-1], "uca", "the completion")
     holds(b".TH UCA 1" in system.run("zcat /usr/share/man/man1/uca.1.gz"), "the manual page")
@@ -533,7 +533,7 @@ def crate_page(tests):
             cargo(tests, *words[1:], cwd=folder)
         else:
             run(words, cwd=folder)
-    files = {"UCA_FILES": f"{TOP}/tools/uca_files.py", "XDG_DATA_HOME": f"{tests.work}/home"}
+    files = {"UCA_FILES": f"{TOP}/languages/uca_files.py", "XDG_DATA_HOME": f"{tests.work}/home"}
     for program in [*programs, *re.findall(r"```rust language\n(.*?)```", page, re.S)]:
         write(f"{folder}/src/main.rs", program)
         said = cargo(tests, "run", "-q", "--offline", cwd=folder, **files).decode()

@@ -38,9 +38,13 @@ import subprocess
 import sys
 import tempfile
 
-import bindings
+import bindings_postgresql
+import bindings_shared
 import packages
-from bindings import AFFECTED, BOOK, DATA, EDITIONS, LOOKED_THROUGH, LOOKUPS, MENDED, NEW_DATA, NEW_TABLE, OTHER, RUN_OF_65, TABLE, TOP, content, fingerprint_of, quoted, run, same
+from bindings_postgresql import RUN_OF_65
+from bindings_shared import (
+    AFFECTED, BOOK, DATA, EDITIONS, LOOKED_THROUGH, LOOKUPS, MENDED, NEW_DATA, NEW_TABLE, OTHER, TABLE, TOP, content, fingerprint_of, quoted, run, same,
+)
 from postgresql_texts import BY_INDEX, PARALLEL, has
 
 NEEDS, WANTS = ["gcc", "make", "postgresql", "postgresql-server-dev-15"], []
@@ -169,12 +173,12 @@ class Tries:
 def memory_server(work, book=None):
     """A server whose allocations fail when it is told."""
     run(["make", "-s", "-C", EXTENSION, "uca_memory.so"])
-    bindings.postgresql_programs(work)
+    bindings_postgresql.postgresql_programs(work)
     library = run([os.environ.get("PG_CONFIG", "pg_config"), "--pkglibdir"]).decode().strip()
     shutil.copy(f"{EXTENSION}/uca_memory.so", f"{work}/server{library}/uca.so")
     memory = Memory(work)
     os.environ["UCA_MEMORY"] = memory.path
-    with bindings.postgresql_server(work, book=book, editions=EDITIONS[2:], more=SMALL) as (server, _, settings):
+    with bindings_postgresql.postgresql_server(work, book=book, editions=EDITIONS[2:], more=SMALL) as (server, _, settings):
         tries = Tries(server, settings, memory, book)
         try:
             yield tries
@@ -266,11 +270,11 @@ def of_keys(tries):
         (f"SELECT uca_key({RUN_OF_65}, '{new}');", rejected),
         (f"SELECT string_agg(left(uca_affected(it, {named})::text, 1), '') FROM unnest({array(AFFECTED + WORDS)}) it;", "t" * len(AFFECTED) + "f" * len(WORDS)),
         (f"SELECT uca_rekey(uca_key('ch', '{old}'), {named});", "ERROR:  22P03: uca: the bytes are rejected: NoImage"),
-        (f"SELECT uca_key('a', '{OTHER}');", with_code(bindings.OTHERS_NAMED)),
+        (f"SELECT uca_key('a', '{OTHER}');", with_code(bindings_postgresql.OTHERS_NAMED)),
         ("SELECT uca_fingerprint(), uca_next_fingerprint();", f"{old}|{new}"),
-        ("SELECT uca_use_language('pl');", with_code(f"ERROR:  {bindings.NO_LANGUAGE.format('pl')}")),
+        ("SELECT uca_use_language('pl');", with_code(f"ERROR:  {bindings_postgresql.NO_LANGUAGE.format('pl')}")),
         (f"SELECT length({'uca_expand(uca_key(word))' if book else 'uca_key(word)'}) FROM long_texts;", "24006"),
-        (f"SELECT uca_compact({whole}, '{new}') = uca_key('b a', '{new}'), encode({whole}, 'hex') = '{NEW_KEYS[3]}';", "t|t" if book else with_code(bindings.NO_SERVER_BOOK)),
+        (f"SELECT uca_compact({whole}, '{new}') = uca_key('b a', '{new}'), encode({whole}, 'hex') = '{NEW_KEYS[3]}';", "t|t" if book else with_code(bindings_postgresql.NO_SERVER_BOOK)),
     ]
     return [("", statement, wanted.split("\n")) for statement, wanted in listed]
 
@@ -333,7 +337,7 @@ def plan_has(tries, before, statement, part):
 def names(work):
     """What takes memory, and is called by the extension or by the library, is in memory.c. Returns how many functions that has."""
     run(["make", "-s", "-C", EXTENSION, "uca_memory.so"])
-    objects = [*(f"{EXTENSION}/{it}.o" for it in ("uca_postgresql", "uca_language", "uca_text")), f"{bindings.C}/out/libuca.a"]
+    objects = [*(f"{EXTENSION}/{it}.o" for it in ("uca_postgresql", "uca_language", "uca_text")), f"{bindings_shared.C}/out/libuca.a"]
     called = {*re.findall(r" U (\w+)", run(["nm", "-u", *objects]).decode())} - {*re.findall(r" [TtDdRrBb] (\w+)", run(["nm", *objects]).decode())}
     able = {*re.findall(r" T __wrap_(\w+)", run(["nm", f"{EXTENSION}/memory.o"]).decode())}
     takers = {it for it in called if re.search("alloc|memalign|strn?dup|sprintf|open|mmap|StringInfo|_to_cstring|_to_text|[sS]napshot|SysCache1", it)}
@@ -380,7 +384,7 @@ def ending(found, first, most):
     if count >= first and (values, errors, status) == ([], ["out of memory"], 1):
         return "server"
     if count >= first and status == 0 and errors and REASON.fullmatch(errors[0]):
-        if (values, errors[1:]) == (right[::2], [bindings.OTHERS_NAMED.removeprefix("ERROR:  ")]) and blocks <= most[1]:
+        if (values, errors[1:]) == (right[::2], [bindings_postgresql.OTHERS_NAMED.removeprefix("ERROR:  ")]) and blocks <= most[1]:
             return "alone"
         if (values, errors) == ([], errors[:1] * 4) and blocks == 0:
             return "neither"
@@ -442,14 +446,14 @@ def try_server(tries, first, has_next):
 def keep_language(tries, tag, table):
     """Puts a language where the server finds it."""
     shared, programs = (run([os.environ.get("PG_CONFIG", "pg_config"), it]).decode().strip() for it in ("--sharedir", "--bindir"))
-    bindings.keep_language(f"{tries.server.programs.removesuffix(programs)}{shared}/uca", tag, table)
+    bindings_shared.keep_language(f"{tries.server.programs.removesuffix(programs)}{shared}/uca", tag, table)
 
 
 def languages(tries):
     """Allocations of a start by a language fail. The server has the language, or says why not, or it does not start."""
     keep_language(tries, "xx", TABLE)
     settings = [*without_files("table", "data", "next_table", "next_data", "next_book", "changes", "certificate"), "-c", "uca.language=xx"]
-    no_next = bindings.OTHERS_NAMED.removeprefix("ERROR:  ")
+    no_next = bindings_postgresql.OTHERS_NAMED.removeprefix("ERROR:  ")
     ended = set()
 
     def once(first, last):
@@ -719,8 +723,8 @@ PAGE_WORDS = {"a": ["a"], "b": ["b"], "bach": ["b", "a", "ch"], "ch": ["ch"], "d
 
 def editions(tries):
     """The transaction of docs/BINDINGS.md does all or nothing."""
-    made = next(it for language, it in bindings.blocks_of("A new edition in PostgreSQL") if language == "sql")
-    ((_, move),) = bindings.blocks_of("A new edition in PostgreSQL, in one transaction")
+    made = next(it for language, it in bindings_postgresql.blocks_of("A new edition in PostgreSQL") if language == "sql")
+    ((_, move),) = bindings_postgresql.blocks_of("A new edition in PostgreSQL, in one transaction")
     old_keys = {word: whole_key([OLD_WEIGHTS[it] for it in letters]) for word, letters in PAGE_WORDS.items()}
     new_keys = {word: whole_key([NEW_WEIGHTS[it] for it in word]) for word in PAGE_WORDS}
     reset = f"DROP TABLE IF EXISTS words; DROP FUNCTION IF EXISTS set_keys; {made}"
@@ -741,7 +745,7 @@ def files(tries):
     try_to_create(tries)
     tries.other.does(f"{KEPT} INSERT INTO kept VALUES ('bh', 'bh'), ('ch', 'ch'), ('\u1ea1', '\u1ea1'); REFRESH MATERIALIZED VIEW seen;")
     settings = re.sub(r"uca.(next_.*|changes|certificate)_file.*\n", "", tries.settings)
-    keep_language(tries, "tailored", bindings.TAILORED)
+    keep_language(tries, "tailored", bindings_shared.TAILORED)
     tailored = re.sub(r"uca.(table|data)_file.*\n", "", settings) + "uca.language = 'tailored'\n"
     # the tailored table has a weight for bh; the third text is a with an accent, of which the server knows nothing when it starts
     old, new = (f"bh:{whole_key(it)} ch:{whole_key(['1c7b'])} \u1ea1:1c4700000020002c0000000200020000ffffffff" for it in (["1c60", "1d18"], ["1c61"]))
@@ -754,7 +758,7 @@ def files(tries):
         for table in ("kept", "seen"):
             its = f"SELECT fingerprint FROM uca_files; SELECT string_agg(name || ':' || encode(key, 'hex'), ' ' ORDER BY name::text COLLATE \"C\") FROM {table};"
             same(tries.other.says(its), [tries.old, old] if is_error else [OTHER, new], f"the keys of {table}")
-        same(tries.tried.says("SELECT encode(uca_key('bh'), 'hex');"), [with_code(bindings.OTHER_FILES) if is_error else whole_key(["1c61"])], "a key")
+        same(tries.tried.says("SELECT encode(uca_key('bh'), 'hex');"), [with_code(bindings_postgresql.OTHER_FILES) if is_error else whole_key(["1c61"])], "a key")
         if not is_error:
             same(tries.other.says(RIGHT_INDEXES), ["3"], "the indexes that were made again")
             begin(tries, settings)
@@ -798,12 +802,12 @@ def main():
     parser.add_argument("names", nargs="*", metavar="NAME")
     given = parser.parse_args()
     packages.stop_without(NEEDS)
-    missing = [it for it in bindings.ARCHIVES if not os.path.exists(it)]
+    missing = [it for it in bindings_shared.ARCHIVES if not os.path.exists(it)]
     if missing:
         sys.exit(f"there is no {missing[0]}: run `tools/build.py uca_c uca_run` first")
     if unknown := {*given.names} - {*CHECKS}:
         parser.error(f"no check is named {', '.join(sorted(unknown))}: they are {', '.join(CHECKS)}")
-    run(["make", "-s", "-C", bindings.C])
+    run(["make", "-s", "-C", bindings_shared.C])
     passed = failed = 0
     with tempfile.TemporaryDirectory() as work:
         for name in given.names or CHECKS:

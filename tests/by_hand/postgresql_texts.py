@@ -22,12 +22,15 @@ import os
 import random
 import re
 import subprocess
+import shutil
 import sys
 import tempfile
 
-import bindings
+import bindings_postgresql
+import bindings_shared
 import packages
-from bindings import BOOK, DATA, EXAMPLES, LINES, OTHER_FILES, RUN_OF_65, TABLE, TOP, NotHere, content, quoted, run, same
+from bindings_postgresql import OTHER_FILES, RUN_OF_65
+from bindings_shared import BOOK, DATA, EXAMPLES, LINES, TABLE, TOP, NotHere, content, quoted, run, same
 
 NEEDS = ["gcc", "make", "postgresql", "postgresql-server-dev-15"]
 WANTS = ["unicode-data", *packages.LISTS]
@@ -70,7 +73,7 @@ def statements(work):
     """Orders, NULL, the empty text, rejected texts, and the aggregates."""
     listed = "SELECT string_agg(coalesce(name::text, 'NULL'), '|' ORDER BY {}) FROM words;"
     for book in (None, BOOK):
-        with bindings.postgresql_server(work, book=book) as (_, says, _):
+        with bindings_postgresql.postgresql_server(work, book=book) as (_, says, _):
             says(SOME)
             same(says(listed.format("name")), f"{SORTED}\n", "the order")
             same(says(listed.format("name DESC")), "|".join(reversed(SORTED.split("|"))) + "\n", "the order from the end")
@@ -91,7 +94,7 @@ def statements(work):
 
 def bad_texts(work):
     """Texts that are no UTF-8 do not come in, as text, in binary or by a cast."""
-    with bindings.postgresql_server(work) as (server, says, _):
+    with bindings_postgresql.postgresql_server(work) as (server, says, _):
         says("CREATE TABLE words(name uca_text);")
         for it in ("E'\\xff'", "E'\\xff'::uca_text", "E'a\\x00b'::uca_text", "convert_from('\\xff', 'UTF8')"):
             fails_with(says, f"INSERT INTO words VALUES ({it});", "ERROR:  invalid byte sequence for encoding")
@@ -108,7 +111,7 @@ def bad_texts(work):
 
 def unique(work):
     """Unique indexes: of bytes, of keys, and without case or accents."""
-    with bindings.postgresql_server(work) as (_, says, _):
+    with bindings_postgresql.postgresql_server(work) as (_, says, _):
         says("CREATE TABLE names(name uca_text PRIMARY KEY); INSERT INTO names VALUES ('ba'), ('bA'), ('bá'), (U&'ba\\0301');")
         duplicate = "duplicate key value violates unique constraint"
         fails_with(says, "INSERT INTO names VALUES ('ba');", duplicate)
@@ -131,7 +134,7 @@ def joins(work):
     joined = "SELECT count(*), sum(a.n * b.n) FROM a JOIN b ON a.name = b.name"
     ways = {"Hash Join": "SET enable_mergejoin = off; SET enable_nestloop = off;", "Merge Join": "SET enable_hashjoin = off; SET enable_nestloop = off;",
             "Nested Loop": "SET enable_hashjoin = off; SET enable_mergejoin = off;"}
-    with bindings.postgresql_server(work) as (_, says, _):
+    with bindings_postgresql.postgresql_server(work) as (_, says, _):
         says(made)
         wanted = says("SELECT count(*), sum(a.n * b.n) FROM a JOIN b ON a.name::text = b.name::text;")
         for way, settings in ways.items():
@@ -153,7 +156,7 @@ def begins(work):
     """Texts that begin with some letters, by an index and by a scan; other ranges of keys; and index-only scans."""
     texts = ["bach", "Bach", "bácH", "b-a", "ba", "b", "", "c", "ch", "cb", "C-H", "ab", "bb", "Bä", "a\u0301b", "- ", "b\u0301a"]
     for book in (None, BOOK):
-        with bindings.postgresql_server(work, book=book) as (_, says, _):
+        with bindings_postgresql.postgresql_server(work, book=book) as (_, says, _):
             values = ", ".join(f"({quoted(it)})" for it in texts)
             says(f"CREATE TABLE words(id serial, name uca_text); INSERT INTO words(name) VALUES {values}, (NULL), ({RUN_OF_65});"
                  "CREATE INDEX by_name ON words(name); CREATE TABLE texts AS SELECT id, name::text AS name FROM words; CREATE INDEX by_text ON texts(name uca_ops); VACUUM ANALYZE;")
@@ -184,7 +187,7 @@ def begins(work):
 
 def casts(work):
     """No statement takes the order of text by itself."""
-    with bindings.postgresql_server(work, more="") as (_, says, _):
+    with bindings_postgresql.postgresql_server(work, more="") as (_, says, _):
         says(SOME)
         says("CREATE TABLE texts(word text); INSERT INTO texts SELECT name FROM words; INSERT INTO words(name) SELECT word FROM texts; DELETE FROM words WHERE id > 9;")
         # the order of the database is that of bytes, where A is before a
@@ -213,7 +216,7 @@ def casts(work):
 
 def text_class(work):
     """The operator class uca_ops of text."""
-    with bindings.postgresql_server(work) as (_, says, _):
+    with bindings_postgresql.postgresql_server(work) as (_, says, _):
         says("CREATE TABLE words(word text); INSERT INTO words VALUES ('ch'), ('c-h'), ('a'), ('á'), (''), ('A'), ('b'), ('cb'), (NULL); CREATE INDEX by_word ON words(word uca_ops);")
         for before in ("", BY_INDEX):
             same(says(f"{before} SELECT coalesce(word, 'NULL') FROM words ORDER BY word USING <~;").replace("\n", "|"), f"{SORTED}|", "the order")
@@ -314,7 +317,7 @@ def others_fail(says, wanted, what, database="postgres", ordered=ORDERED):
 
 def other_settings(work):
     """After a start with other files, and back."""
-    with bindings.postgresql_server(work) as (server, says, settings):
+    with bindings_postgresql.postgresql_server(work) as (server, says, settings):
         says(KEPT)
         wanted = {it: says(f"{it};") for it in UNORDERED}
         in_order = says("SELECT name FROM words ORDER BY name;")
@@ -343,7 +346,7 @@ def other_settings(work):
         same(says("SELECT name FROM words ORDER BY name;") + says(f"{BY_INDEX} SELECT name FROM words ORDER BY name;"), 2 * in_order, "the first files again")
         server.restart(settings.replace("/table.txt", "/tailored.txt"))
         for it in ("", "DROP TABLE parts;", "DROP TABLE spans;"):
-            same(says(f"BEGIN; {it} {USED_AGAIN}", fails=True), bindings.KEYS_ARE_KEPT, f"what has no statement, after {it}")
+            same(says(f"BEGIN; {it} {USED_AGAIN}", fails=True), bindings_postgresql.KEYS_ARE_KEPT, f"what has no statement, after {it}")
         moved = "BEGIN; CREATE TABLE kept AS SELECT * FROM part1 UNION ALL SELECT * FROM part2; DROP TABLE parts, spans;"
         says(f"{moved} {USED_AGAIN} {KEPT[KEPT.index('CREATE TABLE parts'):KEPT.index('INSERT INTO parts')]} INSERT INTO parts SELECT * FROM kept; COMMIT;")
         ordered = says("SELECT name FROM words ORDER BY name;")
@@ -356,7 +359,7 @@ def other_settings(work):
 
 def dumps(work):
     """Dumps that are restored where the server has the same files, and where it has others."""
-    with bindings.postgresql_server(work) as (server, says, settings), bindings.postgresql_server(work, TAILORED) as (other, says_other, _):
+    with bindings_postgresql.postgresql_server(work) as (server, says, settings), bindings_postgresql.postgresql_server(work, TAILORED) as (other, says_other, _):
         says(KEPT)
         wanted = {it: says(f"{it};") for it in UNORDERED}
         in_order = says("SELECT name FROM words ORDER BY name;")
@@ -365,10 +368,10 @@ def dumps(work):
         run([*dump, "-Fc", "-f", f"{work}/texts.dump", "postgres"])
         restores = {"plain": (["psql", "-X"], plain), "parallel": (["pg_restore", "-j", "4", f"{work}/texts.dump"], None)}
         for name, (words, given) in restores.items():
-            same(bindings.restored(server, name, *words, given=given), "", f"a {name} restore under the same files")
+            same(bindings_postgresql.restored(server, name, *words, given=given), "", f"a {name} restore under the same files")
             same(says("SELECT name FROM words ORDER BY name;", database=name), in_order, f"the order after a {name} restore")
             same(says(f"{CHECKED} SELECT uca_use_files();", database=name), says(CHECKED) + "0\n", f"amcheck after a {name} restore")
-            bindings.restored(other, name, *words, given=given)
+            bindings_postgresql.restored(other, name, *words, given=given)
             for it in ORDERED[:16]:
                 for way in WAYS.values():
                     same(says_other(f"{way} {it};", fails=True, database=name), OTHER_FILES, f"{it} after a {name} restore under other files")
@@ -380,7 +383,7 @@ def dumps(work):
 
 def standby(work):
     """A physical standby with other files, and with the same."""
-    with bindings.postgresql_server(work) as (server, says, settings):
+    with bindings_postgresql.postgresql_server(work) as (server, says, settings):
         from local_servers import PostgreSQL
 
         says(KEPT)
@@ -390,7 +393,7 @@ def standby(work):
         os.chmod(os.path.dirname(copy.folder), 0o755)
         os.mkdir(copy.folder)
         if copy.owner:
-            bindings.shutil.chown(copy.folder, copy.owner)
+            shutil.chown(copy.folder, copy.owner)
         copy.call("pg_basebackup", "-h", server.folder, "-U", "postgres", "-R", "-c", "fast", "--no-sync")
         its = settings + f"primary_conninfo = 'host={server.folder} user=postgres'\n"
 
@@ -407,7 +410,7 @@ def standby(work):
             others_fail(copy_says, wanted, "on a standby", ordered=reads)
             copy.restart(its)
             same(copy_says(f"{BY_INDEX} SELECT name FROM words ORDER BY name;"), in_order, "a standby with the same files")
-            same(copy_says("SELECT uca_use_language('pl');", fails=True), f"ERROR:  {bindings.NO_LANGUAGE.format('pl')}", "a language of a standby")
+            same(copy_says("SELECT uca_use_language('pl');", fails=True), f"ERROR:  {bindings_postgresql.NO_LANGUAGE.format('pl')}", "a language of a standby")
             # the primary takes other files, while the standby has a plan that reads the index
             server.restart(settings.replace("/table.txt", "/tailored.txt"))
             session = subprocess.Popen(["psql", "-XAtq"], stdin=subprocess.PIPE, stdout=subprocess.PIPE, stderr=subprocess.STDOUT, text=True, env={**os.environ, **copy.environment})
@@ -417,7 +420,7 @@ def standby(work):
             same("".join(iter(session.stdout.readline, "done\n")), in_order, "a prepared statement of the standby")
             says(f"BEGIN; DROP TABLE parts, spans; {USED_AGAIN} COMMIT;")
             found = lambda: copy_says("SELECT fingerprint FROM uca_files;") == says("SELECT uca_fingerprint();")
-            bindings.until(found, True, "what the primary did")
+            bindings_postgresql.until(found, True, "what the primary did")
             session.stdin.write(asked)
             session.stdin.flush()
             said = "".join(iter(session.stdout.readline, "done\n"))
@@ -432,7 +435,7 @@ def standby(work):
 
 def inside_transactions(work):
     """Other fingerprints that come while a statement or a transaction runs, and files that are used after all or not."""
-    with bindings.postgresql_server(work) as (server, says, settings):
+    with bindings_postgresql.postgresql_server(work) as (server, says, settings):
         says("CREATE EXTENSION amcheck; CREATE TABLE words(name uca_text PRIMARY KEY); INSERT INTO words VALUES ('b'), ('bh'), ('bz');"
              "CREATE TABLE many AS SELECT (chr(97 + i % 26) || i)::uca_text AS name FROM generate_series(1, 200000) i; CREATE INDEX by_name ON many(name);")
         by_index = f"{BY_INDEX} SELECT name FROM words ORDER BY name;"
@@ -459,7 +462,7 @@ def inside_transactions(work):
 
 def roles(work):
     """Roles without rights, and an extension in a schema of its own."""
-    with bindings.postgresql_server(work) as (_, says, _):
+    with bindings_postgresql.postgresql_server(work) as (_, says, _):
         says("DROP EXTENSION uca; CREATE SCHEMA ext; CREATE EXTENSION uca SCHEMA ext; CREATE ROLE joe; CREATE TABLE words(name ext.uca_text PRIMARY KEY); GRANT ALL ON words TO joe;")
         same(says("SET ROLE joe; INSERT INTO words VALUES ('b'), ('á'), ('a'); SELECT name FROM words ORDER BY name;"), "a\ná\nb\n", "a role without rights on the schema")
         same(says(f"REVOKE SELECT ON ext.uca_files FROM PUBLIC; SET ROLE joe; {BY_INDEX} SELECT name FROM words ORDER BY name;"), "a\ná\nb\n", "a role without rights on the table")
@@ -481,15 +484,15 @@ def orders_like(program):
     def check(work):
         if not os.path.exists(program):
             raise NotHere(f"there is no {program}")
-        table = bindings.files_for(work, ["numeric"])[0]
-        with bindings.postgresql_server(work, table) as (server, says, settings):
+        table = bindings_shared.files_for(work, ["numeric"])[0]
+        with bindings_postgresql.postgresql_server(work, table) as (server, says, settings):
             depths = (("shifted", "identical"), ("shifted", "numeric"), ("non-ignorable", "identical", "numeric"))
             for weighting, *depth in (("shifted",), ("non-ignorable",), *depths):
                 its = "".join(f"uca.{it} = on\n" for it in depth)
                 server.restart(settings.replace("weighting = shifted", f"weighting = '{weighting}'") + its)
                 says("SELECT uca_use_files();")
                 for lines in LINES:
-                    text = bindings.numbered(lines)
+                    text = bindings_shared.numbered(lines)
                     values = ", ".join(f"({quoted(it)})" for it in text.decode().removesuffix("\n").split("\n"))
                     says(f"CREATE TABLE lines(line uca_text); INSERT INTO lines VALUES {values}; CREATE INDEX by_line ON lines(line);")
                     wanted = run([program, "sort", *(f"--{it}" for it in depth), "--weighting", weighting, table, DATA], input=by_bytes(text)).decode()
@@ -504,16 +507,16 @@ def words_like(program):
     """100,000 words over Unicode's table and a tailored one: sorted in each way, and read from indexes."""
 
     def check(work):
-        data, tables = bindings.unicode_files(work, program)
+        data, tables = bindings_shared.unicode_files(work, program)
         # some twice, some with marks that are composed or not, and some that are no words
-        words = bindings.words(100_000)
+        words = bindings_shared.words(100_000)
         words += words[:2000] + [it.replace("é", "e\u0301") for it in words if "é" in it] + [f"{one} {other}" for one, other in zip(words[:3000], words[3000:6000])] + ["", " ", "-", "漢字", "汉字", "한글", "кот", "عربي", "α", "𝒜", "😀"]
         random.Random(5).shuffle(words)
         text = "".join(it + "\n" for it in words).encode()
         for table in tables:
             wanted = run([program, "sort", "--weighting", "shifted", table, data], input=by_bytes(text)).decode()
             for book in (None, BOOK):
-                with bindings.postgresql_server(work, table, data, book) as (_, says, _):
+                with bindings_postgresql.postgresql_server(work, table, data, book) as (_, says, _):
                     what = f"order over {os.path.basename(table)} {'with a book' if book else ''}"
                     says(f"CREATE EXTENSION amcheck; CREATE TABLE words(id serial, name uca_text); COPY words(name) FROM STDIN;\n{text.decode()}\\.\nANALYZE words;")
                     ordered = "SELECT name FROM words ORDER BY name;"
@@ -554,7 +557,7 @@ def random_like(program):
     """Random texts of many scripts are in the order of their keys, and then of their bytes; rejected ones come last."""
 
     def check(work):
-        data, tables = bindings.unicode_files(work, program)
+        data, tables = bindings_shared.unicode_files(work, program)
         chosen = random.Random(6)
         texts = [random_text(chosen) for _ in range(20_000)]
         escapes = {"\\": "\\\\", "\t": "\\t", "\n": "\\n", "\r": "\\r"}
@@ -566,7 +569,7 @@ def random_like(program):
         numeric = (("shifted", None, "numeric"), ("shifted", BOOK, "numeric"))
         both = ("non-ignorable", None, "identical", "numeric")
         for weighting, book, *depth in (("shifted", None), ("non-ignorable", BOOK), *numeric, both):
-            with bindings.postgresql_server(work, tables[0], data, book) as (server, says, settings):
+            with bindings_postgresql.postgresql_server(work, tables[0], data, book) as (server, says, settings):
                 its = "".join(f"uca.{it} = on\n" for it in depth)
                 server.restart(settings.replace("weighting = shifted", f"weighting = '{weighting}'") + its)
                 says("SELECT uca_use_files();")
@@ -600,11 +603,11 @@ def beside_icu(program):
     """The bytes of an index, and the time of sorting and of making an index, beside a column with ICU's collation."""
 
     def check(work):
-        data, tables = bindings.unicode_files(work, program)
-        text = "".join(it + "\n" for it in bindings.words(100_000))
+        data, tables = bindings_shared.unicode_files(work, program)
+        text = "".join(it + "\n" for it in bindings_shared.words(100_000))
         late = []
         for book in (None, BOOK):
-            with bindings.postgresql_server(work, tables[0], data, book, more="uca.identical = off\n") as (server, says, _):
+            with bindings_postgresql.postgresql_server(work, tables[0], data, book, more="uca.identical = off\n") as (server, says, _):
                 says(f"CREATE TABLE words(name uca_text, word text COLLATE \"und-x-icu\"); COPY words(name) FROM STDIN;\n{text}\\.\nUPDATE words SET word = name; VACUUM FULL words; ANALYZE words;"
                      "CREATE INDEX by_name ON words(name); CREATE INDEX by_word ON words(word);")
                 ours, theirs = says("SELECT pg_relation_size('by_name'), pg_relation_size('by_word');").strip().split("|")
@@ -626,7 +629,7 @@ def page(work):
     """The statements of docs/BINDINGS.md on uca_text."""
     text = re.search(r"^### Texts in order in PostgreSQL\n(.*?)^## ", content(f"{TOP}/docs/BINDINGS.md").decode(), re.S | re.M).group(1)
     blocks = re.findall(r"```sql\n(.*?)```", text, re.S)
-    with bindings.postgresql_server(work) as (_, says, _):
+    with bindings_postgresql.postgresql_server(work) as (_, says, _):
         for block in blocks:
             found = [it for it in says(block.replace("CREATE EXTENSION uca;", "")).split("\n")[:-1]]
             same(found, re.findall(r"^-- (.*)", block, re.M), block)
@@ -638,7 +641,7 @@ def main():
     parser.add_argument("names", nargs="*", metavar="NAME")
     given = parser.parse_args()
     packages.stop_without(NEEDS)
-    missing = [it for it in bindings.ARCHIVES if not os.path.exists(it)]
+    missing = [it for it in bindings_shared.ARCHIVES if not os.path.exists(it)]
     if missing:
         sys.exit(f"there is no {missing[0]}: run `tools/build.py uca_c uca_run` first")
     program = os.path.realpath(given.uca)
@@ -647,7 +650,7 @@ def main():
               "words": words_like(program), "random": random_like(program), "beside_icu": beside_icu(program)}
     if unknown := {*given.names} - {*checks}:
         parser.error(f"no check is named {', '.join(sorted(unknown))}: they are {', '.join(checks)}")
-    run(["make", "-s", "-C", bindings.C])
+    run(["make", "-s", "-C", bindings_shared.C])
     passed = failed = skipped = 0
     with tempfile.TemporaryDirectory() as work:
         for name in given.names or checks:

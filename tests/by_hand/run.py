@@ -44,7 +44,7 @@ TESTS = {
 
 
 def module_of(name):
-    """The module of a test. It may have the name of a script of tools/ that it imports."""
+    """The module of a test. It may have the name of a script of languages/ that it imports."""
     spec = importlib.util.spec_from_file_location(f"by_hand_{name}", f"{HERE}/{name}.py")
     sys.modules[spec.name] = found = importlib.util.module_from_spec(spec)
     spec.loader.exec_module(found)

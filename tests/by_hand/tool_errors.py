@@ -17,8 +17,8 @@ TOP = os.path.dirname(os.path.dirname(os.path.dirname(os.path.realpath(__file__)
 NEEDS, WANTS = ["unicode-data", "unicode-cldr-core"], ["perl-modules-5.36"]
 
 # The arguments of a script, its status, and what its sentence has. PAGE is a file that is no table, and BYTES one that is no text.
-LANGUAGES, UNICODE, EDITIONS = "tools/languages.py", "tools/unicode_files.py", "tests/by_hand/editions.py"
-FILES = "tools/uca_files.py"
+LANGUAGES, UNICODE, EDITIONS = "languages/languages.py", "languages/unicode_files.py", "tests/by_hand/editions.py"
+FILES = "languages/uca_files.py"
 CASES = [
     (f"{LANGUAGES} --uca /none table sv TABLE DATA", 1, "/none is no program that can be run"),
     (f"{LANGUAGES} --uca / rules sv TABLE", 1, "/ is no program that can be run"),
@@ -27,7 +27,7 @@ CASES = [
     (f"{LANGUAGES} --uca UCA rules sv PAGE", 1, "the table that is given, PAGE: table line 3: Order"),
     (f"{LANGUAGES} --uca UCA rules sv BYTES", 1, "the table that is given, BYTES: table line 1: "),
     (f"{LANGUAGES} --uca UCA keep Cyrl TABLE DATA PAGE NEW", 1, "the table that is given, PAGE: table line 3: Order"),
-    (f"{LANGUAGES} --uca UCA keep Cyrl TABLE DATA OTHER NEW", 1, "the tables name two weightings: make the first one by `tools/unicode_files.py table --weighting non-ignorable`"),
+    (f"{LANGUAGES} --uca UCA keep Cyrl TABLE DATA OTHER NEW", 1, "the tables name two weightings: make the first one by `languages/unicode_files.py table --weighting non-ignorable`"),
     (f"{FILES} --uca /none --into FOLDER pl", 1, "/none is no program that can be run"),
     (f"{FILES} --unicode /none --into FOLDER pl", 1, "apt install unicode-data, or name the folders"),
     (f"{UNICODE} table BYTES", 1, "BYTES is not in UTF-8"),

@@ -1,5 +1,5 @@
 #!/usr/bin/env python3
-"""Tests tools/uca_files.py with the files of Unicode and CLDR.
+"""Tests languages/uca_files.py with the files of Unicode and CLDR.
 
     tests/by_hand/uca_files.py [--uca PATH] [--jobs N]       all of it (some minutes, with --jobs 4 on four processors)
     tests/by_hand/uca_files.py --read                        without the tables of all languages
@@ -31,7 +31,7 @@ from concurrent.futures import ThreadPoolExecutor
 HERE = os.path.dirname(os.path.realpath(__file__))
 TOP = os.path.dirname(os.path.dirname(HERE))
 sys.dont_write_bytecode = True
-sys.path[:0] = [f"{TOP}/tools", HERE]
+sys.path[:0] = [f"{TOP}/languages", HERE]
 import languages
 import packages
 import unicode_files
@@ -39,7 +39,7 @@ from cldr_rules import CldrError, kind_and_rules
 from language_tags import read_tag
 
 NEEDS = ["unicode-data", "unicode-cldr-core", "iso-codes"]
-TOOL, PYTHON, CLDR = f"{TOP}/tools/uca_files.py", "/usr/bin/python3", languages.CLDR
+TOOL, PYTHON, CLDR = f"{TOP}/languages/uca_files.py", "/usr/bin/python3", languages.CLDR
 CODES = "/usr/share/iso-codes/json/iso_{}.json"
 LOCALES = "/usr/share/locale/*/LC_MESSAGES/iso_*.mo"
 SCRIPTS = {"latin": "Latn", "cyrillic": "Cyrl", "iqtelif": "Latn"}

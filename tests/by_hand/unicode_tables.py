@@ -5,7 +5,7 @@
     tests/by_hand/unicode_tables.py              # from the top of the repository
 
 It needs the files of Debian's package unicode-data. Without an `allkeys.txt` it says so and ends with status 2. It runs the commands of
-docs/UNICODE.md as the page shows them. Then it checks the table as it is published, with the rows that tools/unicode_files.py adds, and with two of these
+docs/UNICODE.md as the page shows them. Then it checks the table as it is published, with the rows that languages/unicode_files.py adds, and with two of these
 alone. It counts the Tibetan texts whose keys these rows change. It tailors the table by each alphabet of examples/, and audits the result. It says which
 weights moved and how many keys changed, and sorts words of that language, which examples/ has in their order. `--keep FOLDER` keeps the files. The last line is `N passed, M failed`.
 """
@@ -25,7 +25,7 @@ DOCUMENT, PROGRAM = "docs/UNICODE.md", "crates/uca/out/uca"
 LANGUAGES = ("danish", "spanish", "swedish")
 NEEDS, WANTS = ["unicode-data"], []
 PUBLISHED = packages.NEW_KEYS
-MAKES_TABLE = "tools/unicode_files.py table"  # as the page has it
+MAKES_TABLE = "languages/unicode_files.py table"  # as the page has it
 LETTERS, SIGN, REVERSED = "\u0fb2\u0fb3", "\u0f71", "\u0f80"
 # Short i and long ī after the letters shr: they differ in U+0F71 alone.
 SHORT, LONG = "\u0f64\u0fb2\u0f72", "\u0f64\u0fb2\u0f71\u0f72"
@@ -72,7 +72,7 @@ def page(options, folder):
         commands = commands.replace(MAKES_TABLE, "%s %s" % (MAKES_TABLE, os.path.abspath(options.allkeys)))
     folder = os.path.join(folder, "page")
     os.mkdir(folder)
-    for name in ("crates", "examples", "tools"):
+    for name in ("crates", "examples", "languages"):
         os.symlink(os.path.abspath(name), os.path.join(folder, name))
     out, said, seconds = run(["sh", "-e", "-c", commands], folder=folder)
     holds = out == "well-formed\naccepted\n" + content("examples/words_danish.txt") and not said
@@ -196,8 +196,8 @@ def main():
         folder = options.keep or temporary
         page(options, folder)
         data, table = os.path.join(folder, "data.txt"), os.path.join(folder, "table.txt")
-        run([sys.executable, "tools/unicode_files.py", "data"], out=data)
-        run([sys.executable, "tools/unicode_files.py", "table", options.allkeys], out=table)
+        run([sys.executable, "languages/unicode_files.py", "data"], out=data)
+        run([sys.executable, "languages/unicode_files.py", "table", options.allkeys], out=table)
         out, said, _ = run([options.uca, "check", options.allkeys, data])
         see("check " + options.allkeys, out.startswith("WF5 row "), out.strip() or said)
         out, said, seconds = run([options.uca, "check", table, data])

@@ -31,7 +31,8 @@ import tempfile
 import threading
 import time
 
-import bindings
+import bindings_postgresql
+import bindings_shared
 import editions
 import packages
 
@@ -43,7 +44,7 @@ WRITES = 20
 # The lines that `uca sort` and `uca keys` take.
 MOST_LINES = 1_000_000
 FILES = ["old.txt", "old_data.txt", "new.txt", "new_data.txt", "changes.txt", "certificate.txt"]
-PAGE = f"{bindings.TOP}/docs/BINDINGS.md"
+PAGE = f"{bindings_shared.TOP}/docs/BINDINGS.md"
 see = editions.see
 
 
@@ -55,7 +56,7 @@ class Given:
         editions.make(folder)
         status, _, said, _ = folder.run("changes", *FILES[:4], FILES[5], out=FILES[4])
         see("changes", status == 0, said or "found")
-        self.old, self.new = (bindings.fingerprint_of(*self.files[at : at + 2]) for at in (0, 2))
+        self.old, self.new = (bindings_shared.fingerprint_of(*self.files[at : at + 2]) for at in (0, 2))
         chosen = random.Random(SEED)
         editions.LINES = rows + MORE_ROWS
         lines = [it for it in editions.make_lines(folder, chosen) if "\0" not in it]
@@ -81,8 +82,8 @@ class Given:
 
 def statements(heading, given):
     """The statements of a section of docs/BINDINGS.md, by blocks, with the fingerprints of these files."""
-    section = re.search(rf"^### {heading}\n(.*?)^##", bindings.content(PAGE).decode(), re.S | re.M).group(1)
-    return [it.replace(bindings.USED, given.old).replace(bindings.NEXT, given.new) for it in re.findall(r"```sql\n(.*?)```", section, re.S)]
+    section = re.search(rf"^### {heading}\n(.*?)^##", bindings_shared.content(PAGE).decode(), re.S | re.M).group(1)
+    return [it.replace(bindings_shared.USED, given.old).replace(bindings_shared.NEXT, given.new) for it in re.findall(r"```sql\n(.*?)```", section, re.S)]
 
 
 # ---- SQLite
@@ -95,7 +96,7 @@ class Sqlite:
         self.path, self.given = f"{work}/words.db", given
         loads = [f"SELECT 0 WHERE uca_load('{given.files[at]}', '{given.files[at + 1]}', 'shifted') IS NULL;" for at in (0, 2)]
         names = ", ".join(f"'{it}'" for it in given.files)
-        self.head = "\n".join([".bail on", ".timeout 600000", f".load {bindings.TOP}/bindings/sqlite/out/uca", *loads,
+        self.head = "\n".join([".bail on", ".timeout 600000", f".load {bindings_shared.TOP}/bindings/sqlite/out/uca", *loads,
                                f"SELECT 0 WHERE uca_load_upgrade({names}, 'shifted', '', '{given.old}') IS NULL;", ""])
 
     def opened(self):
@@ -235,7 +236,7 @@ class Writer:
             if kind != "added" and row not in self.rows:
                 continue
             start = time.perf_counter()
-            (said,) = connection.ask(self.statements[kind].format(bindings.quoted(text), row))
+            (said,) = connection.ask(self.statements[kind].format(bindings_shared.quoted(text), row))
             end = time.perf_counter()
             number, fingerprint = said.split()
             if kind == "deleted":
@@ -294,7 +295,7 @@ def sqlite_keys(work, given):
     see("SQLite: there are affected lines, and others", 100 < int(affected) < len(given.lines), f"{int(affected):,} of {len(given.lines):,}, found in {seconds:.1f} s")
     count = f"SELECT fingerprint, (SELECT count(*) FROM words WHERE key = uca_key(word, fingerprint)) FROM made_by;"
     states = [f"{it}\t{len(given.lines)}\n" for it in (given.old, given.new)]
-    kept = bindings.content(database.path)
+    kept = bindings_shared.content(database.path)
     seconds = database.seconds_inside(move)
     with open(database.path, "wb") as file:
         file.write(kept)
@@ -320,7 +321,7 @@ def sqlite_texts(work, given):
                               f"SELECT count(*) FROM names WHERE name >= '' COLLATE uca_{fingerprint}; SELECT sql FROM sqlite_schema WHERE name = 'by_name';"
                               "SELECT rowid, hex(CAST(name AS BLOB)), note IS NULL FROM names NOT INDEXED ORDER BY rowid;")
     states = [database.run(ok(given.old))[0]]
-    kept = bindings.content(database.path)
+    kept = bindings_shared.content(database.path)
     seconds = database.seconds_inside(move)
     states.append(database.run(ok(given.new))[0])
     holds = states[1].startswith("ok\n") and states[1] == states[0].replace(given.old, given.new)
@@ -365,11 +366,11 @@ class Writers:
         while not self.stops.is_set():
             texts = chosen.choices(self.given.others, k=20)
             if number:
-                made = "".join(f"INSERT INTO words(word) VALUES ({bindings.quoted(it)}) RETURNING id;\n" for it in texts)
+                made = "".join(f"INSERT INTO words(word) VALUES ({bindings_shared.quoted(it)}) RETURNING id;\n" for it in texts)
             else:
                 rows = [chosen.randint(1, len(self.given.lines)) for _ in texts]
                 self.asked.append(rows)
-                made = "".join(f"UPDATE words SET word = {bindings.quoted(it)} WHERE id = {row};\n" for it, row in zip(texts[1:], rows)) + f"DELETE FROM words WHERE id = {rows[-1]};\n"
+                made = "".join(f"UPDATE words SET word = {bindings_shared.quoted(it)} WHERE id = {row};\n" for it, row in zip(texts[1:], rows)) + f"DELETE FROM words WHERE id = {rows[-1]};\n"
             said, is_whole = self.store.tried(made)
             numbers = [int(it) for it in said.split()]
             with self.lock:
@@ -471,7 +472,7 @@ def postgresql_keys(work, given):
     """The keys of a table are taken to the new edition, while other connections write it."""
     # a server that is killed reads what it wrote since the last checkpoint
     more = "checkpoint_timeout = 30s\nmax_wal_size = 256MB\n"
-    with bindings.postgresql_server(work, *given.files[:2], editions=given.files[2:], more=more) as (server, _, settings):
+    with bindings_postgresql.postgresql_server(work, *given.files[:2], editions=given.files[2:], more=more) as (server, _, settings):
         store = Store(server)
         store.settings = settings
         blocks = statements("A new edition in PostgreSQL", given)
@@ -509,7 +510,7 @@ def postgresql_keys(work, given):
 def postgresql_separators(work, given):
     """Why PostgreSQL makes an index of texts again. The way of SQLite takes affected rows out and puts them back under the new order. Here it leaves
     deleted texts as separators between pages, in the old order. Then amcheck finds an error, and look-ups do not find each row."""
-    with bindings.postgresql_server(work, *given.files[:2], editions=given.files[2:]) as (server, says, settings):
+    with bindings_postgresql.postgresql_server(work, *given.files[:2], editions=given.files[2:]) as (server, says, settings):
         lines = "".join(f"{escaped(it)}\n" for it in given.lines)
         says(f"CREATE EXTENSION amcheck; CREATE TABLE names (name uca_text);\nCOPY names FROM STDIN;\n{lines}\\.\nCREATE INDEX by_name ON names (name);")
         amcheck, by_index = "SELECT bt_index_parent_check('by_name', true, true);", "SET enable_seqscan = off; SET enable_bitmapscan = off;"
@@ -545,7 +546,7 @@ PARTS = {"keys": sqlite_keys, "texts": sqlite_texts, "postgresql": postgresql_ke
 
 def main():
     parser = argparse.ArgumentParser(description=__doc__, formatter_class=argparse.RawDescriptionHelpFormatter)
-    parser.add_argument("--uca", default=f"{bindings.TOP}/crates/uca/out/uca", help="the program")
+    parser.add_argument("--uca", default=f"{bindings_shared.TOP}/crates/uca/out/uca", help="the program")
     parser.add_argument("--rows", type=int, default=ROWS, help="how many rows there are at the beginning")
     parser.add_argument("--kills", type=int, default=KILLS, help="how often each move is killed")
     parser.add_argument("parts", nargs="*", metavar="PART", help=", ".join(PARTS))
@@ -554,8 +555,8 @@ def main():
         parser.error(f"no part is named {', '.join(sorted(unknown))}: they are {', '.join(PARTS)}")
     packages.stop_without(NEEDS)
     os.environ["PGCTLTIMEOUT"] = "600"  # a server that was killed may start slowly
-    bindings.run(["make", "-s", "-C", bindings.C])
-    bindings.run(["make", "-s", "-C", f"{bindings.TOP}/bindings/sqlite"])
+    bindings_shared.run(["make", "-s", "-C", bindings_shared.C])
+    bindings_shared.run(["make", "-s", "-C", f"{bindings_shared.TOP}/bindings/sqlite"])
     with tempfile.TemporaryDirectory() as work:
         given = Given(editions.Folder(options.uca, work), options.rows, options.kills)
         for name in options.parts or PARTS:

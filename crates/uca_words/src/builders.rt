@@ -12,7 +12,7 @@ use clap::{Arg, ArgAction, Command};
 use std::alloc::{AllocError, Global};
 
 // What `--version` prints after the name: the version, the Unicode edition of the normalization, and the logic of the kit that proves it.
-// `tools/packaging.py` compares the logic with that of the machine's kit.
+// `tools/pages/packaging.py` compares the logic with that of the machine's kit.
 const VERSION: &str =
     "0.1.0 (normalization of Unicode 18.0.0, proved in Rattle's logic dac8208d650f15bf)";
 
