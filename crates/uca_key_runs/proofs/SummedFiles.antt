@@ -97,7 +97,7 @@ two_rejected A B table table_new data_file data_file_new fault over =
     two_summed {A = A} table table_new data_file data_file_new (λ content. ⊥) (Err fault) (λ content. ⊥) (λ t sum p other never. never)
     (ended_by_files A B table_and_data (table ∷ data_file ∷ []) (table_new ∷ data_file_new ∷ []) (λ content. ⊥) fault over)
 
--- the same of three files
+-- three files were read, or one of them is rejected
 module _ {X : Type 0} (table_of : X → TableContent) (properties_in : X → Properties) (book_in : X → Option BookContent) (sums_in : X → Option FileSums)
     (table table_new data_file data_file_new book book_new : SourceState) where
   pub three_read : (result : Result X RunFault) → IfOk result (λ x. is_some (sums_in x) ≡ false)

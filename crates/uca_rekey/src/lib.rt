@@ -1,6 +1,6 @@
-//! The runs over stored keys, which put other keys in their place: `run_rekey` puts them through the maps of a certificate,
-//! `run_compact` makes compact keys of them by a book, and `run_expand` makes keys of these again. Each may have a header before
-//! its lines.
+//! The runs over stored keys, which put other keys in their place. `run_rekey` puts them through the maps of a certificate,
+//! `run_compact` makes compact keys of them by a book, and `run_expand` makes keys of these again. A header may come before
+//! the lines.
 //!
 //! None reads a table. All three are one run, over whatever implements `ChangesKeys`. It makes each new line in a buffer of
 //! its own:

@@ -21,8 +21,8 @@ impl KeySizes {
         }
     }
 
-    /// The same sizes, of keys of this weighting at this depth. At an identical level nothing is said of them, since its code points take one to
-    /// four bytes in a compact key.
+    /// These sizes, as those of keys of this weighting at this depth. At an identical level nothing is said of them, since its code points
+    /// take one to four bytes in a compact key.
     pub fn at(&self, weighting: Weighting, depth: Depth) -> KeySizes {
         let levels = match (depth, weighting) {
             (Depth::Weights, Weighting::NonIgnorable) => 3,
@@ -38,9 +38,9 @@ impl KeySizes {
         self.compact = self.compact.saturating_add(compact as u64);
     }
 
-    /// Whether compact keys are longer than a book for their table and texts would make them: they have more than 1.3 times the bytes of the
-    /// first level of the keys. By a book that fits they have half as many bytes as it, by another one often one and a half times. Fewer than
-    /// 500 bytes of keys tell nothing.
+    /// Whether another book would make shorter compact keys. So it is where they have more than 1.3 times the bytes of the first level of
+    /// the keys. By a book for the table they have about half of these bytes, and by another one often one and a half times as many. Fewer
+    /// than 500 bytes of keys tell nothing.
     pub fn are_long(&self) -> bool {
         let compact = self.compact.saturating_mul(10).saturating_mul(self.levels);
         self.whole >= 500 && compact > self.whole.saturating_mul(13)
