@@ -28,8 +28,9 @@ struct DataAndChanges<A: Allocator> {
 
 /// Prints the lines of `input` that the changes affect, each with LF. So it is of a line if a changed text occurs in order in
 /// what is read of it, or a changed range has a code point of that. It is read in Normalization Form D. With numbers by value
-/// it has the code of each number in place of it. The data file and the file of changes are read first. The lines are as they are, and in their order. Under each accepted change with these texts and ranges the
-/// other lines keep their order among themselves. Texts in Normalization Form D are in `global`.
+/// it has the code of each number in place of it. The data file and the file of changes are read first. The lines are as they
+/// are, and in their order. Under each accepted change with these texts and ranges the other lines keep their order among
+/// themselves. Texts in Normalization Form D are in `global`.
 ///
 /// # Errors
 ///
