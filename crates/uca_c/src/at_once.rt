@@ -12,11 +12,7 @@ use std::cmp::Ordering;
 
 /// The order of two texts of at most 32 bytes. There is no result for others, and where it is not told at once.
 #[inline(always)]
-pub(crate) fn order_at_once(
-    collator: &mut Slot,
-    left: &[u8],
-    right: &[u8],
-) -> Option<Ordering>
+pub(crate) fn order_at_once(collator: &mut Slot, left: &[u8], right: &[u8]) -> Option<Ordering>
     requires { collator.old.full ≡ true }
     ensures compared { IfSome result (λ order.
         let answer = bytes_compared (keying_at (collator_in collator.old)) left.now right.now in (order ≡ answer.order) × (1 ≡ answer.level)) }

@@ -139,12 +139,7 @@ pub extern "C" fn uca_key(
 
 // Compares any two texts by an open collator, without keys. A short text is equal to itself by any collator.
 #[inline(never)]
-fn compare_any(
-    collator: &mut Slot,
-    left: &[u8],
-    right: &[u8],
-    comparison: &mut Comparison,
-) -> u32
+fn compare_any(collator: &mut Slot, left: &[u8], right: &[u8], comparison: &mut Comparison) -> u32
     requires { collator.old.full ≡ true }
     ensures ok { result ≡ OK → IsComparison (bytes_compared (keying_at (collator_in collator.old)) left.now right.now)
         comparison.new.order comparison.new.level }
@@ -195,12 +190,7 @@ fn compare_longer(
 // What `compare_any` does. It asks first for the order by the first bytes that differ, of two texts of at most fifteen
 // bytes. All else is in a function that it calls last, so no value is kept across a call.
 #[inline(never)]
-fn compare_open(
-    collator: &mut Slot,
-    left: &[u8],
-    right: &[u8],
-    comparison: &mut Comparison,
-) -> u32
+fn compare_open(collator: &mut Slot, left: &[u8], right: &[u8], comparison: &mut Comparison) -> u32
     requires { collator.old.full ≡ true }
     ensures ok { result ≡ OK → IsComparison (bytes_compared (keying_at (collator_in collator.old)) left.now right.now)
         comparison.new.order comparison.new.level }
@@ -271,12 +261,7 @@ fn order_any(collator: &mut Slot, left: &[u8], right: &[u8], order: &mut i32) ->
 
 // What `order_any` does, as `compare_longer` does what `compare_any` does.
 #[inline(never)]
-fn order_longer(
-    collator: &mut Slot,
-    left: &[u8],
-    right: &[u8],
-    order: &mut i32,
-) -> u32
+fn order_longer(collator: &mut Slot, left: &[u8], right: &[u8], order: &mut i32) -> u32
     requires { collator.old.full ≡ true }
     ensures ok { result ≡ OK → IsOrderNumber (keying_at (collator_in collator.old)) left.now right.now order.new }
     ensures statuses { (result ≡ OK) ⊎ (result ≡ MEMORY) }
@@ -323,12 +308,7 @@ fn order_open(collator: &mut Slot, left: &[u8], right: &[u8], order: &mut i32) -
 
 /// Orders two byte strings: accepted texts in their order, and all other bytes after them, in the order of bytes.
 #[unsafe(no_mangle)]
-pub extern "C" fn uca_order(
-    collator: &mut Slot,
-    left: &[u8],
-    right: &[u8],
-    order: &mut i32,
-) -> u32
+pub extern "C" fn uca_order(collator: &mut Slot, left: &[u8], right: &[u8], order: &mut i32) -> u32
     ensures closed { (result ≡ CLOSED) ↔ (collator.old.full ≡ false) }
     ensures ok { result ≡ OK → IsOrderNumber (keying_at (collator_in collator.old)) left.now right.now order.new }
     ensures statuses { collator.old.full ≡ true → (result ≡ OK) ⊎ (result ≡ MEMORY) }

@@ -38,11 +38,7 @@ pub extern "C" fn uca_key_beginning(
 
 /// Tells how many bytes the key of a text of at most `length` bytes has at most.
 #[unsafe(no_mangle)]
-pub extern "C" fn uca_key_bound(
-    collator: &mut Slot,
-    length: usize,
-    bound: &mut usize,
-) -> u32
+pub extern "C" fn uca_key_bound(collator: &mut Slot, length: usize, bound: &mut usize) -> u32
     ensures closed { (result ≡ CLOSED) ↔ (collator.old.full ≡ false) }
     ensures statuses { (result ≡ OK) ⊎ (result ≡ CLOSED) }
     ensures ok { result ≡ OK →
@@ -64,11 +60,7 @@ pub extern "C" fn uca_key_bound(
 /// Tells whether a text is accepted, and where it is rejected. That is a byte where it is not UTF-8, or a code point where
 /// a long run of non-starters begins.
 #[unsafe(no_mangle)]
-pub extern "C" fn uca_check_text(
-    collator: &mut Slot,
-    text: &[u8],
-    position: &mut usize,
-) -> u32
+pub extern "C" fn uca_check_text(collator: &mut Slot, text: &[u8], position: &mut usize) -> u32
     ensures closed { (result ≡ CLOSED) ↔ (collator.old.full ≡ false) }
     ensures judged { collator.old.full ≡ true → IsJudged (keying_at (collator_in collator.old)) text.now result position.new }
     ensures none { collator.old.full ≡ false → position.new ≡ 0 }

@@ -76,11 +76,7 @@ pub extern "C" fn uca_open_upgrade(
 
 /// Tells whether the key of a text has to be made anew.
 #[unsafe(no_mangle)]
-pub extern "C" fn uca_affected(
-    upgrade: &mut UpgradeSlot,
-    text: &[u8],
-    affected: &mut u32,
-) -> u32
+pub extern "C" fn uca_affected(upgrade: &mut UpgradeSlot, text: &[u8], affected: &mut u32) -> u32
     ensures closed { (result ≡ CLOSED) ↔ (upgrade.old.full ≡ false) }
     ensures ok { result ≡ OK → affected.new ≡ (if is_affected_in (upgrade_in upgrade.old) text.now then 1 else 0) }
     ensures rejected { upgrade.old.full ≡ true → IsTextStatus (upgrade_in upgrade.old) text.now result }
@@ -122,10 +118,7 @@ pub extern "C" fn uca_rekey(
 
 /// Makes the new key of an old key in its place.
 #[unsafe(no_mangle)]
-pub extern "C" fn uca_rekey_in_place(
-    upgrade: &mut UpgradeSlot,
-    key: &mut [u8],
-) -> u32
+pub extern "C" fn uca_rekey_in_place(upgrade: &mut UpgradeSlot, key: &mut [u8]) -> u32
     ensures closed { (result ≡ CLOSED) ↔ (upgrade.old.full ≡ false) }
     ensures ok { result ≡ OK → IsRekeyed (upgrade_in upgrade.old) key.old key.new }
     ensures no_image { result ≡ NO_IMAGE → rekeyed_in (upgrade_in upgrade.old) key.old ≡ None }

@@ -8,15 +8,15 @@ pub returns-in-Ok-clause-only : goal.returns-in-Ok-clause-only
 returns-in-Ok-clause-only c asked meant properties content closed asks means =
     let found = c.in-Ok.ensures.only asked meant properties content asks means in
     elim c.keep.ensures.statuses [
-      inl is ↦ inl (is, ap keying_at (c.keep.ensures.value is) ∙ found.0, ap (λ (s : OpenState). s.book) (c.keep.ensures.value is) ∙ found.1)
-    | inr is ↦ inr (inl (inl (inl is)))
+      | inl is ↦ inl (is, ap keying_at (c.keep.ensures.value is) ∙ found.0, ap (λ (s : OpenState). s.book) (c.keep.ensures.value is) ∙ found.1)
+      | inr is ↦ inr (inl (inl (inl is)))
     ]
 
 pub returns-in-Ok-clause-rejected : goal.returns-in-Ok-clause-rejected
 returns-in-Ok-clause-rejected c not_ok _ =
     elim c.keep.ensures.statuses [
-      inl is ↦ absurd (not_ok is)
-    | inr is ↦ inl (inl (inr (inr (inr (
+      | inl is ↦ absurd (not_ok is)
+      | inr is ↦ inl (inl (inr (inr (inr (
         is,
         read_of c.args.weighting c.args.depth c.args.table.now c.args.data_file.now (keying_at c.in-Ok.opened) c.in-Ok.ensures.found,
         c.in-Ok.ensures.no_error,
