@@ -1,7 +1,7 @@
 -- `held` lends what an open handle holds, and the handle follows it.
 use mathlib.Core.Path.{◌≡◌, refl, sym, ap, ◌∙◌}
 use mathlib.Core.Bool.{Bool, true}
-use mathlib.Core.List.{List, [], ◌∷◌, ◌++◌}
+use mathlib.Core.List.{List, [], ◌∷◌}
 use Prim.Native.Nat.{ℕ}
 use seplogic.Ra.Ura.{Ura}
 use base.Fraction.{full_share}
@@ -24,12 +24,11 @@ use types.ByLocal.{alloc_all, pass_all, free_all, look_at, get, through, sets, e
 use denote.Exit.{no}
 use denote.Follow.{follows, Part, lends_Part}
 use denote.Memory.{part_at, mem, cell_at, part_of}
-use denote.RattleType.{RattleType, owns}
+use denote.RattleType.{owns}
 use denote.RawPtr.{Ptr, block_ptr}
 use denote.Ref.{MutRef, MutBor, mut_vals, mut_Tells}
 use denote.Signature.{plain, mut_ref_to}
 use denote.Steps.{nothing, heard, opens}
-use denote.Triple.Clauses.{Clauses}
 use denote.Triple.Entry.{on_entry}
 use denote.Triple.Spec.{Meets, triple_of}
 use denote.Triple.Table.{entered}
