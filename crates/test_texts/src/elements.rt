@@ -71,6 +71,7 @@ fn check_end<L: Lookup>(alloc: Global, collator: &Collator<L>) -> Result<(), Fai
     let first = elements.next().is_some();
     let second = elements.next().is_some();
     let third = elements.next().is_some();
+    drop(text);
     holds(
         [first, second, third] == [true, false, false],
         "one element, and no more",

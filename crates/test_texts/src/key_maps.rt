@@ -38,10 +38,20 @@ fn check_positions(alloc: Global, keys: &KeyMap, cases: &str) -> Result<(), Fail
     Ok(())
 }
 
+/// Cases over the keys of a table.
+fn check_keys(alloc: Global, table: &Table, cases: &str) -> Result<(), Fail> {
+    let keys = map_of(alloc, table)?;
+    let checked = check_positions(alloc, &keys, cases);
+    drop(keys);
+    checked
+}
+
 /// Cases over the keys of a table file.
 fn check(alloc: Global, file: &str, cases: &str) -> Result<(), Fail> {
     let table = table_of(alloc, file)?;
-    check_positions(alloc, &map_of(alloc, &table)?, cases)
+    let checked = check_keys(alloc, &table, cases);
+    drop(table);
+    checked
 }
 
 const NO_KEYS: &str = "@version 1\n";
@@ -273,6 +283,7 @@ fn check_end(alloc: Global, keys: &KeyMap, data: &Data) -> Result<(), Fail> {
     let first = matches.next().is_some();
     let second = matches.next().is_some();
     let third = matches.next().is_some();
+    drop(text);
     holds(
         [first, second, third] == [true, false, false],
         "one match, and no more",
@@ -287,19 +298,35 @@ fn check_cases(alloc: Global, keys: &KeyMap, data: &Data, cases: &str) -> Result
     check_end(alloc, keys, data)
 }
 
+/// Cases over the keys of a table.
+fn check_texts(alloc: Global, data: &Data, table: &Table, cases: &str) -> Result<(), Fail> {
+    let keys = map_of(alloc, table)?;
+    let checked = check_cases(alloc, &keys, data, cases);
+    drop(keys);
+    checked
+}
+
 /// Cases over the keys of a table file.
 fn check_matches(alloc: Global, data: &Data, file: &str, cases: &str) -> Result<(), Fail> {
     let table = table_of(alloc, file)?;
-    check_cases(alloc, &map_of(alloc, &table)?, data, cases)
+    let checked = check_texts(alloc, data, &table, cases);
+    drop(table);
+    checked
 }
 
 /// If there are no keys, each code point is matched alone.
 const UNMATCHED: &str = r" |
 00E1 0062 | U+0061 U+0301 U+0062";
 
+fn check_all_matches(alloc: Global, data: &Data) -> Result<(), Fail> {
+    check_matches(alloc, data, KEYS, MATCHED)?;
+    check_matches(alloc, data, NO_KEYS, UNMATCHED)
+}
+
 #[test]
 fn matches_texts(rt: HostRuntime) -> Result<(), Fail> {
     let data = data_of(rt.alloc(), CLASSES)?;
-    check_matches(rt.alloc(), &data, KEYS, MATCHED)?;
-    check_matches(rt.alloc(), &data, NO_KEYS, UNMATCHED)
+    let checked = check_all_matches(rt.alloc(), &data);
+    drop(data);
+    checked
 }

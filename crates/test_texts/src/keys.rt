@@ -102,6 +102,18 @@ fn check_written<L: Lookup>(
     same_bytes(alloc, buffer.bytes(), wanted, "a key in a buffer")
 }
 
+fn check_text<L: Lookup>(
+    alloc: Global,
+    collator: &Collator<L>,
+    settings: Settings,
+    buffer: &mut KeyBuffer,
+    text: &Normal,
+    wanted: &str,
+) -> Result<(), Fail> {
+    check_made(alloc, collator, settings, text, wanted)?;
+    check_written(alloc, collator, buffer, text, wanted)
+}
+
 fn check_key<L: Lookup>(
     alloc: Global,
     collator: &Collator<L>,
@@ -111,8 +123,9 @@ fn check_key<L: Lookup>(
     wanted: &str,
 ) -> Result<(), Fail> {
     let text = normal_of(alloc, points, collator.data)?;
-    check_made(alloc, collator, settings, &text, wanted)?;
-    check_written(alloc, collator, buffer, &text, wanted)
+    let checked = check_text(alloc, collator, settings, buffer, &text, wanted);
+    drop(text);
+    checked
 }
 
 /// Canonically equivalent texts with ` = ` between them, and their key.
@@ -145,6 +158,19 @@ fn check_case<L: Lookup>(
     }
 }
 
+fn check_lines<L: Lookup>(
+    alloc: Global,
+    collator: &Collator<L>,
+    settings: Settings,
+    buffer: &mut KeyBuffer,
+    cases: &str,
+) -> Result<(), Fail> {
+    for case in cases.lines() {
+        check_case(alloc, collator, settings, buffer, case)?;
+    }
+    Ok(())
+}
+
 /// Cases of texts and their keys at a depth.
 #[derive(Clone, Copy)]
 struct Keys<'a> {
@@ -152,20 +178,29 @@ struct Keys<'a> {
     cases: &'a str,
 }
 
+impl<'a> Keys<'a> {
+    fn check_under<L: Lookup>(
+        &self,
+        alloc: Global,
+        collator: &Collator<L>,
+        weighting: Weighting,
+    ) -> Result<(), Fail> {
+        let settings = Settings {
+            weighting,
+            depth: self.depth,
+            numbers: Numbers::AsText,
+        };
+        let mut buffer = KeyBuffer::new(alloc, weighting, self.depth);
+        let checked = check_lines(alloc, collator, settings, &mut buffer, self.cases);
+        drop(buffer);
+        checked
+    }
+}
+
 impl<'a> Check for Keys<'a> {
     fn check<L: Lookup>(&self, alloc: Global, collator: &Collator<L>) -> Result<(), Fail> {
-        for weighting in [NonIgnorable, Shifted] {
-            let settings = Settings {
-                weighting,
-                depth: self.depth,
-                numbers: Numbers::AsText,
-            };
-            let mut buffer = KeyBuffer::new(alloc, weighting, self.depth);
-            for case in self.cases.lines() {
-                check_case(alloc, collator, settings, &mut buffer, case)?;
-            }
-        }
-        Ok(())
+        self.check_under(alloc, collator, NonIgnorable)?;
+        self.check_under(alloc, collator, Shifted)
     }
 }
 

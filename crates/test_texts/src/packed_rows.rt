@@ -47,22 +47,33 @@ fn check_rows(alloc: Global, rows: &PackedRows, cases: &[&str]) -> Result<(), Fa
     Ok(())
 }
 
+/// The first two rows, the last one, and all.
+const FIRST: &[&str] = &["0061 | 0001", "0061 0062 0063 | 0002 0003"];
+
+const LAST: &[&str] = &["0064 | 0004 0005 0006"];
+
+const ALL: &[&str] = &[
+    "0061 | 0001",
+    "0061 0062 0063 | 0002 0003",
+    "0064 | 0004 0005 0006",
+];
+
+fn check_all(alloc: Global, rows: &mut PackedRows) -> Result<(), Fail> {
+    check_rows(alloc, rows, &[])?;
+    push_rows(alloc, rows, ALL)?;
+    check_rows(alloc, rows, ALL)?;
+    rows.truncate(4);
+    check_rows(alloc, rows, ALL)?;
+    rows.truncate(2);
+    check_rows(alloc, rows, FIRST)?;
+    push_rows(alloc, rows, LAST)?;
+    check_rows(alloc, rows, ALL)
+}
+
 #[test]
 fn keeps_keys_and_elements_apart(rt: HostRuntime) -> Result<(), Fail> {
-    let first = ["0061 | 0001", "0061 0062 0063 | 0002 0003"];
-    let all = [
-        "0061 | 0001",
-        "0061 0062 0063 | 0002 0003",
-        "0064 | 0004 0005 0006",
-    ];
     let mut rows = PackedRows::new(rt.alloc());
-    check_rows(rt.alloc(), &rows, &[])?;
-    push_rows(rt.alloc(), &mut rows, &all)?;
-    check_rows(rt.alloc(), &rows, &all)?;
-    rows.truncate(4);
-    check_rows(rt.alloc(), &rows, &all)?;
-    rows.truncate(2);
-    check_rows(rt.alloc(), &rows, &first)?;
-    push_rows(rt.alloc(), &mut rows, &["0064 | 0004 0005 0006"])?;
-    check_rows(rt.alloc(), &rows, &all)
+    let checked = check_all(rt.alloc(), &mut rows);
+    drop(rows);
+    checked
 }

@@ -47,7 +47,9 @@ fn over_rows<C: Check>(alloc: Global, table: &Table, data: &Data, cases: &C) -> 
 
 fn over_trie<C: Check>(alloc: Global, table: &Table, data: &Data, cases: &C) -> Result<(), Fail> {
     let trie = Trie::new(alloc, table)?;
-    cases.check(alloc, &Collator::new(&trie, &table.header, data))
+    let checked = cases.check(alloc, &Collator::new(&trie, &table.header, data));
+    drop(trie);
+    checked
 }
 
 fn over_values<C: Check>(alloc: Global, table: &Table, data: &Data, cases: &C) -> Result<(), Fail> {

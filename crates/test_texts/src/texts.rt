@@ -56,20 +56,56 @@ fn check_spelling(
     same(&spelling(alloc, renewed)?, wanted, case)
 }
 
-#[test]
-fn spells_texts(rt: HostRuntime) -> Result<(), Fail> {
-    canonically_equivalent_texts_are_normalized_alike();
-    let data = data_of(rt.alloc(), CLASSES)?;
-    let mut renewed = Normal::new(rt.alloc());
-    same(&spelling(rt.alloc(), &renewed)?, "", "new")?;
+fn check_spellings(alloc: Global, data: &Data, renewed: &mut Normal) -> Result<(), Fail> {
+    same(&spelling(alloc, renewed)?, "", "new")?;
     for case in SPELLED.lines() {
-        check_spelling(rt.alloc(), &data, &mut renewed, case)?;
+        check_spelling(alloc, data, renewed, case)?;
     }
     Ok(())
 }
 
+/// What is done with a text that was made for it.
+#[derive(Clone, Copy)]
+enum Trial {
+    Spelled,
+    Refused,
+    Copied,
+    Printed,
+}
+
+fn check_text(alloc: Global, data: &Data, text: &mut Normal, trial: Trial) -> Result<(), Fail> {
+    match trial {
+        Trial::Spelled => check_spellings(alloc, data, text),
+        Trial::Refused => check_refused(alloc, data, text),
+        Trial::Copied => check_copy(alloc, data, text),
+        Trial::Printed => check_printed(alloc, data, text),
+    }
+}
+
+fn check_over(alloc: Global, data: &Data, trial: Trial) -> Result<(), Fail> {
+    let mut text = Normal::new(alloc);
+    let checked = check_text(alloc, data, &mut text, trial);
+    drop(text);
+    checked
+}
+
+/// Makes a text, and lends it to what is done with it.
+fn check_new(alloc: Global, trial: Trial) -> Result<(), Fail> {
+    let data = data_of(alloc, CLASSES)?;
+    let checked = check_over(alloc, &data, trial);
+    drop(data);
+    checked
+}
+
+#[test]
+fn spells_texts(rt: HostRuntime) -> Result<(), Fail> {
+    canonically_equivalent_texts_are_normalized_alike();
+    check_new(rt.alloc(), Trial::Spelled)
+}
+
 /// A text that is rejected is empty afterwards, and can take another.
 fn check_refused(alloc: Global, data: &Data, text: &mut Normal) -> Result<(), Fail> {
+    text.renew("b", data)?;
     let marks = with_repeated(alloc, "ab", '\u{301}', 65)?;
     holds(
         text.renew(&marks, data) == Err(TextFault::LongRun(2)),
@@ -82,9 +118,7 @@ fn check_refused(alloc: Global, data: &Data, text: &mut Normal) -> Result<(), Fa
 
 #[test]
 fn takes_texts_after_a_refused_one(rt: HostRuntime) -> Result<(), Fail> {
-    let data = data_of(rt.alloc(), CLASSES)?;
-    let mut text = normal(rt.alloc(), "b", &data)?;
-    check_refused(rt.alloc(), &data, &mut text)
+    check_new(rt.alloc(), Trial::Refused)
 }
 
 /// How a copy of a text is spelled after the text is renewed.
@@ -99,6 +133,7 @@ fn copied(alloc: Global, data: &Data, text: &mut Normal) -> Result<String, Fail>
 
 /// A copy of a text stays as it is if the text is renewed.
 fn check_copy(alloc: Global, data: &Data, text: &mut Normal) -> Result<(), Fail> {
+    text.renew("\u{e1}b", data)?;
     let found = copied(alloc, data, text)?;
     same(&found, "0061.0 0301.230 0062.0", "copied")?;
     same(&spelling(alloc, text)?, "0323.220", "renewed")
@@ -106,20 +141,20 @@ fn check_copy(alloc: Global, data: &Data, text: &mut Normal) -> Result<(), Fail>
 
 #[test]
 fn a_copy_stays_as_it_is(rt: HostRuntime) -> Result<(), Fail> {
-    let data = data_of(rt.alloc(), CLASSES)?;
-    let mut text = Normal::new(rt.alloc());
-    text.renew("\u{e1}b", &data)?;
-    check_copy(rt.alloc(), &data, &mut text)
+    check_new(rt.alloc(), Trial::Copied)
+}
+
+/// The code points that a text had are left in spare memory, and not printed.
+fn check_printed(alloc: Global, data: &Data, text: &mut Normal) -> Result<(), Fail> {
+    text.renew("\u{e1}", data)?;
+    text.renew("ab", data)?;
+    let wanted = "Normal { chars: ['a', 'b'], classes: [0, 0] }";
+    same(&format!(in alloc; "{text:?}")?, wanted, "printed")
 }
 
 #[test]
 fn prints_texts_without_spare_memory(rt: HostRuntime) -> Result<(), Fail> {
-    let data = data_of(rt.alloc(), CLASSES)?;
-    // The code points that it had are left in spare memory.
-    let mut text = normal(rt.alloc(), "\u{e1}", &data)?;
-    text.renew("ab", &data)?;
-    let wanted = "Normal { chars: ['a', 'b'], classes: [0, 0] }";
-    same(&format!(in rt.alloc(); "{text:?}")?, wanted, "printed")
+    check_new(rt.alloc(), Trial::Printed)
 }
 
 /// A text, and then a character this many times.
@@ -163,12 +198,18 @@ fn check_limit(alloc: Global, data: &Data, case: &str) -> Result<(), Fail> {
     same(&said(alloc, &text, data)?, wanted, case)
 }
 
-fn check_limits(alloc: Global, cases: &str) -> Result<(), Fail> {
-    let data = data_of(alloc, CLASSES)?;
+fn check_limits_over(alloc: Global, data: &Data, cases: &str) -> Result<(), Fail> {
     for case in cases.lines() {
-        check_limit(alloc, &data, case)?;
+        check_limit(alloc, data, case)?;
     }
     Ok(())
+}
+
+fn check_limits(alloc: Global, cases: &str) -> Result<(), Fail> {
+    let data = data_of(alloc, CLASSES)?;
+    let checked = check_limits_over(alloc, &data, cases);
+    drop(data);
+    checked
 }
 
 const RUNS: &str = r"0061 | 0301 x 64 | 65
