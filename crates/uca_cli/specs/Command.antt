@@ -1,6 +1,6 @@
 -- What the whole command does: it reads its arguments, opens the files that they name in their order, runs over them,
 -- and ends with a status.
-use Rattle.std.specs.Prelude.{◌≡◌, ◌≢◌, ◌⊎◌, ◌<◌, ℕ, List, [], ◌∷◌, ◌||◌, Bool, true, false, Option, Some, None, Result, Ok, Err, IfErr, is_err, is_some, length, option_map, unwrap_or}
+use Rattle.std.specs.Prelude.{◌≡◌, ◌⊎◌, ◌<◌, ℕ, List, [], ◌∷◌, ◌||◌, Bool, true, false, Option, Some, None, Result, Ok, Err, IfErr, is_err, is_some, length, option_map, unwrap_or}
 use Rattle.std.specs.Borrow.{Bor}
 use Rattle.std.specs.Global.{Global}
 use Rattle.uca_weights.specs.declared.Asked.{Asked}
@@ -38,7 +38,7 @@ use Rattle.uca_run_parts.specs.declared.faults.Role.{Role}
 use Rattle.uca_run_parts.specs.declared.faults.Role.TheVariants as roles
 use Rattle.uca_run_parts.specs.declared.faults.RunFault.{RunFault}
 use Rattle.uca_run_parts.specs.declared.key_sizes.KeySizes.{KeySizes}
-use Rattle.uca_run_parts.specs.declared.faults.RunFault.TheVariants.{CertificateWrite, Memory, Open, SameAs, Words, Write}
+use Rattle.uca_run_parts.specs.declared.faults.RunFault.TheVariants.{Open, SameAs, Words, Write}
 use Rattle.uca_run_parts.specs.CheckRun.{Checks}
 use Rattle.uca_key_runs.specs.CompareRun.{Compares, comparing}
 use Rattle.uca_key_runs.specs.KeysRun.{PrintsKeysAs}

@@ -1,20 +1,20 @@
 //! The subcommands that put other keys in place of stored keys by a book: `compact` and `expand`. And `book`, which prints a
 //! book for keys of a new edition.
 
-ghost use Rattle.std.specs.Prelude.{◌∷◌, []};
-ghost use Rattle.uca_cli.specs.Command.{DoesBook, DoesCompact, DoesExpand, streams};
+ghost use Rattle.std.specs.Prelude.{◌≡◌, ◌∷◌, []};
+ghost use Rattle.uca_cli.specs.Command.{DoesBook, DoesCompact, DoesExpand, done_result, streams};
 ghost use Rattle.uca_host.specs.NamedFiles.{file_system};
 
 use crate::statuses::done;
 use std::alloc::Global;
 use std::io::{Read, Write};
 use uca_book_runs::run_book;
-use uca_host::Opens;
 use uca_host::files::opening::{open_one, open_two};
+use uca_host::{DONE, Opens};
 use uca_rekey::{run_compact, run_expand};
 use uca_run_parts::KeySizes;
 use uca_run_parts::faults::{Role, RunFault};
-use uca_weights::{Sink, Source, Weighting};
+use uca_weights::{Depth, Sink, Source, Weighting};
 use uca_words::{BookImageWords, BookWords};
 
 pub(crate) fn compact<O: Opens, I: Read, W: Write>(
@@ -40,12 +40,27 @@ pub(crate) fn compact<O: Opens, I: Read, W: Write>(
                 words.depth,
                 words.keys,
             );
-            if let Ok(made) = &run {
-                *sizes = made.at(weighting, words.depth);
-            }
-            done(run)
+            counted(run, sizes, weighting, words.depth)
         }
         Err(role) => Err(RunFault::Open(role)),
+    }
+}
+
+// The status of a run of `compact`. `sizes` gets the bytes of the keys and of their compact keys.
+fn counted(
+    run: Result<KeySizes, RunFault>,
+    sizes: &mut KeySizes,
+    weighting: Weighting,
+    depth: Depth,
+) -> Result<u8, RunFault>
+    ensures { result ≡ done_result run }
+{
+    match run {
+        Ok(made) => {
+            *sizes = made.at(weighting, depth);
+            Ok(DONE)
+        }
+        Err(fault) => Err(fault),
     }
 }
 
