@@ -117,7 +117,8 @@ def postgresql(work):
         same(says(f"{used} {written}", fails=True), OTHER_FILES, "another fingerprint in the same transaction")
         same(says(f"{used} COMMIT; INSERT INTO words VALUES ('b'); SELECT word FROM words ORDER BY uca_key(word);"),
              "a\ná\nb\nc-h\nch\n", "files that are used from now on")
-        says("ALTER EXTENSION uca DROP FUNCTION uca_use_files(boolean); DROP FUNCTION uca_use_files(boolean);"
+        earlier = ("uca_use_language(text, boolean)", "uca_use_files(boolean)")
+        says("".join(f"ALTER EXTENSION uca DROP FUNCTION {it}; DROP FUNCTION {it};" for it in earlier) +
              "ALTER TABLE uca_files ALTER fingerprint TYPE bytea USING decode(fingerprint, 'hex');")
         same(says("SELECT uca_key('a');", fails=True), "ERROR:  uca: this database has the extension of an earlier version", "a table that was made before")
 
