@@ -1,7 +1,7 @@
 #!/usr/bin/env python3
 """Measures calls of the library for C beside ICU4C, and sorting in SQLite and PostgreSQL beside ICU4C's collation.
 
-    tools/build.py uca_c uca_run && make -C bindings/c
+    tools/build.py uca_c uca_command_in_memory && make -C bindings/c
     bench/bindings.py [TABLE DATA LINES ..]          a table, a data file, and files of lines
 
 With no arguments the table and the data file are Unicode's, and the lines are 100,000 words of nine languages, as in tests/by_hand/bindings.py.

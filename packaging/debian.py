@@ -328,7 +328,7 @@ def make(names, out):
     os.umask(0o022)
     made.stop_without("gcc", "make", "binutils", "dpkg-dev")
     has_library = {*names} != {"uca"}
-    made.build(*(["uca"] if "uca" in names else []), *(["uca_c", "uca_run"] if has_library else []))
+    made.build(*(["uca"] if "uca" in names else []), *(["uca_c", "uca_command_in_memory"] if has_library else []))
     os.makedirs(out, exist_ok=True)
     with tempfile.TemporaryDirectory(prefix="uca-debian-") as work:
         bindings = made.copy_of_bindings(work) if has_library else ""

@@ -18,7 +18,7 @@ RELEASED = datetime.datetime(2026, 11, 28, 12, tzinfo=datetime.timezone.utc)
 SECONDS = int(RELEASED.timestamp())
 
 LICENSES = ["LICENSE", "LICENSE-MIT", "LICENSE-APACHE", "NOTICE"]
-PROGRAM, ARCHIVES = "crates/uca/out/uca", ["crates/uca_c/out/libuca_c.a", "crates/uca_run/out/libuca_run.a"]
+PROGRAM, ARCHIVES = "crates/uca/out/uca", ["crates/uca_c/out/libuca_c.a", "crates/uca_command_in_memory/out/libuca_command_in_memory.a"]
 
 # Debian's packages, by a command or a file that each brings.
 BRINGS = {

@@ -25,7 +25,7 @@ def make(out):
     if not shutil.which("cargo"):
         print("install cargo first", file=sys.stderr)
         sys.exit(2)
-    made.build("uca_c", "uca_run")
+    made.build("uca_c", "uca_command_in_memory")
     with tempfile.TemporaryDirectory(prefix="uca-crate-") as work:
         bindings = made.copy_of_bindings(work)
         crate = f"{bindings}/rust"

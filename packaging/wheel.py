@@ -43,7 +43,7 @@ def make(out):
     os.umask(0o022)
     made.stop_without("gcc", "make", "binutils")
     python = python_with_setuptools()
-    made.build("uca_c", "uca_run")
+    made.build("uca_c", "uca_command_in_memory")
     with tempfile.TemporaryDirectory(prefix="uca-wheel-") as work:
         bindings = made.copy_of_bindings(work)
         for name in made.LICENSES:

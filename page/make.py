@@ -5,7 +5,7 @@
     page/make.py modules              the WebAssembly modules alone; also `files` (Unicode's files), and `languages`
     page/make.py languages sv de zh   these languages alone; --jobs N makes N of them side by side
 
-The modules come from the crate uca_run. The kit proves it, and makes an LLVM module of it for x86-64. This script compiles that module once more, for WebAssembly,
+The modules come from the crate uca_command_in_memory. The kit proves it, and makes an LLVM module of it for x86-64. This script compiles that module once more, for WebAssembly,
 and links it with heap.c. No proof covers these last two steps: the script prints what is trusted in them, and docs/PAGE.md says more. `uca.wasm` has 64-bit
 addresses. `uca32.wasm` is for other browsers, and is made where Debian's binaryen is there (`wasm-opt`).
 
@@ -91,19 +91,19 @@ def keeping_toolchain(kit_at, folder):
 
 
 def proved_module(kit_at, folder):
-    """Proves the crate uca_run from nothing and builds it. Returns the LLVM module that it was built from."""
+    """Proves the crate uca_command_in_memory from nothing and builds it. Returns the LLVM module that it was built from."""
     rt = kit.opened("crates", "lanes", "machine", instead="page/make.py needs it")
     if not rt:
         sys.exit("this kit is not as tools/kit.py knows it")
-    crate = rt.crates["uca_run"]
+    crate = rt.crates["uca_command_in_memory"]
     keeping_toolchain(kit_at, folder)
     if crate.below() and not build.build(rt, crate.below()):
-        sys.exit("a crate below uca_run is not proved")
+        sys.exit("a crate below uca_command_in_memory is not proved")
     made = build.Builder(rt, [crate])
     crate.toolchain = folder
     with rt.held([crate]):
         if not made.prove(crate, made.processes(crate, {it.name: True for it in crate.below()})):
-            sys.exit("the crate uca_run is not proved")
+            sys.exit("the crate uca_command_in_memory is not proved")
     return f"{folder}/module.bc"
 
 

@@ -13,7 +13,7 @@ import unittest
 from program import TOP
 
 C = f"{TOP}/bindings/c"
-ARCHIVES = [f"{TOP}/crates/{it}/out/lib{it}.a" for it in ("uca_c", "uca_run")]
+ARCHIVES = [f"{TOP}/crates/{it}/out/lib{it}.a" for it in ("uca_c", "uca_command_in_memory")]
 
 # Types of the crates and of C. A `Global` stands for the allocator, of which C knows nothing.
 NUMBERS = {"u8": "uint8_t", "u32": "uint32_t", "i32": "int32_t", "usize": "size_t", "bool": "bool", "*mut u8": "void *"}
@@ -100,7 +100,7 @@ def snake(name):
 class Header(unittest.TestCase):
     def test_calls(self):
         """Names, results, and the names, types and order of the parameters."""
-        code = sources("uca_c", "uca_run")
+        code = sources("uca_c", "uca_command_in_memory")
         exported = re.findall(r'^#\[unsafe\(no_mangle\)\]\npub extern "C" fn (\w+)\((.*?)\)(?: -> (\w+))?\s+(?:ensures|\{)', code, re.M | re.S)
         declared = {name: (result, given.split(", ")) for result, name, given in re.findall(r"(\w+) (uca_\w+)\(([^()]*)\);", header())}
         self.assertEqual(len(exported), code.count("no_mangle"))
@@ -115,19 +115,19 @@ class Header(unittest.TestCase):
 
     def test_structs(self):
         """The types and the order of the members."""
-        code = sources("uca_c", "uca_run")
+        code = sources("uca_c", "uca_command_in_memory")
         for name, in_c in STRUCTS.items():
             with self.subTest(struct=in_c):
                 declared = re.search(rf"typedef struct {in_c} \{{ (.*?) \}} {in_c};", header())[1]
                 self.assertEqual(declared, fields_of(code, name))
 
     def test_statuses(self):
-        constants = {crate: re.findall(r"^pub const (\w+): u32 = (\d+);$", text_of(f"{TOP}/crates/{crate}/src/statuses.rt"), re.M) for crate in ("uca_c", "uca_run")}
+        constants = {crate: re.findall(r"^pub const (\w+): u32 = (\d+);$", text_of(f"{TOP}/crates/{crate}/src/statuses.rt"), re.M) for crate in ("uca_c", "uca_command_in_memory")}
         self.assertEqual({f"UCA_{name}": int(it) for name, it in constants["uca_c"]}, enumeration("uca_status"))
         of_runs = enumeration("uca_run_status")
         # a status of the header's own functions, which no call returns
         self.assertGreater(of_runs.pop("UCA_RUN_SMALL"), max(of_runs.values()))
-        self.assertEqual({f"UCA_RUN_{name}": int(it) for name, it in constants["uca_run"]}, of_runs)
+        self.assertEqual({f"UCA_RUN_{name}": int(it) for name, it in constants["uca_command_in_memory"]}, of_runs)
         self.assertIn(f"#define UCA_ABI {re.search(r'fn uca_abi.*?result ≡ (.*?) }', sources('uca_c'), re.S)[1]} ", header())
 
     def test_numbers(self):
@@ -158,9 +158,9 @@ def why_not():
     if lacking := [it for it in ("cc", "make", "rt") if not shutil.which(it)]:
         return f"there is no {lacking[0]}"
     if not all(map(os.path.exists, ARCHIVES)):
-        return "there is no archive: tools/build.py uca_c uca_run makes it"
+        return "there is no archive: tools/build.py uca_c uca_command_in_memory makes it"
     newest = max(map(os.path.getmtime, glob.glob(f"{TOP}/crates/uca_*/src/**/*.rt", recursive=True)))
-    return "the archive is older than a source: tools/build.py uca_c uca_run" if newest > min(map(os.path.getmtime, ARCHIVES)) else None
+    return "the archive is older than a source: tools/build.py uca_c uca_command_in_memory" if newest > min(map(os.path.getmtime, ARCHIVES)) else None
 
 
 class Calls(unittest.TestCase):

@@ -9,7 +9,7 @@ earlier run proved is kept in crates/*/out, if it has not changed since.
 
 Only `rt ci` is the gate. This script does not search for contracts that no call can meet, and tries no tests and no edits.
 
-The program is crates/uca/out/uca, and the archives of the static libraries are crates/uca_c/out/libuca_c.a and crates/uca_run/out/libuca_run.a. A line for each crate comes first. The last line says how long all took.
+The program is crates/uca/out/uca, and the archives of the static libraries are crates/uca_c/out/libuca_c.a and crates/uca_command_in_memory/out/libuca_command_in_memory.a. A line for each crate comes first. The last line says how long all took.
 """
 import hashlib
 import os

@@ -3,7 +3,7 @@
 
     tests/by_hand/bindings.py [--uca PATH]        crates/uca/out/uca, unless another program is named
 
-First prove and build the static library: `tools/build.py uca_c uca_run`. Then this script makes bindings/c/out and runs
+First prove and build the static library: `tools/build.py uca_c uca_command_in_memory`. Then this script makes bindings/c/out and runs
 
 - `calls`, which calls everything in uca.h with good and bad input, also in threads: as it is, under valgrind and its helgrind, and with the
   sanitizers of gcc;
@@ -165,7 +165,7 @@ def main():
     program = os.path.realpath(parser.parse_args().uca)
     missing = [it for it in ARCHIVES if not os.path.exists(it)]
     if missing:
-        sys.exit(f"there is no {missing[0]}: run `tools/build.py uca_c uca_run` first")
+        sys.exit(f"there is no {missing[0]}: run `tools/build.py uca_c uca_command_in_memory` first")
     checks = [("make", make), ("valgrind", valgrind), ("sanitizers", sanitizers), ("header in C++", header), ("exported names", exports),
               ("installation", installed), ("stored run", stored_run), ("docs/BINDINGS.md", page), ("keys", keys_like(program)), ("Python", python), ("Python under valgrind", python_valgrind), ("wheel", wheel), ("sort", sorted_like(program)), ("SQLite", sqlite),
               ("SQLite's loads", sqlite_loads), ("SQLite's authorizers", sqlite_authorizers), ("SQLite's files", sqlite_files), ("SQLite's languages", sqlite_languages), ("SQLite's compact keys", sqlite_compact), ("SQLite's numbers", sqlite_numbers), ("SQLite's arguments", sqlite_arguments), ("SQLite's checks", sqlite_checks),

@@ -11,7 +11,7 @@ import packages
 
 TOP = os.path.dirname(os.path.dirname(os.path.dirname(os.path.realpath(__file__))))
 C, PYTHON, EXAMPLES = f"{TOP}/bindings/c", f"{TOP}/bindings/python", f"{TOP}/examples"
-ARCHIVES = [f"{TOP}/crates/{it}/out/lib{it}.a" for it in ("uca_c", "uca_run")]
+ARCHIVES = [f"{TOP}/crates/{it}/out/lib{it}.a" for it in ("uca_c", "uca_command_in_memory")]
 LINES = ["lines.txt", "words_danish.txt", "words_spanish.txt", "words_swedish.txt"]
 # A weighting, and a depth as the extension of SQLite takes it.
 SETTINGS = [[], ["non-ignorable"], ["shifted"], ["non-ignorable", "identical"], ["shifted", "identical"]]

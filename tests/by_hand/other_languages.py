@@ -3,7 +3,7 @@
 
     tests/by_hand/other_languages.py [--uca PATH]        crates/uca/out/uca, unless another program is named
 
-First prove and build the static library: `tools/build.py uca_c uca_run`. The script installs the library for C to a temporary folder, and takes each file of the page from it. Each
+First prove and build the static library: `tools/build.py uca_c uca_command_in_memory`. The script installs the library for C to a temporary folder, and takes each file of the page from it. Each
 program sorts files of examples/, and has to print what `uca sort` prints. It has to end with an error, and print nothing, for a table that is rejected, and for a line
 that is not UTF-8.
 

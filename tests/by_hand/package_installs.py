@@ -3,7 +3,7 @@
 
     tests/by_hand/package_installs.py [--uca PATH] [--root FOLDER] [PART ..]
 
-First prove and build the program and the library: `tools/build.py uca uca_c uca_run`. The parts are
+First prove and build the program and the library: `tools/build.py uca uca_c uca_command_in_memory`. The parts are
 
 - `release`: packaging/release.py makes the same bytes twice: here, and in a copy of the repository at another place, with other times, another umask and another user's
   settings. All versions are one. Debian's lintian finds nothing but what LINTIAN_KNOWN says.
@@ -142,7 +142,7 @@ def copy_of_repository(folder):
             os.makedirs(os.path.dirname(f"{folder}/{name}"), exist_ok=True)
             shutil.copyfile(f"{TOP}/{name}", f"{folder}/{name}")
             os.chmod(f"{folder}/{name}", 0o700 if os.access(f"{TOP}/{name}", os.X_OK) else 0o600)
-    for name in ("crates/uca/out/uca", "crates/uca_c/out/libuca_c.a", "crates/uca_run/out/libuca_run.a"):
+    for name in ("crates/uca/out/uca", "crates/uca_c/out/libuca_c.a", "crates/uca_command_in_memory/out/libuca_command_in_memory.a"):
         os.makedirs(os.path.dirname(f"{folder}/{name}"))
         shutil.copy(f"{TOP}/{name}", f"{folder}/{name}")
     write(f"{folder}/tools/build.py", "#!/bin/sh\n", 0o755)

@@ -3,7 +3,7 @@
 
     tests/by_hand/postgresql_memory.py [NAME ..]        all checks, unless some are named
 
-First prove and build the static library: `tools/build.py uca_c uca_run`. Then this script makes bindings/c/out, and the extension with `bindings/postgresql/memory.c`. The head of that file
+First prove and build the static library: `tools/build.py uca_c uca_command_in_memory`. Then this script makes bindings/c/out, and the extension with `bindings/postgresql/memory.c`. The head of that file
 says what is an allocation here, and what never fails. The extension goes to a copy of the server's programs in a temporary folder. Servers run there as those of bindings.py do. In each run
 of a check one allocation fails: each alone, and each third with all after it, unless the check says otherwise. After its error a statement makes no more calls, so more runs with all after
 it would show little. The checks are
@@ -804,7 +804,7 @@ def main():
     packages.stop_without(NEEDS)
     missing = [it for it in bindings_shared.ARCHIVES if not os.path.exists(it)]
     if missing:
-        sys.exit(f"there is no {missing[0]}: run `tools/build.py uca_c uca_run` first")
+        sys.exit(f"there is no {missing[0]}: run `tools/build.py uca_c uca_command_in_memory` first")
     if unknown := {*given.names} - {*CHECKS}:
         parser.error(f"no check is named {', '.join(sorted(unknown))}: they are {', '.join(CHECKS)}")
     run(["make", "-s", "-C", bindings_shared.C])

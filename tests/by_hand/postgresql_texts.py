@@ -3,7 +3,7 @@
 
     tests/by_hand/postgresql_texts.py [--uca PATH] [NAME ..]        crates/uca/out/uca, unless another program is named; all checks, unless some are named
 
-First prove and build the program and the static library: `tools/build.py uca uca_c uca_run`. Then this script makes bindings/c/out and the extension. It installs that to a
+First prove and build the program and the static library: `tools/build.py uca uca_c uca_command_in_memory`. Then this script makes bindings/c/out and the extension. It installs that to a
 copy of the server's programs in a temporary folder. Each server has a folder of its own, listens on a Unix socket there, and is stopped afterwards. The checks are
 
 - statements: order, NULL, the empty text, rejected texts, UNIQUE, joins, casts, aggregates, prefix search, and which plans PostgreSQL takes for them;
@@ -643,7 +643,7 @@ def main():
     packages.stop_without(NEEDS)
     missing = [it for it in bindings_shared.ARCHIVES if not os.path.exists(it)]
     if missing:
-        sys.exit(f"there is no {missing[0]}: run `tools/build.py uca_c uca_run` first")
+        sys.exit(f"there is no {missing[0]}: run `tools/build.py uca_c uca_command_in_memory` first")
     program = os.path.realpath(given.uca)
     checks = {"statements": statements, "bad_texts": bad_texts, "unique": unique, "joins": joins, "begins": begins, "casts": casts, "text_class": text_class, "other_settings": other_settings,
               "dumps": dumps, "standby": standby, "transactions": inside_transactions, "roles": roles, "page": page, "orders": orders_like(program),

@@ -1,7 +1,7 @@
 #!/usr/bin/env python3
 """Takes stored keys from Unicode 13.0.0 to the edition of /usr/share/unicode inside of SQLite and PostgreSQL, while rows come in.
 
-    tools/build.py uca uca_c uca_run     # first
+    tools/build.py uca uca_c uca_command_in_memory     # first
     tests/by_hand/upgrades.py [--uca PATH] [--rows COUNT] [--kills COUNT] [PART ..]
 
 The parts are keys and texts, both in SQLite, postgresql and separators; all of them, unless some are named.

@@ -4,8 +4,8 @@ use std::alloc::{AllocError, Global};
 use std::test::Fail;
 use test_kit::{bytes_of, halves, holds, same};
 use uca_lines::fields::{
-    class_number, code_point, code_point_range, cut_at, cut_word, halves as dot_halves,
-    hexadecimal_digit, line_text, skip_blanks, trim, weight,
+    class_number, code_point, code_point_range, cut_at, cut_word, four_digits,
+    halves as dot_halves, line_text, six_digits, skip_blanks, trim, weight,
 };
 
 /// A text; without blanks at its front; at both ends; without its comment too; up to the first semicolon; up
@@ -123,8 +123,12 @@ fn ranges(rt: HostRuntime) -> Result<(), Fail> {
 
 #[test]
 fn digits(_rt: HostRuntime) -> Result<(), Fail> {
-    for (value, digit) in b"0123456789ABCDEF".iter().enumerate() {
-        holds(hexadecimal_digit(value as u8) == *digit, "another digit")?;
-    }
-    Ok(())
+    holds(
+        four_digits(0x0123) == *b"0123"
+            && four_digits(0x4567) == *b"4567"
+            && four_digits(0x89AB) == *b"89AB"
+            && four_digits(0xCDEF) == *b"CDEF"
+            && six_digits(0x10_FFFD) == *b"10FFFD",
+        "other digits",
+    )
 }

@@ -5,7 +5,7 @@ use std::test::Fail;
 use test_kit::{holds, same_bytes};
 use uca_books::Book;
 use uca_compact::KeyCompacter;
-use uca_lookups::{
+use uca_ranges::{
     read_letters, write_compact_letters_range, write_letters_range,
     write_same_compact_letters_range, write_same_compact_levels_range, write_same_letters_range,
     write_same_levels_range,

@@ -2,10 +2,10 @@
 //! table and a data file to begin with. The streams of a run are here too.
 #![tactic(auto)]
 
-pub mod cases;
-pub mod run_streams;
+mod cases;
+mod run_streams;
 pub mod samples;
-pub mod streams;
+mod streams;
 
 pub use cases::{
     bytes_of, code_point, halves, holds, is_remark, joined, repeated, same, same_bytes, thirds,

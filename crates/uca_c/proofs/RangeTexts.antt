@@ -12,7 +12,7 @@ use Rattle.uca_compact.specs.StoredParts.{StoredLevel, stored_level, points_afte
 use Rattle.uca_compact.proofs.OnlyCells.{AreBytes, nothing, same_some}
 use Rattle.uca_compact.proofs.TextKeys.{parts_of_bytes}
 use Rattle.uca_compact.proofs.TextOrder.{keys_keep_order}
-use Rattle.uca_lookups.specs.Ranges.{FindsLevels, LevelsBegin, levels_low, levels_high, FindsCompactLevels, compact_levels_low, compact_levels_high}
+use Rattle.uca_ranges.specs.Ranges.{FindsLevels, LevelsBegin, levels_low, levels_high, FindsCompactLevels, compact_levels_low, compact_levels_high}
 use Rattle.uca_c.specs.RangeCalls.{letters_in, accents_in}
 use Rattle.uca_c.specs.inside.TextKeys.{IsKeyOf}
 use Rattle.uca_c.proofs.CompactTexts.{parts_are_read}

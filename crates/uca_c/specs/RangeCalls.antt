@@ -5,8 +5,8 @@ use Rattle.uca_order.specs.Levels.{weighted, level_list}
 use Rattle.uca_order.specs.Depths.{ReadText}
 use Rattle.uca_order.specs.Keyings.{Keying, read_of}
 use Rattle.uca_books.specs.Books.{BookContent}
-use Rattle.uca_lookups.specs.Ranges.{levels_low, levels_high, letters_low, letters_high}
-use Rattle.uca_lookups.specs.Ranges.{compact_levels_low, compact_levels_high, compact_letters_low, compact_letters_high}
+use Rattle.uca_ranges.specs.Ranges.{levels_low, levels_high, letters_low, letters_high}
+use Rattle.uca_ranges.specs.Ranges.{compact_levels_low, compact_levels_high, compact_letters_low, compact_letters_high}
 use Rattle.uca_c.specs.declared.numbers.RangeOf.{RangeOf}
 use Rattle.uca_c.specs.declared.numbers.RangeOf.TheVariants.{SameLetters, SameAccents, Begins}
 use Rattle.uca_c.specs.declared.numbers.End.{End}

@@ -20,7 +20,7 @@ use crate::statuses::{ARGUMENT, MEMORY, OK, SMALL, status_of_text};
 use crate::work::copy_out;
 use std::alloc::{AllocError, Global};
 use uca_compact::KeyCompacter;
-use uca_lookups::{
+use uca_ranges::{
     read_letters, write_compact_letters_range, write_letters_range,
     write_same_compact_letters_range, write_same_compact_levels_range, write_same_letters_range,
     write_same_levels_range,

@@ -3,9 +3,9 @@
 //! `uca affected --changes` prints the lines that a change affects (`run_affected_by_changes`).
 #![tactic(auto)]
 
-pub mod affected;
-pub mod audit_changes;
-pub mod changes;
+mod affected;
+mod audit_changes;
+mod changes;
 mod files;
 
 pub use affected::run_affected_by_changes;

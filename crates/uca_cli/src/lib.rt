@@ -5,7 +5,7 @@
 
 mod book_commands;
 mod change_commands;
-pub mod command;
+mod command;
 mod fingerprint_commands;
 mod key_commands;
 mod printing;

@@ -18,7 +18,7 @@ pub mod laws;
 mod letters;
 mod level_bytes;
 mod level_reader;
-pub mod levels;
+mod levels;
 mod plain;
 mod stored;
 mod stored_bytes;

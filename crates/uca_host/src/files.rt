@@ -3,7 +3,7 @@
 //! (`SystemFiles`), which makes a file under another name and renames it.
 
 pub mod keeping;
-pub mod made;
+mod made;
 pub mod opening;
 pub mod opens;
 pub mod system;

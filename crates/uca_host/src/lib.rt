@@ -6,8 +6,8 @@
 
 pub mod arguments;
 pub mod files;
-pub mod help;
-pub mod reports;
+mod help;
+mod reports;
 pub mod standard_streams;
 
 pub use files::opens::{MakeFault, OpenFault, Opens};

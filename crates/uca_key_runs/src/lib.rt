@@ -19,13 +19,13 @@
 
 mod collations;
 mod compacting;
-pub mod compare;
+mod compare;
 mod key_files;
 mod keys;
 pub mod laws;
 mod line_keys;
-pub mod runs;
-pub mod sort;
+mod runs;
+mod sort;
 
 pub use compare::{compare_words, run_compare, run_compare_in};
 pub use laws::{

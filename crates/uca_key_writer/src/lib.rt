@@ -37,11 +37,11 @@
 #![tactic(auto)]
 
 mod beginnings;
-pub mod key_buffer;
+mod key_buffer;
 mod key_levels;
 mod key_memory;
-pub mod key_writer;
-pub mod keys;
+mod key_writer;
+mod keys;
 mod level_buffers;
 mod pieces;
 mod slots;

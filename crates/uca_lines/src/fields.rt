@@ -11,8 +11,7 @@ mod ranges;
 
 pub use cuts::{cut_at, cut_word, halves, line_text, skip_blanks, trim};
 pub use numbers::{
-    class_number, code_point, four_digits, hexadecimal_byte, hexadecimal_digit, six_digits,
-    spare_digits, weight,
+    class_number, code_point, four_digits, hexadecimal_byte, six_digits, spare_digits, weight,
 };
 pub use ranges::code_point_range;
 use std::fmt;

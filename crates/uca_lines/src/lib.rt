@@ -7,8 +7,8 @@
 
 pub mod fields;
 pub mod files;
-pub mod lines;
-pub mod output;
+mod lines;
+mod output;
 
 pub use lines::{LINE_LIMIT, LineFault, LineReader, NextLine};
 pub use output::OutputBuffer;

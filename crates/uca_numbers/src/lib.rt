@@ -15,5 +15,5 @@ pub mod laws;
 mod writing;
 mod written_text;
 
-pub use writing::{has_digit, write_by_value};
+pub use writing::write_by_value;
 pub use written_text::{WrittenText, has_no_digit};

@@ -6,8 +6,8 @@ ghost use Rattle.uca_numbers.specs.Texts.{by_value};
 
 use std::alloc::{AllocError, Allocator};
 
-/// Whether a text has a digit, U+0030 to U+0039. It looks at the bytes alone, eight at a time, so it is fast.
-pub fn has_digit(text: &str) -> bool
+// Whether a text has a digit, U+0030 to U+0039. It looks at the bytes alone, eight at a time, so it is fast.
+pub(crate) fn has_digit(text: &str) -> bool
     ensures { result ≡ Rattle.uca_numbers.specs.Texts.has_digit (chars text.now) }
 {
     has_digit_byte(text.as_bytes())

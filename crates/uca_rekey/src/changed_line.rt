@@ -1,8 +1,7 @@
 //! A line that begins with the digits of a key, and the same line with what that key becomes.
 
-ghost use Rattle.std.specs.Prelude.{◌≡◌, ◌++◌, ◌∷◌, ◌*◌, ◌<◌, ◌≤◌, ℕ, List, Option, OnOk, IfErr, length, take, drop, true};
+ghost use Rattle.std.specs.Prelude.{◌≡◌, ◌++◌, ◌∷◌, ◌*◌, ◌≤◌, ℕ, List, Option, OnOk, IfErr, length, take, drop, true};
 ghost use Rattle.std.specs.List.{flat_map};
-ghost use Rattle.uca_lines.specs.Numbers.{upper_digit};
 ghost use Rattle.uca_run_parts.specs.Print.{byte_digits};
 ghost use Rattle.uca_rekey.specs.ChangedLines.{Headers, LineBecomes, from_tab, with_digits, with_key};
 ghost use Rattle.uca_rekey.specs.ChangeRun.{IsChangeCause};
@@ -10,8 +9,8 @@ ghost use Rattle.uca_rekey.specs.ChangeRun.{IsChangeCause};
 use crate::changes::ChangesKeys;
 use crate::line::read_key;
 use std::alloc::{AllocError, Allocator};
-use uca_lines::fields::hexadecimal_digit;
 use uca_run_parts::StoredKeyKind;
+use uca_run_parts::print::digits_of;
 
 /// Room for the bytes of a key, and for those of what it becomes.
 #[derive(Drop)]
@@ -100,8 +99,9 @@ fn put_digits(digits: &mut [u8], key: &[u8])
     ensures { digits.new ≡ flat_map byte_digits key.now }
 {
     for (number, byte) in key.iter().enumerate() {
-        digits[2 * number] = hexadecimal_digit(*byte / 16);
-        digits[2 * number + 1] = hexadecimal_digit(*byte % 16);
+        let [high, low] = digits_of(*byte);
+        digits[2 * number] = high;
+        digits[2 * number + 1] = low;
     }
 }
 
@@ -125,19 +125,19 @@ fn write_key(line: &mut [u8], key: &[u8])
 {
     let mut at = 0;
     for byte in key {
-        at = write_digit(line, at, *byte / 16);
-        at = write_digit(line, at, *byte % 16);
+        let [high, low] = digits_of(*byte);
+        at = write_digit(line, at, high);
+        at = write_digit(line, at, low);
     }
 }
 
 // Writes the next digit of a line's key, from a position on, and returns the position after it. At the end of the key's field nothing is
 // written.
 #[inline]
-fn write_digit(line: &mut [u8], at: usize, value: u8) -> usize
-    requires within { at ≤ length line.old }
-    requires small { value < 16 }
+fn write_digit(line: &mut [u8], at: usize, digit: u8) -> usize
+    requires { at ≤ length line.old }
     ensures within { result ≤ length line.new }
-    ensures written { (digits : List ℕ) → take at line.old ++ with_digits (drop at line.old) (upper_digit value ∷ digits)
+    ensures written { (digits : List ℕ) → take at line.old ++ with_digits (drop at line.old) (digit ∷ digits)
         ≡ take result line.new ++ with_digits (drop result line.new) digits }
 {
     let mut at = at;
@@ -147,6 +147,6 @@ fn write_digit(line: &mut [u8], at: usize, value: u8) -> usize
     if at == line.len() || line[at] == b'\t' {
         return at;
     }
-    line[at] = hexadecimal_digit(value);
+    line[at] = digit;
     at + 1
 }

@@ -10,7 +10,7 @@
 //! ```
 #![tactic(auto)]
 
-pub mod change;
+mod change;
 mod change_run;
 mod changed_line;
 mod changes;

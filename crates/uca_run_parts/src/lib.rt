@@ -6,12 +6,12 @@
 //! It needs no code of keys. So the runs that have none are proved beside that code.
 #![tactic(auto)]
 
-pub mod affected;
+mod affected;
 pub mod audit_files;
 pub mod change_faults;
-pub mod check;
+mod check;
 pub mod faults;
-pub mod files;
+mod files;
 pub mod input;
 mod key_sizes;
 pub mod output;

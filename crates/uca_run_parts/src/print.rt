@@ -201,8 +201,9 @@ fn spaced_text<'a>(groups: &'a mut [[u8; 5]; GROUPS], part: &[u8]) -> &'a [u8]
     &groups.as_flattened()[..len]
 }
 
-// The two digits of a byte.
-fn digits_of(byte: u8) -> [u8; 2]
+/// The two upper-case hexadecimal digits of a byte.
+#[inline]
+pub fn digits_of(byte: u8) -> [u8; 2]
     ensures { result ≡ byte_digits byte }
 {
     PAIRS[byte as usize]

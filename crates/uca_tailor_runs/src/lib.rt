@@ -2,8 +2,8 @@
 //! what came of it (`run_audit`).
 #![tactic(auto)]
 
-pub mod audit;
-pub mod tailor;
+mod audit;
+mod tailor;
 
 pub use audit::{run_audit, run_audit_in};
 pub use tailor::{run_tailor, run_tailor_in, write_tailored};

@@ -41,7 +41,7 @@ mod plain_comparison;
 mod points;
 mod primaries;
 mod shared;
-pub mod text_comparer;
+mod text_comparer;
 
 pub use comparison::TextComparison;
 pub use faults::PairFault;

@@ -5,13 +5,13 @@
 //! The values are apart from the readers. What reads texts needs the values alone, so it is proved beside the readers.
 #![tactic(auto)]
 
-pub mod characters;
-pub mod faults;
-pub mod implicit;
+mod characters;
+mod faults;
+mod implicit;
 pub mod limits;
-pub mod packed;
+mod packed;
 pub mod ranges;
-pub mod tables;
+mod tables;
 
 pub use characters::{Data, RangeFault};
 pub use faults::{FaultKind, TableFault};

@@ -9,7 +9,7 @@ ghost use Rattle.uca_weights.specs.WeightingText.{weighting_text, IsNoWeighting}
 
 mod maps;
 mod messages;
-pub mod streams;
+mod streams;
 
 pub use maps::{
     MapFault, MapFaultKind, Run, WeightMap, faulty_runs_are_not_proper, proper_runs_rise,

@@ -4,8 +4,8 @@
 //! reader or the writer has failed. Everything between them is a function of those bytes, and the contracts of the runs
 //! say which.
 
-pub mod sink;
-pub mod source;
+mod sink;
+mod source;
 
 pub use sink::{Sink, WriteFault};
 pub use source::{ReadFault, Source};

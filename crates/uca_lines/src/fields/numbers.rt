@@ -143,18 +143,6 @@ fn decimal_digit(byte: u8) -> Option<u16>
     }
 }
 
-/// The upper-case hexadecimal digit of a value below 16.
-pub fn hexadecimal_digit(value: u8) -> u8
-    requires { value < 16 }
-    ensures { result ≡ upper_digit value }
-{
-    if value < 10 {
-        b'0' + value
-    } else {
-        b'A' + (value - 10)
-    }
-}
-
 /// The last six digits of a number.
 pub fn six_digits(number: u32) -> [u8; 6]
     ensures { result ≡ digits 6 number }
@@ -197,8 +185,14 @@ pub fn four_digits(number: u16) -> [u8; 4]
     ]
 }
 
+// The last upper-case hexadecimal digit of a number.
 fn last_digit(number: u32) -> u8
     ensures { result ≡ upper_digit (number % 16) }
 {
-    hexadecimal_digit((number % 16) as u8)
+    let value = (number % 16) as u8;
+    if value < 10 {
+        b'0' + value
+    } else {
+        b'A' + (value - 10)
+    }
 }

@@ -1,5 +1,0 @@
-use Rattle.uca_lookups.proofs.LowEnds.{compact_told}
-use Rattle.uca_lookups.proofs.laws.compact_low_ends_tell_levels.Goals as goal
-
-pub returns : goal.returns
-returns c = compact_told

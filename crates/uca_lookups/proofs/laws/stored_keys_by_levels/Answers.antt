@@ -1,5 +1,0 @@
-use Rattle.uca_lookups.proofs.StoredRanges.{stored_by_levels}
-use Rattle.uca_lookups.proofs.laws.stored_keys_by_levels.Goals as goal
-
-pub returns : goal.returns
-returns c = stored_by_levels

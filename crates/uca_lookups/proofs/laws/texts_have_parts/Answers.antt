@@ -1,5 +1,0 @@
-use Rattle.uca_lookups.proofs.TextParts.{texts_have_parts}
-use Rattle.uca_lookups.proofs.laws.texts_have_parts.Goals as goal
-
-pub returns : goal.returns
-returns c = texts_have_parts
