@@ -4,6 +4,7 @@ use crate::answers::Memory;
 use crate::streams::Streams;
 use std::alloc::{Allocator, Global};
 use std::test::Fail;
+use test_kit::no_book;
 use uca_certificates::Certificate;
 use uca_host::report;
 use uca_key_runs::{KeyOutput, run_compare_in, run_keys_as, run_sort_in};
@@ -31,6 +32,7 @@ fn keys(memory: Memory, streams: &mut Streams, depth: Depth, lines: bool) -> Res
         memory.ample,
         &mut streams.table,
         &mut streams.properties,
+        &mut no_book(),
         &mut streams.text,
         &mut streams.out,
         asked_at(depth),

@@ -11,5 +11,5 @@ pub use cases::{
     bytes_of, code_point, halves, holds, is_remark, joined, repeated, same, same_bytes, thirds,
 };
 pub use run_streams::Streams;
-pub use samples::{DATA, NUMBER_TABLE, TABLE, data_of, table_of, table_text};
+pub use samples::{DATA, NUMBER_TABLE, TABLE, data_of, no_book, table_of, table_text};
 pub use streams::{Calls, Failure, FakeReader, FakeWriter, Pace};

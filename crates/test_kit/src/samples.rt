@@ -62,3 +62,8 @@ pub fn table_text(alloc: Global, table: &Table) -> Result<Vec<u8>, WriteFault> {
     write_table(table, &mut out)?;
     Ok(out.into_inner())
 }
+
+/// A run of keys by no book.
+pub fn no_book() -> Option<Source<&'static [u8]>> {
+    None
+}

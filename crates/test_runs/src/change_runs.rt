@@ -9,7 +9,7 @@ use uca_certificates::write_certificate;
 use uca_change_files::write_changes;
 use uca_change_runs::{run_affected_by_changes, run_audit_changes, run_changes};
 use uca_editions::FoundChanges;
-use uca_key_runs::{KeyOutput, run_compact_keys};
+use uca_key_runs::{KeyOutput, run_keys_as};
 use uca_rekey::{run_compact, run_expand, run_rekey};
 use uca_run_parts::{KeySizes, RunFault};
 use uca_weights::Depth::Weights;
@@ -238,12 +238,12 @@ fn compact_keys(
     out: &mut Sink<Vec<u8>>,
     output: KeyOutput,
 ) -> End {
-    run_compact_keys(
+    run_keys_as(
         tried,
         ample,
         &mut file(0),
         &mut file(1),
-        &mut Source::new(BOOK.as_bytes()),
+        &mut Some(Source::new(BOOK.as_bytes())),
         &mut Source::new(WORDS.as_bytes()),
         out,
         ASKED,

@@ -2,7 +2,7 @@
 
 use std::alloc::{AllocError, Global};
 use std::test::Fail;
-use test_kit::{DATA, NUMBER_TABLE, bytes_of, holds, repeated, same, same_bytes, thirds};
+use test_kit::{DATA, NUMBER_TABLE, bytes_of, holds, no_book, repeated, same, same_bytes, thirds};
 use uca_cli::{
     KeyOutput, KeySizes, RunFault, run_affected, run_compare_in, run_keys_as, run_sort_in,
 };
@@ -39,6 +39,7 @@ fn run_named(
             alloc,
             &mut table,
             &mut data,
+            &mut no_book(),
             &mut input,
             out,
             asked,
@@ -203,6 +204,7 @@ fn header_of(alloc: Global, numbers: Numbers) -> Result<Vec<u8>, Fail> {
         alloc,
         &mut table,
         &mut data,
+        &mut no_book(),
         &mut input,
         &mut out,
         asked,

@@ -2,7 +2,7 @@
 
 use std::alloc::{AllocError, Global};
 use std::io::{Read, Write};
-use test_kit::Streams;
+use test_kit::{Streams, no_book};
 use uca_cli::{
     KeyOutput, KeySizes, RunFault, run_check, run_compare, run_keys, run_keys_as, run_sort,
 };
@@ -89,7 +89,16 @@ pub fn run_over<T: Read, D: Read, I: Read, W: Write>(
             };
             let mut sizes = KeySizes::new();
             done(run_keys_as(
-                alloc, alloc, table, properties, input, out, asked, output, &mut sizes,
+                alloc,
+                alloc,
+                table,
+                properties,
+                &mut no_book(),
+                input,
+                out,
+                asked,
+                output,
+                &mut sizes,
             ))
         }
         Run::Sort(asked, depth) => done(run_sort(

@@ -4,6 +4,7 @@
 #![tactic(auto)]
 
 mod book_commands;
+mod booked_files;
 mod change_commands;
 mod command;
 mod fingerprint_commands;
@@ -20,8 +21,8 @@ pub use uca_host::{MakeFault, OpenFault, Opens, STREAM_FAILED, report};
 pub use uca_key_runs::{
     KeyOutput, affected_texts_are_the_others, canonically_equivalent_lines_have_one_key_line,
     compare_words, identical_line_keys_are_of_equivalent_lines, key_order_is_one,
-    line_keys_compare_as_lines, run_compact_keys, run_compare, run_compare_in, run_keys,
-    run_keys_as, run_sort, run_sort_in, sort_lines, untouched_lines_keep_their_order,
+    line_keys_compare_as_lines, run_compare, run_compare_in, run_keys, run_keys_as, run_sort,
+    run_sort_in, sort_lines, untouched_lines_keep_their_order,
 };
 pub use uca_rekey::{lines_move_with_keys, run_compact, run_expand, run_rekey};
 pub use uca_run_parts::{

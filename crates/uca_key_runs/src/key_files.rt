@@ -1,12 +1,12 @@
 //! The files of a run of keys: a table, a data file and perhaps a book. Where a header is asked for, their bytes are summed while they are
 //! read (`uca_fingerprint_runs`), so each file is read once.
 
-ghost use Rattle.std.specs.Prelude.{◌≡◌, ◌≤◌, ◌∷◌, ◌++◌, [], false, true, length, IfOk, IsOkAnd, is_err, is_some, unwrap_or};
+ghost use Rattle.std.specs.Prelude.{◌≡◌, ◌≤◌, ◌∷◌, ◌++◌, [], false, true, length, IfOk, IsOkAnd, is_err, is_some, option_to_list, unwrap_or};
 ghost use Rattle.uca_values.specs.Content.{properties_of};
 ghost use Rattle.uca_run_parts.specs.Files.{HaveFailed, Over, ended_by_file, table_and_data_roles};
 ghost use Rattle.uca_run_parts.specs.ReadFiles.{ReadsFiles};
 ghost use Rattle.uca_fingerprint_runs.specs.SummedFiles.{booked_roles};
-ghost use Rattle.uca_key_runs.specs.KeysRun.{key_files};
+ghost use Rattle.uca_key_runs.specs.KeysRun.{key_files, key_roles};
 ghost use Rattle.uca_key_runs.specs.inside.KeyParts.{AreRead, header_text, header_with, packed_booked, packed_with};
 
 use crate::collations::packed_files::read_packed_files;
@@ -41,12 +41,33 @@ pub(crate) struct KeyFiles<A: Allocator> {
     pub(crate) sums: Option<FileSums>,
 }
 
-/// Reads the table, and then the data file, each to its end or its first error.
+/// Reads the table, then the data file, and then the book where there is one, each to its end or its first error.
 ///
 /// # Errors
 ///
-/// `File` if the table, or else the data file, is rejected.
-pub(crate) fn read_key_files<A: Allocator + Copy, T: Read, D: Read>(
+/// `File` if the table, or else the data file, or else the book, is rejected.
+pub(crate) fn read_key_files<A: Allocator + Copy, T: Read, D: Read, B: Read>(
+    alloc: A,
+    table: &mut Source<T>,
+    properties: &mut Source<D>,
+    book: &mut Option<Source<B>>,
+    header: bool,
+) -> Result<KeyFiles<A>, RunFault>
+    ensures read { Over (key_files (is_some book.old)) (table.old ∷ properties.old ∷ option_to_list book.old) (table.new ∷ properties.new ∷ option_to_list book.new)
+        (λ content. IsOkAnd result (λ files. AreRead files.table (properties_of files.properties) files.book files.sums content)) result }
+    ensures sums { IfOk result (λ files. is_some files.sums ≡ header) }
+    ensures of_files { ended_by_file result ≡ is_err result }
+    ensures failed { HaveFailed (key_roles (is_some book.old)) (table.old ∷ properties.old ∷ option_to_list book.old)
+        (table.new ∷ properties.new ∷ option_to_list book.new) result }
+{
+    match book {
+        None => read_two_files(alloc, table, properties, header),
+        Some(book) => read_three_files(alloc, table, properties, book, header),
+    }
+}
+
+// Reads the files of a run without a book.
+fn read_two_files<A: Allocator + Copy, T: Read, D: Read>(
     alloc: A,
     table: &mut Source<T>,
     properties: &mut Source<D>,
@@ -85,12 +106,8 @@ pub(crate) fn read_key_files<A: Allocator + Copy, T: Read, D: Read>(
     }
 }
 
-/// Reads the table, then the data file, and then the book, each to its end or its first error.
-///
-/// # Errors
-///
-/// `File` if the table, or else the data file, or else the book, is rejected.
-pub(crate) fn read_booked_key_files<A: Allocator + Copy, T: Read, D: Read, B: Read>(
+// Reads the files of a run with a book.
+fn read_three_files<A: Allocator + Copy, T: Read, D: Read, B: Read>(
     alloc: A,
     table: &mut Source<T>,
     properties: &mut Source<D>,

@@ -33,5 +33,5 @@ pub use laws::{
     identical_line_keys_are_of_equivalent_lines, key_order_is_one, line_keys_compare_as_lines,
     numbers_order_lines, untouched_lines_keep_their_order,
 };
-pub use runs::{KeyOutput, run_compact_keys, run_keys, run_keys_as};
+pub use runs::{KeyOutput, run_keys, run_keys_as};
 pub use sort::{run_sort, run_sort_in, sort_lines};

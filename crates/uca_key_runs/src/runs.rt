@@ -1,6 +1,6 @@
 //! The runs of keys: they read their files, and print the key or the compact key of each line. `KeyOutput` says what else the output has.
 
-ghost use Rattle.std.specs.Prelude.{◌≡◌, ◌≤◌, ◌∷◌, ◌||◌, [], false, true, length, IfSome, is_some};
+ghost use Rattle.std.specs.Prelude.{◌≡◌, ◌≤◌, ◌∷◌, ◌||◌, [], false, true, length, IfSome, is_some, option_to_list};
 ghost use Rattle.uca_values.specs.Content.{properties_of};
 ghost use Rattle.uca_elements.specs.Collations.{collation_of};
 ghost use Rattle.uca_order.specs.Keyings.{keying_of, text_of};
@@ -15,9 +15,7 @@ ghost use Rattle.uca_key_runs.specs.inside.KeyParts.{AreRead, ended_after, form_
 
 use crate::collations::collation_of;
 use crate::collations::packed_files::read_packed_files;
-use crate::key_files::{
-    KeyFiles, header_bytes, header_with, read_booked_key_files, read_key_files,
-};
+use crate::key_files::{KeyFiles, header_bytes, header_with, read_key_files};
 use crate::keys::{KeyForm, print_lines};
 use std::alloc::{Allocator, Global};
 use std::io::{Read, Write};
@@ -204,70 +202,41 @@ pub fn run_keys<T: Read, D: Read, I: Read, W: Write>(
 /// #uca keys 1 shifted weights 64 lower-case hexadecimal digits
 /// ```
 ///
-/// It has the weighting and the depth of the keys, and the fingerprint of their settings with the bytes of the two files (`fingerprint_of_sums`
+/// It has the weighting and the depth of the keys, and the fingerprint of their settings with the bytes of the files (`fingerprint_of_sums`
 /// of the crate `uca_fingerprint`).
 ///
-/// The two files, the trie, the lines and the keys are in memory of `alloc`, and texts in Normalization Form D in `global`. Memory for keys is
-/// used again for each line. `sizes` stays as it is, since there are no compact keys.
+/// With a book the keys are compact, as `KeyCompacter` of the crate `uca_compact` makes them. They are in digits without spaces also where no
+/// line follows them. The header is then `#uca compact 1 ..`, and its fingerprint is that of the whole keys with the book
+/// (`compact_fingerprint_of_sums`). Each line without an error has a compact key. `sizes` gets the bytes of the keys and of the compact keys; without a
+/// book it stays as it is.
+///
+/// The files, the trie, the lines and the keys are in memory of `alloc`, and texts in Normalization Form D in `global`. Memory for keys is
+/// used again for each line.
 ///
 /// # Errors
 ///
-/// - `File`: the table, or else the data file, is rejected.
+/// - `File`: the table, or else the data file, or else the book, is rejected.
 /// - `Digits`: numbers are to be ordered by value, and the table does not order them. It comes after the errors of files.
 /// - `Memory`: an allocation failed for looking up rows. In these cases nothing was written, and nothing of the input was
 ///   read.
 /// - `Input`: the first line with an error. The header and the lines before it were written.
 /// - `Write`: the writer failed, also if a later line has an error. The first `written` bytes of the whole output went out.
-pub fn run_keys_as<A: Allocator + Copy, T: Read, D: Read, I: Read, W: Write>(
+pub fn run_keys_as<A: Allocator + Copy, T: Read, D: Read, B: Read, I: Read, W: Write>(
     alloc: A,
     global: Global,
     table: &mut Source<T>,
     properties: &mut Source<D>,
+    book: &mut Option<Source<B>>,
     input: &mut Source<I>,
     out: &mut Sink<W>,
     asked: Asked,
     output: KeyOutput,
     sizes: &mut KeySizes,
 ) -> Result<(), RunFault>
-    ensures { PrintsKeysAs output false asked (table.old ∷ properties.old ∷ []) (table.new ∷ properties.new ∷ [])
-        input.old input.new out.old out.new result }
+    ensures { PrintsKeysAs output (is_some book.old) asked (table.old ∷ properties.old ∷ option_to_list book.old)
+        (table.new ∷ properties.new ∷ option_to_list book.new) input.old input.new out.old out.new result }
 {
-    match read_key_files(alloc, table, properties, output.header) {
-        Ok(files) => print_files(alloc, global, files, input, out, asked, output, sizes),
-        Err(fault) => Err(fault),
-    }
-}
-
-/// Prints the compact key of each line of `input`, which `KeyCompacter` of the crate `uca_compact` makes of its key by a book. The table, the
-/// data file and the book are read first, in this order. All else is as in [`run_keys_as`], but that a key is in digits without spaces also
-/// where no line follows it, and that the header names the book too:
-///
-/// ```text
-/// #uca compact 1 shifted weights 64 lower-case hexadecimal digits
-/// ```
-///
-/// Its fingerprint is that of the whole keys with the book (`compact_fingerprint_of_sums`). A key is always one of its settings, so each line
-/// without an error has a compact key. `sizes` gets the bytes of the keys and of the compact keys of the lines.
-///
-/// # Errors
-///
-/// Those of [`run_keys_as`]; the book is the last of the files.
-pub fn run_compact_keys<A: Allocator + Copy, T: Read, D: Read, B: Read, I: Read, W: Write>(
-    alloc: A,
-    global: Global,
-    table: &mut Source<T>,
-    properties: &mut Source<D>,
-    book: &mut Source<B>,
-    input: &mut Source<I>,
-    out: &mut Sink<W>,
-    asked: Asked,
-    output: KeyOutput,
-    sizes: &mut KeySizes,
-) -> Result<(), RunFault>
-    ensures { PrintsKeysAs output true asked (table.old ∷ properties.old ∷ book.old ∷ []) (table.new ∷ properties.new ∷ book.new ∷ [])
-        input.old input.new out.old out.new result }
-{
-    match read_booked_key_files(alloc, table, properties, book, output.header) {
+    match read_key_files(alloc, table, properties, book, output.header) {
         Ok(files) => print_files(alloc, global, files, input, out, asked, output, sizes),
         Err(fault) => Err(fault),
     }

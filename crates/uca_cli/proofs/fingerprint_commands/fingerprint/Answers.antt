@@ -1,8 +1,12 @@
--- With a book and without one.
+-- The files are opened, and then run over.
+use Rattle.std.specs.Prelude.{option_to_list}
+use Rattle.std.proofs.Common.{◌∷◌, inr}
 use Rattle.uca_cli.proofs.fingerprint_commands.fingerprint.Goals as goal
 
-pub returns-in-None : goal.returns-in-None
-returns-in-None g c = rw c.in-None.is c.fingerprint_of_keys.ensures
-
-pub returns-in-Some : goal.returns-in-Some
-returns-in-Some g c = rw c.in-Some.is c.fingerprint_of_compact_keys.ensures
+pub returns-in-Ok : goal.returns-in-Ok
+returns-in-Ok g c = inr (record {
+  before = c.in-Ok.table ∷ c.in-Ok.properties ∷ option_to_list c.in-Ok.book;
+  after = c.run_fingerprint.new.table ∷ c.run_fingerprint.new.properties ∷ option_to_list c.run_fingerprint.new.book;
+  opened = c.in-Ok.ensures.opened;
+  runs = record { run = c.run_fingerprint.result; runs = rw (c.asked_for.ensures, c.in-Ok.ensures.booked) at c.run_fingerprint.ensures; status = c.done.ensures };
+})

@@ -1,16 +1,14 @@
--- Without sums the files mean the same.
-use Rattle.std.specs.Prelude.{⊤}
-use Rattle.uca_values.specs.Content.{properties_of}
-use Rattle.uca_key_runs.proofs.SummedFiles.{two_read, two_rejected}
+-- Without a book, and with one.
 use Rattle.uca_key_runs.proofs.key_files.read_key_files.Goals as goal
 
-pub returns-in-Ok-read_packed_files-clause-read : goal.returns-in-Ok-read_packed_files-clause-read
-returns-in-Ok-read_packed_files-clause-read g c =
-    let read = c.in-Ok-read_packed_files in
-    two_read {A = ⊤} {B = ⊤} c.args.table.now c.read_packed_files.new.table c.args.properties.now c.read_packed_files.new.properties
-    read.table (properties_of read.properties) tt tt read.ensures.read
+pub returns-in-None-clause-read : goal.returns-in-None-clause-read
+returns-in-None-clause-read g c = rw c.in-None.is c.read_two_files.ensures.read
 
-pub returns-in-Err-read_packed_files-clause-read : goal.returns-in-Err-read_packed_files-clause-read
-returns-in-Err-read_packed_files-clause-read g c =
-    let read = c.in-Err-read_packed_files in
-    two_rejected ⊤ ⊤ c.args.table.now c.read_packed_files.new.table c.args.properties.now c.read_packed_files.new.properties read.fault read.ensures.read
+pub returns-in-None-clause-failed : goal.returns-in-None-clause-failed
+returns-in-None-clause-failed g c = rw c.in-None.is c.read_two_files.ensures.failed
+
+pub returns-in-Some-clause-read : goal.returns-in-Some-clause-read
+returns-in-Some-clause-read g c = rw c.in-Some.is c.read_three_files.ensures.read
+
+pub returns-in-Some-clause-failed : goal.returns-in-Some-clause-failed
+returns-in-Some-clause-failed g c = rw c.in-Some.is c.read_three_files.ensures.failed

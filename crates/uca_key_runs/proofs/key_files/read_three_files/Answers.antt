@@ -1,7 +1,7 @@
 -- Without sums the files mean the same.
 use Rattle.uca_values.specs.Content.{properties_of}
 use Rattle.uca_key_runs.proofs.SummedFiles.{three_read}
-use Rattle.uca_key_runs.proofs.key_files.read_booked_key_files.Goals as goal
+use Rattle.uca_key_runs.proofs.key_files.read_three_files.Goals as goal
 
 pub returns-else-header-clause-read : goal.returns-else-header-clause-read
 returns-else-header-clause-read g c =
