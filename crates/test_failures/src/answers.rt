@@ -6,8 +6,7 @@ use crate::runs::runs;
 use crate::streams::{AllCalls, NONE, Streams, Trouble, alone};
 use std::alloc::Global;
 use std::test::Fail;
-use test_kit::{holds, same};
-use test_kit_allocator::Refusing;
+use test_kit::{Refusing, holds, same};
 
 /// What a call works in.
 #[derive(Clone, Copy)]

@@ -9,7 +9,7 @@ use crate::values::{
 use std::alloc::{AllocError, Allocator, Global};
 use std::fmt::Display;
 use std::test::Fail;
-use test_kit_allocator::Refusing;
+use test_kit::Refusing;
 use uca_audit::audit;
 use uca_certificates::{Certificate, CertificateFault, read_certificate, write_certificate};
 use uca_key::{KeyBuffer, KeyWriter, key, key_of};

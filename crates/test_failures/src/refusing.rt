@@ -2,8 +2,7 @@
 
 use std::alloc::{AllocError, Allocator, Global};
 use std::test::Fail;
-use test_kit::holds;
-use test_kit_allocator::Refusing;
+use test_kit::{Refusing, holds};
 
 // Two lists in it, when this allocation is rejected.
 fn has_two(tried: &Refusing, number: Option<u32>) -> bool {

@@ -8,7 +8,7 @@ use crate::trials::{Trial, check_each_way, check_whole, whole_of};
 use std::alloc::Global;
 use std::cell::Cell;
 use std::test::Fail;
-use test_kit_allocator::Refusing;
+use test_kit::Refusing;
 
 // The number of a stream: a role, or the name of an output.
 fn stream_of(roles: &str, name: &str) -> usize {

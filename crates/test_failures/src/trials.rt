@@ -7,8 +7,7 @@ use std::alloc::{AllocError, Global};
 use std::cell::Cell;
 use std::io::ErrorKind;
 use std::test::Fail;
-use test_kit::{Failure, Pace, holds, same};
-use test_kit_allocator::Refusing;
+use test_kit::{Failure, Pace, Refusing, holds, same};
 
 /// How a stream fails, and how many bytes a call takes at most. A reader that gives nothing has not failed, so readers
 /// have the first two.

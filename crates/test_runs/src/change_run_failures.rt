@@ -7,8 +7,7 @@ use crate::change_runs::{
 use std::alloc::Global;
 use std::io::ErrorKind;
 use std::test::Fail;
-use test_kit::{Calls, Failure, FakeReader, FakeWriter, Pace, holds};
-use test_kit_allocator::Refusing;
+use test_kit::{Calls, Failure, FakeReader, FakeWriter, Pace, Refusing, holds};
 use uca_run_parts::RunFault;
 use uca_weights::{Sink, Source};
 

@@ -3,12 +3,11 @@
 
 use std::alloc::{Allocator, Global};
 use std::io::{Read, Write};
-use test_kit_allocator::Refusing;
-use uca_book_runs::run_book;
+use test_kit::Refusing;
 use uca_certificates::write_certificate;
 use uca_change_files::write_changes;
-use uca_change_runs::{run_affected_by_changes, run_audit_changes, run_changes};
-use uca_editions::FoundChanges;
+use uca_change_runs::{run_affected_by_changes, run_audit_changes, run_book, run_changes};
+use uca_editions::ListedChanges;
 use uca_key_runs::{KeyOutput, run_keys_as};
 use uca_rekey::{run_compact, run_expand, run_rekey};
 use uca_run_parts::{KeySizes, RunFault};
@@ -122,7 +121,7 @@ fn file(at: usize) -> Source<&'static [u8]> {
 }
 
 // Writes what was found. No writer fails then.
-fn show<A: Allocator>(found: FoundChanges<A>, out: &mut Sink<Vec<u8>>) -> End {
+fn show<A: Allocator>(found: ListedChanges<A>, out: &mut Sink<Vec<u8>>) -> End {
     let _ = write_changes(&found.list, out);
     let _ = write_certificate(&found.certificate, out);
     drop(found);

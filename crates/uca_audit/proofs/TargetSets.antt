@@ -1,12 +1,59 @@
 -- The targets of relations, by the keys of a set.
-use Rattle.std.proofs.Common.{◌≡◌, ℕ, ◌+◌, ◌<◌, List, [], ◌∷◌, ◌++◌, length, take, map, get_or, Contains, ◌↔◌, ◌⊎◌, inl, inr, ⊎_elim, sym, subst, ◌∙◌}
-use Rattle.std.proofs.Common.{Ordering, Equal}
+use Rattle.std.proofs.Common.{◌≡◌, ℕ, ◌+◌, ◌<◌, List, [], ◌∷◌, ◌++◌, length, take, map, get_or, Bool, IsTrue, Contains, ◌↔◌, ◌⊎◌, inl, inr, ⊎_elim, refl, sym, subst, ◌∙◌, arith}
+use Rattle.std.proofs.Common.{Ordering, Less, Equal, Greater}
 use Rattle.std.specs.BTreeSet.{insert_key}
+use Rattle.std.specs.Cmp.Lexicographic.{slice_cmp, bytes_decides}
+use Rattle.std.specs.List.{list_any}
+use Rattle.std.specs.Ordering.{nat_cmp, is_eq, match_ordering}
+use Rattle.std.proofs.lemmas.Bool.{or_cases, or_left, or_right}
+use Rattle.std.proofs.lemmas.Map.Text.{is_eq-slice_cmp}
 use Rattle.uca_weights.proofs.Lists.{taken_more}
 use Rattle.uca_relations.specs.declared.Relation.{Relation}
 use Rattle.uca_relations.specs.Relations.{IsTarget}
-use Rattle.uca_change_lists.proofs.TextSets.{inserted_iff}
+use Rattle.uca_images.proofs.Contains.{contained_first}
 use Rattle.uca_audit.specs.inside.Chaining.{AreTargetsOf}
+
+-- ---- Keys of a set
+
+-- a list is found exactly where it is among the keys
+pub found_iff : {V : Type 0} (points : V → List ℕ) (key : List ℕ) (keys : List V)
+    → IsTrue (list_any (λ k. is_eq (slice_cmp nat_cmp key (points k))) keys) ↔ Contains (map points keys) key
+found_iff points key [] = (λ h. absurd (cc), λ h. absurd (omega (arith, h.1)))
+found_iff {V} points key (k ∷ keys) =
+    let split = contained_first (points k) (map points keys) key in
+    let rest = found_iff points key keys in
+    let test : V → Bool = λ v. is_eq (slice_cmp nat_cmp key (points v)) in
+    let here = bytes_decides key (points k) in
+    let same = is_eq-slice_cmp key (points k) in (
+      (λ h. split.1 (⊎_elim (λ e. inl (sym (here.0 (sym same ∙ e)))) (λ more. inr (rest.0 more)) (or_cases (test k) (list_any test keys) h))),
+      λ h. ⊎_elim
+          (λ e. or_left (test k) (list_any test keys) (same ∙ here.1 (sym e)))
+          (λ more. or_right (test k) (list_any test keys) (rest.1 more))
+          (split.0 h),
+    )
+
+-- one more key is inserted, or it is there
+inserted_iff : {V : Type 0} (points : V → List ℕ) (order : V → V → Ordering) → ((a b : V) → order a b ≡ Equal → points a ≡ points b)
+    → (keys : List V) (k : V) (key : List ℕ)
+    → Contains (map points (insert_key order keys k)) key ↔ ((points k ≡ key) ⊎ Contains (map points keys) key)
+inserted_iff points order same [] k key = contained_first (points k) [] key
+inserted_iff points order same (x ∷ keys) k key = cases (order k x) refl (inserted_iff points order same keys k key)
+  where
+    cases : (o : Ordering) → order k x ≡ o → Contains (map points (insert_key order keys k)) key ↔ ((points k ≡ key) ⊎ Contains (map points keys) key)
+        → Contains (map points (match_ordering o (k ∷ x ∷ keys) (x ∷ keys) (x ∷ insert_key order keys k))) key ↔ ((points k ≡ key) ⊎ Contains (map points (x ∷ keys)) key)
+    cases Less e rest = contained_first (points k) (map points (x ∷ keys)) key
+    cases Equal e rest = (
+      (λ h. inr h),
+      λ h. ⊎_elim (λ is. (contained_first (points x) (map points keys) key).1 (inl (sym (same k x e) ∙ is))) (λ there. there) h,
+    )
+    cases Greater e rest =
+        let old = contained_first (points x) (map points keys) key in
+        let new = contained_first (points x) (map points (insert_key order keys k)) key in (
+          (λ h. ⊎_elim (λ is. inr (old.1 (inl is))) (λ later. ⊎_elim (λ is. inl is) (λ there. inr (old.1 (inr there))) (rest.0 later)) (new.0 h)),
+          λ h. ⊎_elim (λ is. new.1 (inr (rest.1 (inl is)))) (λ there. ⊎_elim (λ is. new.1 (inl is)) (λ later. new.1 (inr (rest.1 (inr later)))) (old.0 there)) h,
+        )
+
+-- ---- Targets
 
 -- the targets of one more relation
 pub target_more : (relations : List Relation) (r : Relation) (key : List ℕ) → IsTarget (relations ++ r ∷ []) key ↔ ((r.target.points ≡ key) ⊎ IsTarget relations key)

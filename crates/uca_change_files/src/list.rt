@@ -1,13 +1,16 @@
 //! What changes: texts and ranges of code points, in their order.
 
-ghost use Rattle.std.specs.Prelude.{◌≡◌, ◌↔◌, ◌⊎◌, [], IsTrue, OnOk, OnErr, IfErr, IfNone, IfSome};
+ghost use Rattle.std.specs.Prelude.{◌≡◌, ◌↔◌, ◌⊎◌, ◌≤◌, [], length, Contains, IsTrue, OnOk, OnErr, IfErr, IfNone, IfSome};
+ghost use Rattle.std.specs.List.Sorted.{IsPartitionPoint};
 ghost use Rattle.uca_values.specs.declared.faults.FaultKind.{FaultKind};
-ghost use Rattle.uca_change_files.specs.Changes.{OfText, OfRange, IsBelow, IsBefore, IsChangeList, MayCome};
+ghost use Rattle.uca_values.specs.Ranges.{is_within};
+ghost use Rattle.uca_change_files.specs.Changes.{AreInOrder, OfText, OfRange, IsBelow, IsBefore, IsChangeList, MayCome};
 ghost use Rattle.uca_change_files.specs.Steps.{Adds, MayAdd, Refuses};
 
 use std::alloc::{Allocator, Global};
 use std::cmp::Ordering;
 use std::marker::Model;
+use uca_values::ranges::is_held;
 use uca_values::{CodePointRange, FaultKind};
 
 /// How many code points a text has at most.
@@ -130,6 +133,33 @@ impl<A: Allocator> ChangeList<A> {
     {
         &self.ranges
     }
+
+    /// Whether the list has this text. The texts rise, so it is looked for by halves.
+    pub fn has_text(&self, text: &[char]) -> bool
+        ensures { IsTrue result ↔ Contains self.now.texts text.now }
+    {
+        let place = text_place(&self.texts, text);
+        if place == self.texts.len() {
+            return false;
+        }
+        self.texts[place].points.as_slice() == text
+    }
+
+    /// Whether a range of the list has the code point.
+    pub fn has_point(&self, point: char) -> bool
+        ensures { result ≡ is_within self.now.ranges point }
+    {
+        is_held(&self.ranges, point)
+    }
+}
+
+// The position of the first text that is not before this one.
+fn text_place<A: Allocator>(texts: &[ChangedText<A>], text: &[char]) -> usize
+    requires { AreInOrder IsBelow texts.now }
+    ensures bound { result ≤ length texts.now }
+    ensures place { IsPartitionPoint (λ other. IsBelow other text.now) (λ other. ¬ (IsBelow other text.now)) texts.now result }
+{
+    texts.partition_point(|other| is_below(&other.points, text))
 }
 
 // Why a text may not be added, if so.

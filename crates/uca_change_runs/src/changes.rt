@@ -7,7 +7,7 @@ ghost use Rattle.uca_change_runs.specs.ChangesRun.{FindsChanges, RunsChanges};
 use crate::files::read_editions;
 use std::alloc::Allocator;
 use std::io::Read;
-use uca_editions::{EditionFiles, Editions, FoundChanges, find_changes};
+use uca_editions::{EditionFiles, Editions, ListedChanges, find_changes};
 use uca_run_parts::RunFault;
 use uca_weights::Source;
 
@@ -24,7 +24,7 @@ pub fn run_changes<M: Allocator + Copy, A: Read, B: Read, C: Read, D: Read>(
     old_data: &mut Source<B>,
     new: &mut Source<C>,
     new_data: &mut Source<D>,
-) -> Result<FoundChanges<M>, RunFault>
+) -> Result<ListedChanges<M>, RunFault>
     ensures { FindsChanges (old.old ∷ old_data.old ∷ new.old ∷ new_data.old ∷ []) (old.new ∷ old_data.new ∷ new.new ∷ new_data.new ∷ []) result }
 {
     match read_editions(alloc, old, old_data, new, new_data) {
@@ -42,7 +42,7 @@ pub fn run_changes<M: Allocator + Copy, A: Read, B: Read, C: Read, D: Read>(
 fn find_between<M: Allocator + Copy>(
     alloc: M,
     files: &EditionFiles<M>,
-) -> Result<FoundChanges<M>, RunFault>
+) -> Result<ListedChanges<M>, RunFault>
     ensures { RunsChanges result (editions_of files.now) }
 {
     let editions = Editions {

@@ -9,7 +9,7 @@ ghost use Rattle.uca_change_runs.specs.inside.ReadChanges.{changes_file, edition
 use std::alloc::Allocator;
 use std::io::Read;
 use uca_change_files::{ChangeList, read_changes};
-use uca_editions::{Edition, EditionFiles, Listed};
+use uca_editions::{Edition, EditionFiles, ListedChanges};
 use uca_run_parts::{
     FileFault, Role, RunFault, read_certificate_file, read_data_file, read_table_file,
 };
@@ -76,13 +76,13 @@ pub fn read_listed<M: Allocator + Copy, A: Read, B: Read>(
     alloc: M,
     changes: &mut Source<A>,
     certificate: &mut Source<B>,
-) -> Result<Listed<M>, RunFault>
+) -> Result<ListedChanges<M>, RunFault>
     ensures { ReadsFiles listed_files listed_roles (changes.old ∷ certificate.old ∷ []) (changes.new ∷ certificate.new ∷ [])
         (λ listed. listed_of listed) result }
 {
     match read_changes_file(alloc, changes) {
         Ok(list) => match read_certificate_file(alloc, certificate) {
-            Ok(certificate) => Ok(Listed { list, certificate }),
+            Ok(certificate) => Ok(ListedChanges { list, certificate }),
             Err(fault) => {
                 drop(list);
                 Err(fault)

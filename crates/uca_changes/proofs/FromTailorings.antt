@@ -10,7 +10,7 @@ use Rattle.uca_elements.specs.Rows.{IsKey, rows_of}
 use Rattle.uca_tailorings.specs.KeptRows.{IsKeptRow, IsKnownRow}
 use Rattle.uca_tailorings.specs.Tailorings.{Tailoring, IsCovered, IsCoveredRow, IsPresentRow, IsUnchangedRow, IsExpectedRow, IsAccepted}
 use Rattle.uca_tailorings.specs.declared.conditions.Condition.TheVariants as conditions
-use Rattle.uca_change_lists.specs.Points.{range_pair}
+use Rattle.uca_changes.specs.Points.{range_pair}
 use Rattle.uca_changes.specs.Changes.{IsChangedText, IsAcceptedChange}
 use Rattle.uca_changes.specs.declared.conditions.ChangeCondition.TheVariants.{OldIllFormed, NewIllFormed, RangeChanged, Uncovered, RowChanged, RowMissing, RowExtra, PointChanged, SettingChanged}
 use Rattle.uca_changes.specs.Laws.{change_of, TailoringsAreChanges}

@@ -1,6 +1,5 @@
 pub mod Points
 pub mod Unaffected
 pub mod FromTailorings
-pub mod SameLists
 pub mod WorkedChanges
 pub mod AffectedTexts

@@ -5,7 +5,7 @@ use Rattle.uca_weights.specs.declared.Element.{Element}
 use Rattle.uca_values.specs.declared.ImplicitRange.{ImplicitRange}
 use Rattle.uca_values.specs.Content.{Properties}
 use Rattle.uca_values.specs.Implicit.{lead_of, block_pair, unlisted_pair, pair_by_lead, implicit}
-use Rattle.uca_change_lists.specs.Points.{range_pair, IsSamePoint}
+use Rattle.uca_changes.specs.Points.{range_pair, IsSamePoint}
 
 -- the classes of code points
 pub same_classes : (old new : Properties) (points : List ℕ) → AllByRecursion (λ c. old.class c ≡ new.class c) points → map old.class points ≡ map new.class points

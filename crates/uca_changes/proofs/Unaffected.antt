@@ -31,7 +31,7 @@ use Rattle.uca_tailorings.proofs.UntouchedTexts.{images_compare}
 use Rattle.uca_tailorings.proofs.AgreeingReadings.{same_reading}
 use Rattle.uca_tailorings.proofs.Moves.{images_move, kept_is_new}
 use Rattle.uca_changes.specs.Changes.{Change, IsChange, old_reading, new_reading, old_weighting, new_weighting, new_settings, IsChangedText, IsChangedPoint, IsUnaffected, IsAcceptedChange}
-use Rattle.uca_change_lists.specs.Points.{IsSamePoint}
+use Rattle.uca_changes.specs.Points.{IsSamePoint}
 use Rattle.uca_changes.specs.Laws.{IsUnaffectedText, IsStoredKey, UnaffectedTextsStay, ChangesKeepUnaffectedTexts}
 use Rattle.uca_changes.specs.declared.conditions.ChangeCondition.TheVariants.{RangeChanged, RowChanged, RowMissing, RowExtra, PointChanged, SettingChanged}
 use Rattle.uca_changes.proofs.Points.{same_classes, implicit_same}

@@ -15,7 +15,7 @@ use Rattle.uca_tailorings.specs.Worked.{a_and_b, kept_runs}
 use Rattle.uca_tailorings.proofs.WorkedRuns.{kept, maps_rise}
 use Rattle.uca_tailorings.proofs.WorkedSteps.{header, image_found}
 use Rattle.uca_tailorings.proofs.WorkedTables.{IsLetterRow, letter_row, letters_table, letters_well_formed}
-use Rattle.uca_change_lists.proofs.TextSets.{contained_first}
+use Rattle.uca_elements.proofs.RowsByKey.{Contains-cases}
 use Rattle.uca_changes.specs.Changes.{IsChange, IsAcceptedChange}
 use Rattle.uca_changes.specs.declared.conditions.ChangeCondition.TheVariants.{OldIllFormed, NewIllFormed, RangeChanged, Uncovered, RowChanged, RowMissing, RowExtra, PointChanged, SettingChanged}
 use Rattle.uca_changes.specs.Worked.{new_header, letter, a_b_and_c, pushing_runs, with_c, a_alone, raised, without_b, WorkedChanges}
@@ -137,7 +137,7 @@ other_accepted SettingChanged = refl
 b_unlisted : ¬ (Contains (letter 0x63) (0x62 ∷ []))
 b_unlisted listed =
     ⊎_elim (λ same. omega (arith, ap (λ (text : List ℕ). get_or text 0 0) same)) (λ none. omega (arith, none.1))
-    ((contained_first (0x63 ∷ []) [] (0x62 ∷ [])).0 listed)
+    (Contains-cases (0x63 ∷ []) (0x62 ∷ []) [] listed)
 
 -- acceptance, and four failures
 pub worked : WorkedChanges

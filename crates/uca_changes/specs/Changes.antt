@@ -12,7 +12,7 @@ use Rattle.uca_check.specs.WellFormed.{IsWellFormed}
 use Rattle.uca_text.specs.Occurring.{OccursInOrder}
 use Rattle.uca_elements.specs.Rows.{IsKey, rows_of}
 use Rattle.uca_elements.specs.Collations.{Collation, collation_under}
-use Rattle.uca_change_lists.specs.Points.{IsSamePair, IsSamePoint, OutsideOf}
+use Rattle.uca_changes.specs.Points.{IsSamePair, IsSamePoint, OutsideOf}
 use Rattle.uca_tailorings.specs.Images.{Maps, AreRisingMaps}
 use Rattle.uca_tailorings.specs.KeptRows.{IsKeptRow, IsKnownRow}
 use Rattle.uca_tailorings.specs.Tailorings.{IsCovered}

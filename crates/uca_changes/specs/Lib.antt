@@ -1,3 +1,4 @@
+pub mod Points
 pub mod Changes
 pub mod Laws
 pub mod Worked

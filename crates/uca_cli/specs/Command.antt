@@ -15,7 +15,7 @@ use Rattle.uca_values.specs.Content.{TableContent}
 use Rattle.uca_table.specs.Canonical.{canonical}
 use Rattle.uca_certificates.specs.Certificates.{CertificateContent}
 use Rattle.uca_change_files.specs.ChangeTexts.{changes_text}
-use Rattle.uca_editions.specs.declared.found.FoundChanges.{FoundChanges}
+use Rattle.uca_editions.specs.declared.listed.ListedChanges.{ListedChanges}
 use Rattle.uca_words.specs.declared.Words.{Words as WordsType}
 use Rattle.uca_words.specs.declared.Words.TheVariants.{Check, Keys, Sort, Compare, Tailor, Audit, Affected, Changes, AuditChanges, Rekey, Compact, Expand, Book, Fingerprint}
 use Rattle.uca_words.specs.declared.CheckWords.{CheckWords}
@@ -50,7 +50,7 @@ use Rattle.uca_change_runs.specs.AuditRun.{AuditsChanges}
 use Rattle.uca_change_runs.specs.AffectedRun.{by_changes}
 use Rattle.uca_rekey.specs.ChangeRun.{CompactsLines, ExpandsLines, RekeysLines}
 use Rattle.uca_fingerprint_runs.specs.FingerprintRun.{PrintsFingerprint}
-use Rattle.uca_book_runs.specs.BookRun.{PrintsBookImage}
+use Rattle.uca_change_runs.specs.BookRun.{PrintsBookImage}
 use Rattle.uca_host.specs.NamedFiles.{FileSystem, NamedFile, file_for, table_and_data, tailor_files, affected_files, audit_files, edition_files, change_files, AreOpened, DoesNotOpen, AreOthers, IsFirstSame, KeepsCertificate}
 use Rattle.uca_tailor_runs.specs.AuditRun.{Audits}
 use Rattle.uca_tailor_runs.specs.TailorRun.{TailorsFiles}
@@ -190,7 +190,7 @@ abbrev pub made_table : TableContent × CertificateContent → Made
 made_table answer = record { text = canonical answer.0; certificate = answer.1 }
 
 -- what `changes` makes: the text of the changes, and the certificate
-abbrev pub made_changes : {T : Type 0} → FoundChanges T → Made
+abbrev pub made_changes : {T : Type 0} → ListedChanges T → Made
 made_changes found = record { text = changes_text found.list; certificate = found.certificate }
 
 -- the certificate is kept, and then the text is written
@@ -251,7 +251,7 @@ DoesTailor files old new words out out_new result =
     MakesNamed files old new (files_of_tailor words) words.certificate.now TailorsFiles made_table out out_new result
 
 -- a run of changes, with what it finds in the memory of the command
-abbrev pub Finds : List SourceState → List SourceState → Result (FoundChanges Global) RunFault → Type 0
+abbrev pub Finds : List SourceState → List SourceState → Result (ListedChanges Global) RunFault → Type 0
 Finds olds news run = FindsChanges olds news run
 
 -- what `changes` does

@@ -8,7 +8,7 @@ ghost use Rattle.uca_host.specs.NamedFiles.{file_system};
 use crate::statuses::done;
 use std::alloc::Global;
 use std::io::{Read, Write};
-use uca_book_runs::run_book;
+use uca_change_runs::run_book;
 use uca_host::files::opening::{open_one, open_two};
 use uca_host::{DONE, Opens};
 use uca_rekey::{run_compact, run_expand};

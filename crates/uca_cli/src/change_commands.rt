@@ -9,7 +9,7 @@ use crate::statuses::{checked, done};
 use std::alloc::Global;
 use std::io::{Read, Write};
 use uca_change_runs::{run_audit_changes, run_changes};
-use uca_editions::FoundChanges;
+use uca_editions::ListedChanges;
 use uca_host::Opens;
 use uca_host::files::keeping::{find_certificate_of_editions, keep_certificate};
 use uca_host::files::opening::{open_change_files, open_editions, open_one};
@@ -64,7 +64,7 @@ fn change_files<O: Opens, W: Write>(
 // Keeps what a run of changes returned. An error of the run is returned, and then nothing is made.
 fn keep_run<O: Opens, W: Write>(
     opener: &mut O,
-    run: Result<FoundChanges, RunFault>,
+    run: Result<ListedChanges, RunFault>,
     name: &str,
     out: &mut Sink<W>,
 ) -> Result<u8, RunFault>
@@ -84,7 +84,7 @@ fn keep_run<O: Opens, W: Write>(
 // Keeps the certificate, and writes the changes where the certificate is kept.
 fn keep_found<O: Opens, W: Write>(
     opener: &mut O,
-    found: &FoundChanges,
+    found: &ListedChanges,
     name: &str,
     out: &mut Sink<W>,
 ) -> Result<u8, RunFault>

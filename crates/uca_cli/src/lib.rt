@@ -1,6 +1,6 @@
 //! The command (`run_command`): it opens the files that its arguments name, runs over them, and reports what comes of it. It passes
-//! on `report` of `uca_host`, and the runs of `uca_run_parts`, `uca_key_runs`, `uca_tailor_runs`, `uca_change_runs`, `uca_rekey`,
-//! `uca_book_runs` and `uca_fingerprint_runs`.
+//! on `report` of `uca_host`, and the runs of `uca_run_parts`, `uca_key_runs`, `uca_tailor_runs`, `uca_change_runs`, `uca_rekey`
+//! and `uca_fingerprint_runs`.
 #![tactic(auto)]
 
 mod book_commands;
@@ -13,8 +13,7 @@ mod printing;
 mod statuses;
 
 pub use command::run_command;
-pub use uca_book_runs::run_book;
-pub use uca_change_runs::{run_affected_by_changes, run_audit_changes, run_changes};
+pub use uca_change_runs::{run_affected_by_changes, run_audit_changes, run_book, run_changes};
 pub use uca_editions::affected_by_changes_are_the_others;
 pub use uca_fingerprint_runs::run_fingerprint;
 pub use uca_host::{MakeFault, OpenFault, Opens, STREAM_FAILED, report};

@@ -9,7 +9,7 @@ use Rattle.uca_table.specs.inside.Keeping.{has_bit}
 use Rattle.uca_text.specs.Occurring.{OccursInOrder}
 use Rattle.uca_text.proofs.Occurring.{occurs_more}
 use Rattle.uca_change_files.specs.Changes.{ChangeContent, IsChangeList, IsText}
-use Rattle.uca_change_lists.proofs.TextSets.{contained_first}
+use Rattle.uca_images.proofs.Contains.{contained_first}
 use Rattle.uca_editions.specs.AffectedTexts.{is_affected_by}
 use Rattle.uca_editions.specs.inside.Index.{AreMarked, IsFree, IsMarked, first_of}
 use Rattle.uca_editions.proofs.MarkLaws.{outside_unmarked}

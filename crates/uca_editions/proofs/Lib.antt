@@ -1,9 +1,11 @@
+pub mod BorderLists
+pub mod BorderSteps
+pub mod FirstOutside
+pub mod SamePairs
 pub mod Chaining
 pub mod NotAccepted
 pub mod FoundRows
-pub mod SameChanges
 pub mod LeastRuns
-pub mod ListedTexts
 pub mod Refusals
 pub mod ListedKeys
 pub mod EveryKey

@@ -1,5 +1,5 @@
 -- Sorted texts that are listed one by one.
-use Rattle.std.proofs.Common.{◌≡◌, ◌⊎◌, inl, inr, ⊎_elim, ℕ, ◌+◌, ◌<◌, ◌≤◌, List, [], ◌∷◌, ◌++◌, Bool, true, false, length, take, get_or, map, Contains, refl, sym, ap, subst, subst₂, ◌∙◌, arith, length-append, length-take, get_or-take, Ordering}
+use Rattle.std.proofs.Common.{◌≡◌, ◌↔◌, ◌⊎◌, inl, inr, ⊎_elim, ℕ, ◌+◌, ◌<◌, ◌≤◌, List, [], ◌∷◌, ◌++◌, Bool, true, false, length, take, get_or, map, Contains, refl, sym, ap, subst, subst₂, ◌∙◌, arith, length-append, length-take, get_or-take, Ordering}
 use Rattle.std.specs.List.{AllByRecursion}
 use Rattle.std.specs.List.Sorted.{IsPermutation, IsSortedBy}
 use Rattle.std.specs.Cmp.Lexicographic.{slice_cmp}
@@ -8,16 +8,39 @@ use Rattle.std.specs.Ordering.{is_lt, nat_cmp, ordering_reverse}
 use Rattle.std.specs.declared.cmp.Ordering.TheVariants.{Less, Equal, Greater}
 use Rattle.std.proofs.lemmas.Cmp.{nat_list_cmp_total}
 use Rattle.std.proofs.lemmas.List.{get_or_default, get_or-map, take_all, take-map, length-map}
-use Rattle.std.proofs.lemmas.List.Elements.{All-map, recursion_from_All}
+use Rattle.std.proofs.lemmas.List.Elements.{All-contains_itself, All-map, recursion_from_All}
 use Rattle.std.proofs.lemmas.List.Sorted.{IsPermutation-map, IsPermutation-sym, Contains-permutation, length_permutation, ranks_by, sorted_far}
 use Rattle.uca_weights.proofs.Lists.{each_contained, each_push, each_weaker, taken_more}
 use Rattle.uca_values.specs.declared.faults.FaultKind.{FaultKind}
 use Rattle.uca_values.specs.declared.faults.FaultKind.TheVariants as kinds
 use Rattle.uca_change_files.specs.Changes.{ChangeContent, Item, OfText, IsText, IsBelow, MayCome, MayFollow}
 use Rattle.uca_change_files.specs.Steps.{MayAdd, Refuses}
-use Rattle.uca_changes.proofs.SameLists.{each_of_these}
 use Rattle.uca_editions.specs.inside.Everything.{ListsAll, ListsIfItMay, MayListAll}
-use Rattle.uca_editions.proofs.ListedTexts.{contained_last}
+use Rattle.uca_images.proofs.Contains.{contained_first}
+
+-- ---- Members of lists
+
+-- what is true of each member is true of each member of a list that has no others
+each_of_these : {X : Type 0} (P : X → Type 0) (xs ys : List X) → ((x : X) → Contains xs x → Contains ys x) → AllByRecursion P ys → AllByRecursion P xs
+each_of_these P xs ys no_others all =
+    each_weaker (Contains xs) P (λ x there. each_contained P ys x all (no_others x there)) xs
+    (recursion_from_All (Contains xs) xs (All-contains_itself xs))
+
+-- what a list with one more at its end contains
+contained_last : {X : Type 0} (xs : List X) (x y : X) → Contains (xs ++ x ∷ []) y ↔ (Contains xs y ⊎ (x ≡ y))
+contained_last [] x y =
+    let first = contained_first x [] y in
+    (λ h. ⊎_elim (λ own. inr own) (λ none. inl none) (first.0 h), λ h. first.1 (⊎_elim (λ none. inr none) (λ own. inl own) h))
+contained_last (z ∷ xs) x y =
+    let all = contained_first z (xs ++ x ∷ []) y in
+    let front = contained_first z xs y in
+    let rest = contained_last xs x y in (
+      (λ h. ⊎_elim (λ is. inl (front.1 (inl is))) (λ later. ⊎_elim (λ there. inl (front.1 (inr there))) (λ own. inr own) (rest.0 later)) (all.0 h)),
+      λ h. ⊎_elim
+          (λ there. ⊎_elim (λ is. all.1 (inl is)) (λ later. all.1 (inr (rest.1 (inl later)))) (front.0 there))
+          (λ own. all.1 (inr (rest.1 (inr own))))
+          h,
+    )
 
 -- ---- Items that may be added
 

@@ -7,7 +7,7 @@ use Rattle.uca_elements.specs.Rows.{IsKey, rows_of}
 use Rattle.uca_certificates.specs.Certificates.{CertificateContent}
 use Rattle.uca_tailorings.specs.KeptRows.{IsKeptRow, IsKnownRow}
 use Rattle.uca_tailorings.specs.Tailorings.{IsCovered}
-use Rattle.uca_change_lists.specs.ChangeLists.{ChangesContent}
+use Rattle.uca_change_files.specs.Changes.{ChangeContent}
 use Rattle.uca_changes.specs.Changes.{Change, IsChangedText, Meets}
 use Rattle.uca_changes.specs.declared.conditions.ChangeCondition.{ChangeCondition}
 use Rattle.uca_changes.specs.declared.conditions.ChangeCondition.TheVariants.{OldIllFormed, NewIllFormed, RangeChanged, Uncovered, RowChanged, RowMissing, RowExtra, PointChanged, SettingChanged}
@@ -54,7 +54,7 @@ module _ (change : Change) (lists : ListsEverything change) where
 
 module _ {T : Type 0} (editions : Editions T) where
   -- a condition on the tables fails whatever is listed
-  fails_always : (condition : ChangeCondition) (place : ChangePlace) (changes others : ChangesContent) (certificate other : CertificateContent) →
+  fails_always : (condition : ChangeCondition) (place : ChangePlace) (changes others : ChangeContent) (certificate other : CertificateContent) →
       IsOfTables condition → FailsFirstAt (change_with editions changes certificate) condition place →
       FailsFirstAt (change_with editions others other) condition place
   fails_always OldIllFormed place changes others certificate other of_tables fails = fails
@@ -68,7 +68,7 @@ module _ {T : Type 0} (editions : Editions T) where
   fails_always PointChanged place changes others certificate other of_tables fails = absurd of_tables
 
   -- so no change is accepted where an audit names it
-  pub no_change : (fault : ChangeFault) (changes : ChangesContent) (certificate : CertificateContent) →
+  pub no_change : (fault : ChangeFault) (changes : ChangeContent) (certificate : CertificateContent) →
       (refusal : IsFirstRefusal (change_with editions changes certificate) fault) → IsOfTables refusal.condition → HaveNoChange (change_with editions) fault
   no_change fault changes certificate refusal of_tables = record {
     condition = refusal.condition;
@@ -80,7 +80,7 @@ module _ {T : Type 0} (editions : Editions T) where
   }
 
   -- an audit rejects a change of everything only for the tables
-  pub no_change_listed : (fault : ChangeFault) (changes : ChangesContent) (certificate : CertificateContent) →
+  pub no_change_listed : (fault : ChangeFault) (changes : ChangeContent) (certificate : CertificateContent) →
       ListsEverything (change_with editions changes certificate) →
       IsFirstRefusal (change_with editions changes certificate) fault ⊎ (fault ≡ Memory) → RefusesChanges editions fault
   no_change_listed fault changes certificate lists (inl refusal) =
@@ -88,7 +88,7 @@ module _ {T : Type 0} (editions : Editions T) where
   no_change_listed fault changes certificate lists (inr memory) = inr memory
 
   -- each condition on the tables is met
-  tables_met : MayChange editions → (condition : ChangeCondition) (changes : ChangesContent) (certificate : CertificateContent) → IsOfTables condition →
+  tables_met : MayChange editions → (condition : ChangeCondition) (changes : ChangeContent) (certificate : CertificateContent) → IsOfTables condition →
       Meets (change_with editions changes certificate) condition
   tables_met may OldIllFormed changes certificate of_tables = may.old
   tables_met may NewIllFormed changes certificate of_tables = may.new

@@ -1,32 +1,16 @@
--- Rising ranges and rising texts, and which texts begin with a code point.
+-- Rising texts, and which of them begin with a code point.
 use Rattle.std.proofs.Common.{◌≡◌, ◌≢◌, ℕ, zero, suc, ◌+◌, ◌-◌, ◌<◌, ◌≤◌, ltb, List, [], ◌∷◌, length, take, drop, get_or, Contains, inl, inr, Ordering, Less, Greater, sym, ap, ◌∙◌, subst, arith}
 use Rattle.std.specs.Cmp.{nat_cmp_is}
 use Rattle.std.specs.Cmp.Lexicographic.{slice_cmp}
-use Rattle.std.specs.List.{AllByRecursion, AllWithin}
+use Rattle.std.specs.List.{AllWithin}
 use Rattle.std.specs.List.Sorted.{IsPartitionedBy}
 use Rattle.std.specs.Ordering.{nat_cmp, ordering_then}
 use Rattle.std.proofs.lemmas.Bool.{cases_lt, ltb-true, lt-ltb}
 use Rattle.std.proofs.lemmas.List.{get_or-drop, get_or_read, length-drop, take_all}
-use Rattle.uca_weights.proofs.Lists.{each_weaker}
-use Rattle.uca_values.specs.declared.CodePointRange.{CodePointRange}
-use Rattle.uca_values.specs.Ranges.{AreRising}
 use Rattle.uca_values.proofs.Rising.{IsPlace}
 use Rattle.uca_text.specs.Occurring.{OccursInOrder}
-use Rattle.uca_change_files.specs.Changes.{AreInOrder, IsBefore, IsBelow, IsRange}
+use Rattle.uca_change_files.specs.Changes.{AreInOrder, IsBelow}
 use Rattle.uca_editions.specs.inside.Index.{first_of}
-
--- ---- Ranges
-
--- ranges in order rise
-pub rising_from : (ranges : List CodePointRange) → AllByRecursion IsRange ranges → AreInOrder IsBefore ranges → AreRising ranges
-rising_from [] all order = tt
-rising_from (r ∷ []) all order = (all.0.order, tt, tt)
-rising_from (r ∷ s ∷ more) all order =
-    let rest = rising_from (s ∷ more) all.1 order.1 in (
-      all.0.order,
-      (order.0, each_weaker (λ (t : CodePointRange). s.last < t.first) (λ t. r.last < t.first) (λ t later. omega (arith, order.0, all.1.0.order, later)) more rest.1),
-      rest,
-    )
 
 -- ---- Texts by their first code points
 

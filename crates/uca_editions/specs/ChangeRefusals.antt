@@ -4,7 +4,7 @@ use Rattle.uca_check.specs.WellFormed.{IsFirstWithout, IsFirstFailure}
 use Rattle.uca_elements.specs.Rows.{rows_of}
 use Rattle.uca_tailorings.specs.KeptRows.{IsKeptRow, IsKnownRow}
 use Rattle.uca_images.specs.UnlistedRows.{IsCoveredIfUnlisted, IsPresentIfUnlisted}
-use Rattle.uca_change_lists.specs.Points.{IsSamePair, IsSamePoint, IsFirstOutsideWithout}
+use Rattle.uca_changes.specs.Points.{IsSamePair, IsSamePoint, IsFirstOutsideWithout}
 use Rattle.uca_changes.specs.Changes.{Change, IsChangedText, Meets, IsAcceptedChange, number_of}
 use Rattle.uca_changes.specs.declared.conditions.ChangeCondition.{ChangeCondition}
 use Rattle.uca_changes.specs.declared.conditions.ChangeCondition.TheVariants.{OldIllFormed, NewIllFormed, RangeChanged, Uncovered, RowChanged, RowMissing, RowExtra, PointChanged, SettingChanged}

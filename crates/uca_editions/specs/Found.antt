@@ -4,7 +4,7 @@ use Rattle.uca_weights.specs.AskedSettings.{weighting_by}
 use Rattle.uca_values.specs.Content.{properties_of}
 use Rattle.uca_certificates.specs.Certificates.{CertificateContent}
 use Rattle.uca_tailorings.specs.Inputs.{maps_of}
-use Rattle.uca_change_lists.specs.ChangeLists.{ChangesContent}
+use Rattle.uca_change_files.specs.Changes.{ChangeContent}
 use Rattle.uca_check.specs.WellFormed.{IsWellFormed}
 use Rattle.uca_changes.specs.Changes.{Change}
 use Rattle.uca_changes.specs.declared.conditions.ChangeCondition.{ChangeCondition}
@@ -14,10 +14,10 @@ use Rattle.uca_editions.specs.ChangeRefusals.{FailsFirstAt, IsFirstRefusal}
 use Rattle.uca_changes.specs.declared.faults.ChangeFault.{ChangeFault}
 use Rattle.uca_changes.specs.declared.faults.ChangeFault.TheVariants.{NotMet, Memory}
 use Rattle.uca_editions.specs.declared.editions.Editions.{Editions}
-use Rattle.uca_editions.specs.declared.found.FoundChanges.{FoundChanges}
+use Rattle.uca_editions.specs.declared.listed.ListedChanges.{ListedChanges}
 
 -- the change from the old table and data file to the new ones, with what is listed and the maps of a certificate
-abbrev pub change_with : {T : Type 0} → Editions T → ChangesContent → CertificateContent → Change
+abbrev pub change_with : {T : Type 0} → Editions T → ChangeContent → CertificateContent → Change
 change_with editions changes certificate = record {
   old = editions.old.now;
   old_properties = properties_of editions.old_data.now;
@@ -29,8 +29,8 @@ change_with editions changes certificate = record {
 }
 
 -- the change from the old table and data file to the new ones, with what was found
-abbrev pub change_by : {T : Type 0} → Editions T → FoundChanges T → Change
-change_by editions found = change_with editions (record { texts = found.list.texts; ranges = found.list.ranges }) found.certificate
+abbrev pub change_by : {T : Type 0} → Editions T → ListedChanges T → Change
+change_by editions found = change_with editions found.list found.certificate
 
 -- which conditions are on the tables and the data files alone: what is listed and the maps have no part in them
 abbrev pub IsOfTables : ChangeCondition → Type 0
@@ -46,13 +46,13 @@ IsOfTables SettingChanged = ⊤
 
 -- Why no change from one edition to another is accepted, whatever is listed. `change_with` has the change with such lists and a
 -- certificate. The error is that of an audit: for some of them all conditions of lower numbers are met.
-pub record HaveNoChange (change_with : ChangesContent → CertificateContent → Change) (fault : ChangeFault) : Type 0 where
+pub record HaveNoChange (change_with : ChangeContent → CertificateContent → Change) (fault : ChangeFault) : Type 0 where
   pub condition : ChangeCondition
   pub place : ChangePlace
   pub is : fault ≡ NotMet condition place
   pub of_tables : IsOfTables condition
-  pub fails : (changes : ChangesContent) (certificate : CertificateContent) → FailsFirstAt (change_with changes certificate) condition place
-  pub named : (changes : ChangesContent) × (certificate : CertificateContent) × IsFirstRefusal (change_with changes certificate) fault
+  pub fails : (changes : ChangeContent) (certificate : CertificateContent) → FailsFirstAt (change_with changes certificate) condition place
+  pub named : (changes : ChangeContent) × (certificate : CertificateContent) × IsFirstRefusal (change_with changes certificate) fault
 
 -- why nothing is found: no change is accepted, or an allocation failed
 abbrev pub RefusesChanges : {T : Type 0} → Editions T → ChangeFault → Type 0

@@ -2,4 +2,4 @@ pub mod Chaining
 pub mod Everything
 pub mod LeastMaps
 pub mod Index
-pub mod ReadChange
+pub mod Borders

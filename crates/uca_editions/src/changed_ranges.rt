@@ -6,10 +6,11 @@ ghost use Rattle.uca_change_files.specs.Changes.{OfRange, put_last};
 ghost use Rattle.uca_change_files.specs.Steps.{MayAdd};
 
 use crate::Editions;
+use crate::borders::{push_data_borders, push_implicit_borders};
 use crate::changed_texts::unless_memory;
+use crate::points::{have_same_pair, say_same};
 use std::alloc::{AllocError, Allocator};
 use uca_change_files::{ChangeList, CodePointRange};
-use uca_change_lists::{have_same_pair, push_data_borders, push_implicit_borders, say_same};
 use uca_values::{Data, Table};
 
 /// The last code point below the surrogates.

@@ -10,9 +10,9 @@ ghost use Rattle.uca_changes.specs.Changes.{IsChangedText};
 ghost use Rattle.uca_editions.specs.ChangeInputs.{change_in};
 ghost use Rattle.uca_editions.specs.inside.Chaining.{FindsRowsOf, MeetsBelow, Passes};
 
+use crate::points::{first_other_pair, first_other_point};
 use crate::{ChangeCondition, ChangeFault, ChangeInputs, ChangePlace};
 use std::alloc::{AllocError, Allocator};
-use uca_change_lists::{first_other_pair, first_other_point};
 use uca_check::check;
 use uca_elements::Lookup;
 use uca_images::{Images, first_changed, first_missing, first_uncovered, first_unknown};
@@ -116,7 +116,7 @@ fn audit_weights<A: Allocator + Copy, T: Allocator>(
     ensures { Passes (change_in inputs.now) 7 result }
 {
     let old = inputs.old;
-    match first_uncovered(&old.rows, inputs.changes.texts(), images) {
+    match first_uncovered(&old.rows, inputs.changes, images) {
         None => audit_lookup(alloc, inputs, images),
         Some(at) => Err(at_old_row(inputs, ChangeCondition::Uncovered, at)),
     }
@@ -154,7 +154,7 @@ fn audit_kept<A: Allocator + Copy, T: Allocator>(
     ensures { Passes (change_in inputs.now) 7 result }
 {
     let old = inputs.old;
-    match first_changed(&old.rows, inputs.changes.texts(), images, new) {
+    match first_changed(&old.rows, inputs.changes, images, new) {
         None => audit_present(inputs, new),
         Some(at) => Err(at_old_row(inputs, ChangeCondition::RowChanged, at)),
     }
@@ -170,7 +170,7 @@ fn audit_present<A: Allocator + Copy, T: Allocator>(
     ensures { Passes (change_in inputs.now) 7 result }
 {
     let old = inputs.old;
-    match first_missing(&old.rows, inputs.changes.texts(), new) {
+    match first_missing(&old.rows, inputs.changes, new) {
         None => Ok(()),
         Some(at) => Err(at_old_row(inputs, ChangeCondition::RowMissing, at)),
     }
@@ -204,7 +204,7 @@ fn first_not_known<A: Allocator + Copy, T: Allocator>(
 {
     let old = Trie::new(alloc, inputs.old)?;
     let table = inputs.new;
-    let found = first_unknown(&table.rows, inputs.changes.texts(), &old);
+    let found = first_unknown(&table.rows, inputs.changes, &old);
     drop(old);
     Ok(found)
 }

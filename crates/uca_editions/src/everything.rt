@@ -10,7 +10,7 @@ ghost use Rattle.uca_editions.specs.Found.{change_by};
 use crate::changed_ranges::{LAST_POINT, push_range};
 use crate::changed_texts::push_texts;
 use crate::levels::least_map;
-use crate::{Editions, FoundChanges};
+use crate::{Editions, ListedChanges};
 use std::alloc::{AllocError, Allocator};
 use uca_certificates::Certificate;
 use uca_change_files::ChangeList;
@@ -22,13 +22,13 @@ use uca_weights::Level;
 pub(crate) fn everything<A: Allocator + Copy>(
     alloc: A,
     editions: &Editions<A>,
-) -> Result<FoundChanges<A>, AllocError>
+) -> Result<ListedChanges<A>, AllocError>
     ensures { IfOk result (λ found. ListsEverything (change_by editions.now found)) }
 {
     let certificate = least_certificate(alloc)?;
     let mut list = ChangeList::new(alloc);
     match list_everything(alloc, &mut list, editions) {
-        Ok(()) => Ok(FoundChanges { list, certificate }),
+        Ok(()) => Ok(ListedChanges { list, certificate }),
         Err(error) => Err(error),
     }
 }

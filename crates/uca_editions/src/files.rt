@@ -7,9 +7,8 @@ ghost use Rattle.uca_editions.specs.ChangeInputs.{MeansUnaffectedTextsStay};
 ghost use Rattle.uca_editions.specs.ChangeRefusals.{IsFirstRefusal};
 ghost use Rattle.uca_editions.specs.ReadChange.{change_of};
 
-use crate::{Certificate, ChangeFault, ChangeInputs, audit_change, changes_of};
+use crate::{ChangeFault, ChangeInputs, ListedChanges, audit_change};
 use std::alloc::{Allocator, Global};
-use uca_change_files::ChangeList;
 use uca_values::{Data, Table};
 
 /// What a table and its data file mean.
@@ -30,22 +29,13 @@ pub struct EditionFiles<M: Allocator = Global> {
     pub new: Edition<M>,
 }
 
-/// What a file of changes and a certificate mean.
-#[derive(Drop)]
-pub struct Listed<M: Allocator = Global> {
-    /// The changed texts and the changed ranges of code points.
-    pub list: ChangeList<M>,
-    /// The images of the old table's weights.
-    pub certificate: Certificate<M>,
-}
-
 /// What the files of a change mean.
 #[derive(Drop)]
 pub struct ChangeFiles<M: Allocator = Global> {
     /// The two editions.
     pub editions: EditionFiles<M>,
     /// What changes from the one to the other.
-    pub listed: Listed<M>,
+    pub listed: ListedChanges<M>,
 }
 
 /// Audits the change that was read of its files, as [`audit_change`] does.
@@ -58,19 +48,14 @@ pub fn audit_files<M: Allocator + Copy>(alloc: M, files: &ChangeFiles<M>) -> Res
     ensures meaning { OnOk result (MeansUnaffectedTextsStay (change_of files.now)) }
     ensures refused { IfErr result (λ fault. IsFirstRefusal (change_of files.now) fault ⊎ (fault ≡ ChangeFault.Memory)) }
 {
-    match changes_of(alloc, &files.listed.list) {
-        Ok(changes) => {
-            let editions = &files.editions;
-            let inputs = ChangeInputs {
-                old: &editions.old.table,
-                old_data: &editions.old.properties,
-                new: &editions.new.table,
-                new_data: &editions.new.properties,
-                changes: &changes,
-                certificate: &files.listed.certificate,
-            };
-            audit_change(alloc, &inputs)
-        }
-        Err(_) => Err(ChangeFault::Memory),
-    }
+    let editions = &files.editions;
+    let inputs = ChangeInputs {
+        old: &editions.old.table,
+        old_data: &editions.old.properties,
+        new: &editions.new.table,
+        new_data: &editions.new.properties,
+        changes: &files.listed.list,
+        certificate: &files.listed.certificate,
+    };
+    audit_change(alloc, &inputs)
 }

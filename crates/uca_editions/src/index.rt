@@ -15,7 +15,6 @@ use std::marker::Model;
 use uca_change_files::ChangeList;
 use uca_changes::Affects;
 use uca_text::Normal;
-use uca_values::ranges::is_held;
 
 /// A list of changes, ready to be looked up in texts. It has a mark for each code point that lies in a changed range or
 /// begins a changed text. So a text without such a code point costs one look a code point. The marks take 139,264 bytes.
@@ -60,7 +59,7 @@ impl<A: Allocator> ChangeIndex<A> {
         ensures free { result ≡ false → IsFree self.now points.now (take (at + 1) points.now) }
     {
         let point = points[at];
-        if is_held(self.list.ranges(), point) {
+        if self.list.has_point(point) {
             return true;
         }
         if is_among(&points[..at], point) {

@@ -19,7 +19,7 @@ use crate::changed_ranges::list_ranges;
 use crate::changed_texts::list_texts;
 use crate::everything::everything;
 use crate::levels::level_map;
-use crate::{ChangeFault, ChangeInputs, Editions, FoundChanges, audit_change, changes_of};
+use crate::{ChangeFault, ChangeInputs, Editions, ListedChanges, audit_change};
 use std::alloc::{AllocError, Allocator};
 use uca_certificates::Certificate;
 use uca_change_files::ChangeList;
@@ -48,7 +48,7 @@ use uca_weights::Level;
 pub fn find_changes<A: Allocator + Copy>(
     alloc: A,
     editions: &Editions<A>,
-) -> Result<FoundChanges<A>, ChangeFault>
+) -> Result<ListedChanges<A>, ChangeFault>
     // An audit accepts what was found.
     ensures accepted { IfOk result (λ found. IsAcceptedChange (change_by editions.now found)) }
 
@@ -74,7 +74,7 @@ fn find_after<A: Allocator + Copy>(
     alloc: A,
     editions: &Editions<A>,
     fault: ChangeFault,
-) -> Result<FoundChanges<A>, ChangeFault>
+) -> Result<ListedChanges<A>, ChangeFault>
     ensures accepted { IfOk result (λ found. IsAcceptedChange (change_by editions.now found)) }
     ensures meaning { IfOk result (λ found. MeansUnaffectedTextsStay (change_by editions.now found)) }
     ensures refused { IfErr result (RefusesChanges editions.now) }
@@ -89,7 +89,7 @@ fn find_after<A: Allocator + Copy>(
 fn find_everything<A: Allocator + Copy>(
     alloc: A,
     editions: &Editions<A>,
-) -> Result<FoundChanges<A>, ChangeFault>
+) -> Result<ListedChanges<A>, ChangeFault>
     ensures accepted { IfOk result (λ found. IsAcceptedChange (change_by editions.now found)) }
     ensures meaning { IfOk result (λ found. MeansUnaffectedTextsStay (change_by editions.now found)) }
     ensures refused { IfErr result (RefusesChanges editions.now) }
@@ -105,7 +105,7 @@ fn find_everything<A: Allocator + Copy>(
 fn found_changes<A: Allocator + Copy>(
     alloc: A,
     editions: &Editions<A>,
-) -> Result<FoundChanges<A>, AllocError> {
+) -> Result<ListedChanges<A>, AllocError> {
     let new = Trie::new(alloc, editions.new)?;
     let found = found_by(alloc, editions, &new);
     drop(new);
@@ -117,12 +117,12 @@ fn found_by<A: Allocator + Copy, L: Lookup>(
     alloc: A,
     editions: &Editions<A>,
     new: &L,
-) -> Result<FoundChanges<A>, AllocError> {
+) -> Result<ListedChanges<A>, AllocError> {
     let old = editions.old;
     let certificate = certificate_of(alloc, &old.rows, new)?;
     let mut list = ChangeList::new(alloc);
     match list_changes(alloc, &mut list, editions, &certificate, new) {
-        Ok(()) => Ok(FoundChanges { list, certificate }),
+        Ok(()) => Ok(ListedChanges { list, certificate }),
         Err(error) => Err(error),
     }
 }
@@ -161,19 +161,18 @@ fn certificate_of<A: Allocator + Copy, L: Lookup>(
 fn audit_found<A: Allocator + Copy>(
     alloc: A,
     editions: &Editions<A>,
-    found: &FoundChanges<A>,
+    found: &ListedChanges<A>,
 ) -> Result<(), ChangeFault>
     ensures accepted { OnOk result (IsAcceptedChange (change_by editions.now found.now)) }
     ensures meaning { OnOk result (MeansUnaffectedTextsStay (change_by editions.now found.now)) }
     ensures refused { IfErr result (λ fault. IsFirstRefusal (change_by editions.now found.now) fault ⊎ (fault ≡ ChangeFault.Memory)) }
 {
-    let changes = changes_of(alloc, &found.list)?;
     let inputs = ChangeInputs {
         old: editions.old,
         old_data: editions.old_data,
         new: editions.new,
         new_data: editions.new_data,
-        changes: &changes,
+        changes: &found.list,
         certificate: &found.certificate,
     };
     audit_change(alloc, &inputs)

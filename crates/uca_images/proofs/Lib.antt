@@ -1,3 +1,4 @@
+pub mod Contains
 pub mod FirstRows
 pub mod ImageLists
 pub mod ImageTables

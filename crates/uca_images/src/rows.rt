@@ -12,7 +12,7 @@ ghost use Rattle.uca_images.specs.UnlistedRows.{IsCoveredIfUnlisted, IsPresentIf
 
 use crate::Images;
 use std::alloc::Allocator;
-use uca_change_lists::TextSet;
+use uca_change_files::ChangeList;
 use uca_elements::{Lookup, row_of};
 use uca_values::Row;
 use uca_weights::Element;
@@ -20,118 +20,100 @@ use uca_weights::Element;
 /// The first row whose key is not listed and that has a weight without an image, by its index.
 pub fn first_uncovered<A: Allocator + Copy, T: Allocator>(
     rows: &[Row<T>],
-    listed: &TextSet<T>,
+    listed: &ChangeList<T>,
     images: &Images<A, T>,
 ) -> Option<usize>
-    ensures { FindsFirstWithout (IsCoveredIfUnlisted (maps_of images.now) (Contains listed.now)) rows.now result }
+    ensures { FindsFirstWithout (IsCoveredIfUnlisted (maps_of images.now) (Contains listed.now.texts)) rows.now result }
 {
-    for (at, row) in rows.iter().enumerate() {
-        if !is_covered_row(row, listed, images) {
-            return Some(at);
-        }
-    }
-    None
+    rows.iter()
+        .position(|row| !is_covered_row(row, listed, images))
 }
 
 /// The first row whose key is not listed, and whose new row is there but is not its image, by its index.
 pub fn first_changed<A: Allocator + Copy, T: Allocator, L: Lookup>(
     rows: &[Row<T>],
-    listed: &TextSet<T>,
+    listed: &ChangeList<T>,
     images: &Images<A, T>,
     new: &L,
 ) -> Option<usize>
-    ensures { FindsFirstWithout (IsKeptRow (maps_of images.now) (Contains listed.now) (L.content new.now)) rows.now result }
+    ensures { FindsFirstWithout (IsKeptRow (maps_of images.now) (Contains listed.now.texts) (L.content new.now)) rows.now result }
 {
-    for (at, row) in rows.iter().enumerate() {
-        if !is_kept(row, listed, images, new) {
-            return Some(at);
-        }
-    }
-    None
+    rows.iter()
+        .position(|row| !is_kept(row, listed, images, new))
 }
 
 /// The first row whose key is not listed and has no new row, by its index.
 pub fn first_missing<T: Allocator, L: Lookup>(
     rows: &[Row<T>],
-    listed: &TextSet<T>,
+    listed: &ChangeList<T>,
     new: &L,
 ) -> Option<usize>
-    ensures { FindsFirstWithout (IsPresentIfUnlisted (Contains listed.now) (L.content new.now)) rows.now result }
+    ensures { FindsFirstWithout (IsPresentIfUnlisted (Contains listed.now.texts) (L.content new.now)) rows.now result }
 {
-    for (at, row) in rows.iter().enumerate() {
-        if !is_present(row, listed, new) {
-            return Some(at);
-        }
-    }
-    None
+    rows.iter().position(|row| !is_present(row, listed, new))
 }
 
 /// The first new row whose key has no old row and is not listed, by its index.
 pub fn first_unknown<T: Allocator, L: Lookup>(
     rows: &[Row<T>],
-    listed: &TextSet<T>,
+    listed: &ChangeList<T>,
     old: &L,
 ) -> Option<usize>
-    ensures { FindsFirstWithout (IsKnownRow (Contains listed.now) (L.content old.now)) rows.now result }
+    ensures { FindsFirstWithout (IsKnownRow (Contains listed.now.texts) (L.content old.now)) rows.now result }
 {
-    for (at, row) in rows.iter().enumerate() {
-        if !is_known(row, listed, old) {
-            return Some(at);
-        }
-    }
-    None
+    rows.iter().position(|row| !is_known(row, listed, old))
 }
 
-/// Whether each weight of the row has an image, or its key is listed.
+// Whether each weight of the row has an image, or its key is listed.
 fn is_covered_row<A: Allocator + Copy, T: Allocator>(
     row: &Row<T>,
-    listed: &TextSet<T>,
+    listed: &ChangeList<T>,
     images: &Images<A, T>,
 ) -> bool
-    ensures { IsTrue result ↔ IsCoveredIfUnlisted (maps_of images.now) (Contains listed.now) row.now }
+    ensures { IsTrue result ↔ IsCoveredIfUnlisted (maps_of images.now) (Contains listed.now.texts) row.now }
 {
-    are_covered(images, &row.elements) || listed.contains(&row.key)
+    are_covered(images, &row.elements) || listed.has_text(&row.key)
 }
 
-/// Whether the row's key has a new row, or is listed.
-fn is_present<T: Allocator, L: Lookup>(row: &Row<T>, listed: &TextSet<T>, new: &L) -> bool
-    ensures { IsTrue result ↔ IsPresentIfUnlisted (Contains listed.now) (L.content new.now) row.now }
+// Whether the row's key has a new row, or is listed.
+fn is_present<T: Allocator, L: Lookup>(row: &Row<T>, listed: &ChangeList<T>, new: &L) -> bool
+    ensures { IsTrue result ↔ IsPresentIfUnlisted (Contains listed.now.texts) (L.content new.now) row.now }
 {
-    is_key(new, &row.key) || listed.contains(&row.key)
+    is_key(new, &row.key) || listed.has_text(&row.key)
 }
 
-/// Whether the row's key has an old row, or is listed.
-fn is_known<T: Allocator, L: Lookup>(row: &Row<T>, listed: &TextSet<T>, old: &L) -> bool
-    ensures { IsTrue result ↔ IsKnownRow (Contains listed.now) (L.content old.now) row.now }
+// Whether the row's key has an old row, or is listed.
+fn is_known<T: Allocator, L: Lookup>(row: &Row<T>, listed: &ChangeList<T>, old: &L) -> bool
+    ensures { IsTrue result ↔ IsKnownRow (Contains listed.now.texts) (L.content old.now) row.now }
 {
-    is_key(old, &row.key) || listed.contains(&row.key)
+    is_key(old, &row.key) || listed.has_text(&row.key)
 }
 
-/// Whether the row's key is listed, or has no new row, or its new row is the image of the row.
+// Whether the row's key is listed, or has no new row, or its new row is the image of the row.
 fn is_kept<A: Allocator + Copy, T: Allocator, L: Lookup>(
     row: &Row<T>,
-    listed: &TextSet<T>,
+    listed: &ChangeList<T>,
     images: &Images<A, T>,
     new: &L,
 ) -> bool
-    ensures { IsTrue result ↔ IsKeptRow (maps_of images.now) (Contains listed.now) (L.content new.now) row.now }
+    ensures { IsTrue result ↔ IsKeptRow (maps_of images.now) (Contains listed.now.texts) (L.content new.now) row.now }
 {
     match row_of(new, &row.key) {
         None => true,
         Some(elements) => {
-            are_images(images, &row.elements, elements) || listed.contains(&row.key)
+            are_images(images, &row.elements, elements) || listed.has_text(&row.key)
         }
     }
 }
 
-/// Whether the lookup has a row for the code points.
+// Whether the lookup has a row for the code points.
 fn is_key<L: Lookup>(lookup: &L, key: &[char]) -> bool
     ensures { IsTrue result ↔ IsKey (L.content lookup.now) key.now }
 {
     row_of(lookup, key).is_some()
 }
 
-/// Whether each weight of the elements has an image at its level.
+// Whether each weight of the elements has an image at its level.
 fn are_covered<A: Allocator + Copy, T: Allocator>(
     images: &Images<A, T>,
     elements: &[Element],
@@ -146,7 +128,7 @@ fn are_covered<A: Allocator + Copy, T: Allocator>(
     true
 }
 
-/// Whether each weight of the element has an image at its level.
+// Whether each weight of the element has an image at its level.
 fn is_covered<A: Allocator + Copy, T: Allocator>(images: &Images<A, T>, element: Element) -> bool
     ensures { IsTrue result ↔ IsCovered (maps_of images.now) element }
 {

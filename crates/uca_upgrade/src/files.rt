@@ -19,7 +19,7 @@ use crate::faults::UpgradeFault;
 use std::alloc::Global;
 use uca_certificates::{Certificate, CertificateFault, CertificateFaultKind, read_certificate};
 use uca_change_files::{ChangeList, read_changes};
-use uca_editions::{ChangeFiles, Edition, EditionFiles, Listed};
+use uca_editions::{ChangeFiles, Edition, EditionFiles, ListedChanges};
 use uca_owned::{OpenFault, in_memory};
 use uca_table::{read_data, read_table};
 use uca_values::TableFault;
@@ -101,7 +101,7 @@ fn read_edition(alloc: Global, table: &[u8], data_file: &[u8]) -> Result<Edition
 }
 
 // Reads the file of changes, and then the certificate.
-fn read_listed(alloc: Global, files: &UpgradeFiles) -> Result<Listed, UpgradeFault>
+fn read_listed(alloc: Global, files: &UpgradeFiles) -> Result<ListedChanges, UpgradeFault>
     ensures found { IfOk result (ListMeans files.now) }
     ensures only { (change : Change) → MeanChange files.now change →
         MatchResult result (IsListedOf change) (IsUpgradeStop Numbers.AsText change) }
@@ -109,7 +109,7 @@ fn read_listed(alloc: Global, files: &UpgradeFiles) -> Result<Listed, UpgradeFau
 {
     match list_of(alloc, files.changes) {
         Ok(list) => match certificate_of(alloc, files.certificate) {
-            Ok(certificate) => Ok(Listed { list, certificate }),
+            Ok(certificate) => Ok(ListedChanges { list, certificate }),
             Err(fault) => {
                 drop(list);
                 Err(UpgradeFault::Certificate(fault))

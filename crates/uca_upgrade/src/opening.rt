@@ -17,7 +17,7 @@ use crate::files::{UpgradeFiles, new_fault, old_fault, read_change};
 use crate::owned::OwnedUpgrade;
 use std::alloc::{AllocError, Global};
 use uca_editions::{
-    ChangeFault, ChangeFiles, ChangeIndex, Edition, EditionFiles, Listed, audit_files,
+    ChangeFault, ChangeFiles, ChangeIndex, Edition, EditionFiles, ListedChanges, audit_files,
 };
 use uca_fingerprint::fingerprint;
 use uca_images::KeyMover;
@@ -156,7 +156,7 @@ fn kept(
 {
     let ChangeFiles {
         editions: EditionFiles { old, new },
-        listed: Listed { list, certificate },
+        listed: ListedChanges { list, certificate },
     } = read;
     let settings = settings_under(asked, &old.table.header);
     let new_settings = settings_under(asked, &new.table.header);

@@ -10,7 +10,7 @@ use Rattle.uca_run_parts.specs.Files.{Reading, TableAndData, Done, table_with, t
 use Rattle.uca_change_runs.specs.ChangeFiles.{EditionsContent, change_between, editions_with, then_changes}
 use Rattle.uca_editions.specs.declared.files.Edition.{Edition}
 use Rattle.uca_editions.specs.declared.files.EditionFiles.{EditionFiles}
-use Rattle.uca_editions.specs.declared.files.Listed.{Listed}
+use Rattle.uca_editions.specs.declared.listed.ListedChanges.{ListedChanges}
 
 -- ---- Some of the files
 
@@ -49,5 +49,5 @@ edition_of edition = table_with edition.table (properties_of edition.properties)
 abbrev pub editions_of : {A : Type 0} → EditionFiles A → EditionsContent
 editions_of files = editions_with (edition_of files.old) (edition_of files.new)
 
-abbrev pub listed_of : {A : Type 0} → Listed A → ListedContent
+abbrev pub listed_of : {A : Type 0} → ListedChanges A → ListedContent
 listed_of listed = listed_with listed.list listed.certificate

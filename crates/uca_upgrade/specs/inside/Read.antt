@@ -11,7 +11,7 @@ use Rattle.uca_changes.specs.declared.faults.ChangeFault.{ChangeFault}
 use Rattle.uca_changes.specs.declared.faults.ChangeFault.TheVariants as change_faults
 use Rattle.uca_editions.specs.AffectedTexts.{listed_in}
 use Rattle.uca_editions.specs.declared.files.EditionFiles.{EditionFiles}
-use Rattle.uca_editions.specs.declared.files.Listed.{Listed}
+use Rattle.uca_editions.specs.declared.listed.ListedChanges.{ListedChanges}
 use Rattle.uca_editions.specs.ChangeRefusals.{IsFirstRefusal}
 use Rattle.uca_number_keys.specs.Tables.{RefusesTable}
 use Rattle.uca_owned.specs.Opening.{MeanFiles}
@@ -51,12 +51,12 @@ new_fault_of open_faults.Memory = Memory
 -- ---- What is listed
 
 -- the bytes of the file of changes and of the certificate mean what was read
-pub record ListMeans (files : UpgradeFiles) (read : Listed Global) : Type 0 where
+pub record ListMeans (files : UpgradeFiles) (read : ListedChanges Global) : Type 0 where
   pub list : changes.Means files.changes.now read.list
   pub certificate : certificates.Means files.certificate.now read.certificate
 
 -- what was read is what a change lists
-pub record IsListedOf (change : Change) (read : Listed Global) : Type 0 where
+pub record IsListedOf (change : Change) (read : ListedChanges Global) : Type 0 where
   pub list : read.list ≡ listed_in change
   pub maps : maps_of read.certificate ≡ change.maps
 

@@ -19,9 +19,9 @@ audit_present-requires-clause-met g c =
     meets_more change RowChanged c.requires.met
     (subst (λ (content : CertificateContent). AllByRecursion (IsKeptRow (maps_of content) (Contains change.texts) (rows_of change.new.rows)) change.old.rows)
     c.requires.images
-    (told_by (λ entries texts rows. AllByRecursion (IsKeptRow (maps_of c.args.images.now) (Contains texts) rows) entries)
-    c.deref.result.now change.old.rows c.texts.result.now change.texts _ (rows_of change.new.rows)
-    (c.deref.ensures.value ∙ ap (λ (t : TableContent). t.rows) c.old.view_is) c.texts.ensures c.requires.rows c.in-None.ensures))
+    (told_by (λ entries rows. AllByRecursion (IsKeptRow (maps_of c.args.images.now) (Contains change.texts) rows) entries)
+    c.deref.result.now change.old.rows _ (rows_of change.new.rows)
+    (c.deref.ensures.value ∙ ap (λ (t : TableContent). t.rows) c.old.view_is) c.requires.rows c.in-None.ensures))
 
 pub at_old_row-requires : goal.at_old_row-requires
 at_old_row-requires g c =
@@ -37,7 +37,7 @@ returns-in-Some g c =
       refl,
       subst (λ (content : CertificateContent). IsFirstWithout (IsKeptRow (maps_of content) (Contains change.texts) (rows_of change.new.rows)) change.old.rows (c.in-Some.at + 1))
           c.requires.images
-          (told_by (λ entries texts rows. IsFirstWithout (IsKeptRow (maps_of c.args.images.now) (Contains texts) rows) entries (c.in-Some.at + 1))
-          c.deref.result.now change.old.rows c.texts.result.now change.texts _ (rows_of change.new.rows)
-          (c.deref.ensures.value ∙ ap (λ (t : TableContent). t.rows) c.old.view_is) c.texts.ensures c.requires.rows c.in-Some.ensures.1),
+          (told_by (λ entries rows. IsFirstWithout (IsKeptRow (maps_of c.args.images.now) (Contains change.texts) rows) entries (c.in-Some.at + 1))
+          c.deref.result.now change.old.rows _ (rows_of change.new.rows)
+          (c.deref.ensures.value ∙ ap (λ (t : TableContent). t.rows) c.old.view_is) c.requires.rows c.in-Some.ensures.1),
     )

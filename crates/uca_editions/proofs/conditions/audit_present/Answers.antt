@@ -15,9 +15,9 @@ pub returns-in-None : goal.returns-in-None
 returns-in-None g c =
     let change = change_in c.args.inputs.now in
     meets_more change RowMissing c.requires.met
-    (told_by (λ entries texts rows. AllByRecursion (IsPresentIfUnlisted (Contains texts) rows) entries)
-    c.deref.result.now change.old.rows c.texts.result.now change.texts _ (rows_of change.new.rows)
-    (c.deref.ensures.value ∙ ap (λ (t : TableContent). t.rows) c.old.view_is) c.texts.ensures c.requires.rows c.in-None.ensures)
+    (told_by (λ entries rows. AllByRecursion (IsPresentIfUnlisted (Contains change.texts) rows) entries)
+    c.deref.result.now change.old.rows _ (rows_of change.new.rows)
+    (c.deref.ensures.value ∙ ap (λ (t : TableContent). t.rows) c.old.view_is) c.requires.rows c.in-None.ensures)
 
 pub at_old_row-requires : goal.at_old_row-requires
 at_old_row-requires g c =
@@ -31,7 +31,7 @@ returns-in-Some g c =
     refused_at change RowMissing (OldRow number) c.at_old_row.result c.requires.met c.at_old_row.ensures (
       number,
       refl,
-      told_by (λ entries texts rows. IsFirstWithout (IsPresentIfUnlisted (Contains texts) rows) entries (c.in-Some.at + 1))
-          c.deref.result.now change.old.rows c.texts.result.now change.texts _ (rows_of change.new.rows)
-          (c.deref.ensures.value ∙ ap (λ (t : TableContent). t.rows) c.old.view_is) c.texts.ensures c.requires.rows c.in-Some.ensures.1,
+      told_by (λ entries rows. IsFirstWithout (IsPresentIfUnlisted (Contains change.texts) rows) entries (c.in-Some.at + 1))
+          c.deref.result.now change.old.rows _ (rows_of change.new.rows)
+          (c.deref.ensures.value ∙ ap (λ (t : TableContent). t.rows) c.old.view_is) c.requires.rows c.in-Some.ensures.1,
     )

@@ -19,9 +19,9 @@ audit_lookup-requires-clause-met g c =
     meets_more change Uncovered c.requires.met
     (subst (λ (content : CertificateContent). AllByRecursion (IsCoveredIfUnlisted (maps_of content) (Contains change.texts)) change.old.rows)
     c.requires.images
-    (told_by (λ entries texts rows. AllByRecursion (IsCoveredIfUnlisted (maps_of c.args.images.now) (Contains texts)) entries)
-    c.deref.result.now change.old.rows c.texts.result.now change.texts (rows_of change.new.rows) (rows_of change.new.rows)
-    (c.deref.ensures.value ∙ ap (λ (t : TableContent). t.rows) c.old.view_is) c.texts.ensures (λ key. refl) c.in-None.ensures))
+    (told_by (λ entries rows. AllByRecursion (IsCoveredIfUnlisted (maps_of c.args.images.now) (Contains change.texts)) entries)
+    c.deref.result.now change.old.rows (rows_of change.new.rows) (rows_of change.new.rows)
+    (c.deref.ensures.value ∙ ap (λ (t : TableContent). t.rows) c.old.view_is) (λ key. refl) c.in-None.ensures))
 
 pub at_old_row-requires : goal.at_old_row-requires
 at_old_row-requires g c =
@@ -37,7 +37,7 @@ returns-in-Some g c =
       refl,
       subst (λ (content : CertificateContent). IsFirstWithout (IsCoveredIfUnlisted (maps_of content) (Contains change.texts)) change.old.rows (c.in-Some.at + 1))
           c.requires.images
-          (told_by (λ entries texts rows. IsFirstWithout (IsCoveredIfUnlisted (maps_of c.args.images.now) (Contains texts)) entries (c.in-Some.at + 1))
-          c.deref.result.now change.old.rows c.texts.result.now change.texts (rows_of change.new.rows) (rows_of change.new.rows)
-          (c.deref.ensures.value ∙ ap (λ (t : TableContent). t.rows) c.old.view_is) c.texts.ensures (λ key. refl) c.in-Some.ensures.1),
+          (told_by (λ entries rows. IsFirstWithout (IsCoveredIfUnlisted (maps_of c.args.images.now) (Contains change.texts)) entries (c.in-Some.at + 1))
+          c.deref.result.now change.old.rows (rows_of change.new.rows) (rows_of change.new.rows)
+          (c.deref.ensures.value ∙ ap (λ (t : TableContent). t.rows) c.old.view_is) (λ key. refl) c.in-Some.ensures.1),
     )

@@ -10,6 +10,6 @@ use Rattle.uca_editions.proofs.conditions.first_not_known.Goals as goal
 pub returns : goal.returns
 returns g c =
     let change = change_in c.args.inputs.now in
-    told_by (λ entries texts rows. FindsFirstWithout (IsKnownRow (Contains texts) rows) entries c.first_unknown-found.result)
-    c.deref.result.now change.new.rows c.texts.result.now change.texts _ (rows_of change.old.rows)
-    (c.deref.ensures.value ∙ ap (λ (t : TableContent). t.rows) c.table.view_is) c.texts.ensures c.in_ok-old.ensures c.first_unknown-found.ensures
+    told_by (λ entries rows. FindsFirstWithout (IsKnownRow (Contains change.texts) rows) entries c.first_unknown-found.result)
+    c.deref.result.now change.new.rows _ (rows_of change.old.rows)
+    (c.deref.ensures.value ∙ ap (λ (t : TableContent). t.rows) c.table.view_is) c.in_ok-old.ensures c.first_unknown-found.ensures

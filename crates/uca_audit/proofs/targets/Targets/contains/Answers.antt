@@ -1,5 +1,5 @@
 use Rattle.std.proofs.Common.{Contains, IsTrue, ◌↔◌, subst, sym, ◌∙◌}
-use Rattle.uca_change_lists.proofs.TextSets.{found_iff}
+use Rattle.uca_audit.proofs.TargetSets.{found_iff}
 use Rattle.uca_audit.proofs.targets.Targets.contains.Goals as goal
 
 pub returns : goal.returns

@@ -1,3 +1,0 @@
-pub mod ChangeLists
-pub mod Points
-pub mod Borders
