@@ -19,10 +19,10 @@ pub(crate) fn open_booked<O: Opens>(
 ) -> Result<(Source<O::File>, Source<O::File>, Option<Source<O::File>>), Role>
     ensures opened { MatchResult result
         (λ files. AreOpened (file_system O.calls O.File.remaining O.Made.contents)
-        opener.old opener.new (files_with_book book table.now properties.now) (files.0 ∷ files.1 ∷ option_to_list files.2))
+        opener.old opener.new (files_with_book book.entry table.now properties.now) (files.0 ∷ files.1 ∷ option_to_list files.2))
         (DoesNotOpen (file_system O.calls O.File.remaining O.Made.contents)
-        opener.old opener.new (files_with_book book table.now properties.now)) }
-    ensures booked { IfOk result (λ files. is_some files.2 ≡ is_some book) }
+        opener.old opener.new (files_with_book book.entry table.now properties.now)) }
+    ensures booked { IfOk result (λ files. is_some files.2 ≡ is_some book.entry) }
 {
     match book {
         None => match open_files(opener, table, properties) {
